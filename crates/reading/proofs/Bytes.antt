@@ -4,7 +4,7 @@ use mathlib.Core.Path.{_≡_, refl, sym, ap, _∙_, subst}
 use mathlib.Core.List.{List, [], _∷_, _++_}
 use mathlib.Core.Logic.{⊎-elim}
 use Prim.Native.Nat.{ℕ, zero, suc, _+_, _-_, _≤_, _<_}
-use native.Mathlib.Nat.{sub-zero, zero-sub, suc-sub-suc}
+use native.Mathlib.Nat.{sub-zero, zero-sub, suc-sub-suc, add-sub-cancel-left}
 use native.Mathlib.Omega.{arith}
 use lib.ListN.{length, take, drop, getD, length-append, length-take, length-drop, List·getD-append}
 use lib.Seq.{take-nil, take-take, drop-drop, length-take-le, getD-take, getD-drop, getD-append-add, ext-getD}
@@ -21,6 +21,10 @@ pub part-part : (f : List ℕ) (at n i m : ℕ) → i + m ≤ n → part (part f
 part-part f at n i m h =
     let l : m ≤ n - i = omega arith in
     ap (take m) (drop-take i n (drop at f)) ∙ take-take m (n - i) (drop i (drop at f)) l ∙ ap (take m) (drop-drop i at f)
+
+-- a slice as code cuts it out
+pub cut : (f : List ℕ) (at n : ℕ) → take (at + n - at) (drop at f) ≡ part f at n
+cut f at n = rw (add-sub-cancel-left at n)
 
 pub length-part : (f : List ℕ) (at n : ℕ) → at + n ≤ length f → length (part f at n) ≡ n
 length-part f at n h = length-take-le n (drop at f) (omega (arith, length-drop at f))

@@ -10,7 +10,7 @@ use lib.ListN.{length, getD}
 use borrow.Author.Tests.{le-leb, lt-ltb, ltb-true, ltb-false}
 use Rattle.reading.specs.Bytes.{part, replaced}
 use Rattle.reading.specs.Number.{numberOf}
-use Rattle.reading.specs.Reading.{Reading, Reading.answer, Reading.ask, Stretch, run, trace, andThen, covers, reads, numberAt, runWhole, traceWhole}
+use Rattle.reading.specs.Reading.{Reading, Reading.answer, Reading.ask, Stretch, run, trace, andThen, pick, covers, reads, numberAt, runWhole, traceWhole}
 use Rattle.reading.specs.declared.number.Order.{Order}
 use Rattle.reading.proofs.Bytes.{part-same, length-replaced, replaced-before, replaced-after}
 
@@ -56,7 +56,15 @@ pub trace-number : (f : List ℕ) (o : Order) (at n : ℕ) → trace f (numberAt
 unfolding numberAt trace
 trace-number f o at n = refl
 
-pub ruleset running = (run-answer, run-ask, run-andThen, run-number)
+pub pick-yes : {A : Type 0} (a b : A) → pick true a b ≡ a
+unfolding pick
+pick-yes a b = refl
+
+pub pick-no : {A : Type 0} (a b : A) → pick false a b ≡ b
+unfolding pick
+pick-no a b = refl
+
+pub ruleset running = (run-answer, run-ask, run-andThen, run-number, pick-yes, pick-no)
 
 pub ruleset tracing = (trace-answer, trace-ask, trace-andThen, trace-number)
 

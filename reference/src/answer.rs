@@ -1,0 +1,87 @@
+//! "Each answer carries a number and a detail."
+
+/// What every call gives back: 0 and 0 when done, or a refusal.
+#[derive(Clone, Copy, Debug, PartialEq, Eq, Hash, PartialOrd, Ord)]
+pub struct Answer {
+    pub number: u32,
+    pub detail: u32,
+}
+
+/// The card: the answer, then the five counts.
+#[derive(Clone, Copy, Debug, PartialEq, Eq)]
+pub struct Card {
+    pub number: u32,
+    pub detail: u32,
+    pub rows: u64,
+    pub columns: u64,
+    pub samples: u64,
+    pub kept: u64,
+    pub skipped: u64,
+}
+
+impl Answer {
+    pub const DONE: Answer = Answer { number: 0, detail: 0 };
+    pub const FILE_SIZE: Answer = Answer::plain(1);
+    pub const FIRST_BYTES: Answer = Answer::plain(2);
+    pub const SHAPE: Answer = Answer::plain(3);
+    pub const TREE: Answer = Answer::plain(6);
+    pub const VERSION: Answer = Answer::plain(7);
+    pub const WHITE: Answer = Answer::plain(9);
+    pub const TOO_MANY_OPCODES: Answer = Answer { number: 11, detail: 32 };
+    pub const OUTSIDE: Answer = Answer::plain(13);
+    pub const SLICE: Answer = Answer::plain(14);
+    pub const COLOUR_OF_MOSAIC: Answer = Answer::plain(15);
+
+    const fn plain(number: u32) -> Answer {
+        Answer { number, detail: 0 }
+    }
+
+    /// "a tag read has a wrong type, count or value"
+    pub fn wrong(tag: u16) -> Answer {
+        Answer { number: 4, detail: tag.into() }
+    }
+
+    /// "a required tag is absent"
+    pub fn absent(tag: u16) -> Answer {
+        Answer { number: 5, detail: tag.into() }
+    }
+
+    /// "legal but not carried"
+    pub fn not_carried(tag: u16) -> Answer {
+        Answer { number: 8, detail: tag.into() }
+    }
+
+    /// "correction malformed"
+    pub fn malformed(place: u32) -> Answer {
+        Answer { number: 10, detail: place }
+    }
+
+    /// "compulsory correction not carried"
+    pub fn compulsory(place: u32) -> Answer {
+        Answer { number: 11, detail: place }
+    }
+
+    /// "infinite, NaN or denormal number"
+    pub fn bad_number(place: u32) -> Answer {
+        Answer { number: 12, detail: place }
+    }
+}
+
+impl Card {
+    /// "A refused card holds five zeros."
+    pub fn refused(answer: Answer) -> Card {
+        Card {
+            number: answer.number,
+            detail: answer.detail,
+            rows: 0,
+            columns: 0,
+            samples: 0,
+            kept: 0,
+            skipped: 0,
+        }
+    }
+
+    pub fn answer(&self) -> Answer {
+        Answer { number: self.number, detail: self.detail }
+    }
+}

@@ -1,0 +1,565 @@
+//! A builder of DNG files: a plain description, every part of which can be
+//! overridden so that any single fault can be made, and its layout in bytes.
+
+use crate::bytes::ByteOrder;
+use crate::tag_test::{BYTE, IFD, LONG, RATIONAL, SHORT, SRATIONAL, UNDEFINED};
+
+/// An offset that is known only once the file is laid out.
+#[derive(Clone, Copy, Debug, PartialEq, Eq)]
+pub enum Place {
+    At(u32),
+    Ifd(usize),
+    /// A block and a distance into it.
+    Block(usize, u32),
+}
+
+#[derive(Clone, Debug, PartialEq)]
+pub enum Data {
+    Bytes(Vec<u8>),
+    Shorts(Vec<u16>),
+    Longs(Vec<u32>),
+    Rationals(Vec<(u32, u32)>),
+    SRationals(Vec<(i32, i32)>),
+    ShortPlaces(Vec<Place>),
+    LongPlaces(Vec<Place>),
+}
+
+/// One entry of an IFD with its value.
+#[derive(Clone, Debug, PartialEq)]
+pub struct Tag {
+    pub tag: u16,
+    pub kind: u16,
+    pub data: Data,
+    /// Stands in the count field in place of the data's own count.
+    pub count: Option<u32>,
+    /// Stands in the last four bytes of the entry in place of what belongs there.
+    pub field: Option<u32>,
+}
+
+impl Tag {
+    pub fn new(tag: u16, kind: u16, data: Data) -> Tag {
+        Tag { tag, kind, data, count: None, field: None }
+    }
+
+    pub fn bytes(tag: u16, values: &[u8]) -> Tag {
+        Tag::new(tag, BYTE, Data::Bytes(values.to_vec()))
+    }
+
+    pub fn undefined(tag: u16, values: &[u8]) -> Tag {
+        Tag::new(tag, UNDEFINED, Data::Bytes(values.to_vec()))
+    }
+
+    pub fn shorts(tag: u16, values: &[u16]) -> Tag {
+        Tag::new(tag, SHORT, Data::Shorts(values.to_vec()))
+    }
+
+    pub fn longs(tag: u16, values: &[u32]) -> Tag {
+        Tag::new(tag, LONG, Data::Longs(values.to_vec()))
+    }
+
+    pub fn rationals(tag: u16, values: &[(u32, u32)]) -> Tag {
+        Tag::new(tag, RATIONAL, Data::Rationals(values.to_vec()))
+    }
+
+    pub fn srationals(tag: u16, values: &[(i32, i32)]) -> Tag {
+        Tag::new(tag, SRATIONAL, Data::SRationals(values.to_vec()))
+    }
+
+    pub fn sub_ifds(children: &[usize]) -> Tag {
+        Tag::new(330, IFD, Data::LongPlaces(children.iter().map(|i| Place::Ifd(*i)).collect()))
+    }
+
+    pub fn with_kind(mut self, kind: u16) -> Tag {
+        self.kind = kind;
+        self
+    }
+
+    pub fn with_count(mut self, count: u32) -> Tag {
+        self.count = Some(count);
+        self
+    }
+
+    pub fn with_field(mut self, field: u32) -> Tag {
+        self.field = Some(field);
+        self
+    }
+}
+
+impl Data {
+    pub fn count(&self) -> usize {
+        match self {
+            Data::Bytes(v) => v.len(),
+            Data::Shorts(v) => v.len(),
+            Data::Longs(v) => v.len(),
+            Data::Rationals(v) => v.len(),
+            Data::SRationals(v) => v.len(),
+            Data::ShortPlaces(v) | Data::LongPlaces(v) => v.len(),
+        }
+    }
+
+    pub fn byte_length(&self) -> usize {
+        let size = match self {
+            Data::Bytes(_) => 1,
+            Data::Shorts(_) | Data::ShortPlaces(_) => 2,
+            Data::Longs(_) | Data::LongPlaces(_) => 4,
+            Data::Rationals(_) | Data::SRationals(_) => 8,
+        };
+        size * self.count()
+    }
+
+    fn spell(&self, order: ByteOrder, find: impl Fn(Place) -> u32) -> Vec<u8> {
+        let short = |n: u16| order.spell(n.into(), 2);
+        let long = |n: u32| order.spell(n.into(), 4);
+        match self {
+            Data::Bytes(v) => v.clone(),
+            Data::Shorts(v) => v.iter().flat_map(|n| short(*n)).collect(),
+            Data::Longs(v) => v.iter().flat_map(|n| long(*n)).collect(),
+            Data::Rationals(v) => v.iter().flat_map(|(n, d)| [long(*n), long(*d)].concat()).collect(),
+            Data::SRationals(v) => {
+                v.iter().flat_map(|(n, d)| [long(*n as u32), long(*d as u32)].concat()).collect()
+            }
+            Data::ShortPlaces(v) => v.iter().flat_map(|p| short(find(*p) as u16)).collect(),
+            Data::LongPlaces(v) => v.iter().flat_map(|p| long(find(*p))).collect(),
+        }
+    }
+}
+
+#[derive(Clone, Debug, Default, PartialEq)]
+pub struct Ifd {
+    pub tags: Vec<Tag>,
+    /// Stands in place of the number of entries.
+    pub count: Option<u16>,
+    pub next: u32,
+    /// Entries stand as listed; otherwise they are sorted by tag.
+    pub as_listed: bool,
+}
+
+impl Ifd {
+    pub fn new(tags: &[Tag]) -> Ifd {
+        Ifd { tags: tags.to_vec(), ..Ifd::default() }
+    }
+
+    /// Puts a tag in, in place of one of the same number.
+    pub fn set(&mut self, tag: Tag) -> &mut Ifd {
+        self.remove(tag.tag);
+        self.tags.push(tag);
+        self
+    }
+
+    pub fn remove(&mut self, tag: u16) -> &mut Ifd {
+        self.tags.retain(|t| t.tag != tag);
+        self
+    }
+
+    pub fn get(&self, tag: u16) -> Option<&Tag> {
+        self.tags.iter().find(|t| t.tag == tag)
+    }
+
+    pub fn get_mut(&mut self, tag: u16) -> Option<&mut Tag> {
+        self.tags.iter_mut().find(|t| t.tag == tag)
+    }
+
+    fn sorted(&self) -> Vec<&Tag> {
+        let mut tags: Vec<&Tag> = self.tags.iter().collect();
+        if !self.as_listed {
+            tags.sort_by_key(|t| t.tag);
+        }
+        tags
+    }
+
+    fn byte_length(&self) -> usize {
+        2 + 12 * self.tags.len() + 4
+    }
+}
+
+/// The stored samples and how they are cut into strips.
+#[derive(Clone, Debug, PartialEq)]
+pub struct Picture {
+    pub width: u32,
+    pub length: u32,
+    /// 1 for a mosaic, 3 for LinearRaw.
+    pub samples: u32,
+    /// 8 or 16.
+    pub bits: u32,
+    pub rows_per_strip: u32,
+    /// Row by row, planes together.
+    pub stored: Vec<u16>,
+}
+
+impl Picture {
+    /// One strip; the samples count up from 0.
+    pub fn counting(width: u32, length: u32, samples: u32, bits: u32) -> Picture {
+        let count = width * length * samples;
+        let modulus = 1u32 << bits;
+        let stored = (0..count).map(|i| (i % modulus) as u16).collect();
+        Picture { width, length, samples, bits, rows_per_strip: length, stored }
+    }
+
+    /// A mosaic of one row in one strip.
+    pub fn row(bits: u32, stored: &[u16]) -> Picture {
+        let width = stored.len() as u32;
+        Picture { width, length: 1, samples: 1, bits, rows_per_strip: 1, stored: stored.to_vec() }
+    }
+
+    fn strips(&self, order: ByteOrder) -> Vec<Vec<u8>> {
+        let samples_per_strip = (self.rows_per_strip.min(self.length) * self.width * self.samples) as usize;
+        let bytes = (self.bits / 8) as usize;
+        let strip = |samples: &[u16]| samples.iter().flat_map(|s| order.spell((*s).into(), bytes)).collect();
+        self.stored.chunks(samples_per_strip).map(strip).collect()
+    }
+}
+
+/// The tags that stand in IFD 0 wherever the raw IFD stands.
+pub const FIRST_IFD_TAGS: [u16; 7] = [50706, 50707, 50723, 50727, 50728, 50964, 50965];
+
+/// A whole file.
+#[derive(Clone, Debug, PartialEq)]
+pub struct Dng {
+    pub order: ByteOrder,
+    /// Stands in place of the first four bytes.
+    pub start: Option<[u8; 4]>,
+    pub first: Place,
+    /// IFD 0 first.
+    pub ifds: Vec<Ifd>,
+    /// Which of `ifds` is the raw one.
+    pub raw: usize,
+    /// Strips, as a rule one block each.
+    pub blocks: Vec<Vec<u8>>,
+    /// IFDs stand before the values of more than four bytes, not after them.
+    pub ifds_first: bool,
+    /// Idle bytes before every part of the file.
+    pub gap: usize,
+    /// Idle bytes at the end.
+    pub tail: usize,
+}
+
+impl Dng {
+    /// A file with IFD 0 as the raw one and its required tags.
+    pub fn new(order: ByteOrder, picture: &Picture) -> Dng {
+        let blocks = picture.strips(order);
+        let strips: Vec<Place> = (0..blocks.len()).map(|i| Place::Block(i, 0)).collect();
+        let byte_counts: Vec<u32> = blocks.iter().map(|b| b.len() as u32).collect();
+        let samples = picture.samples as usize;
+        let photometric = if samples == 1 { 32803 } else { 34892 };
+        let raw = Ifd::new(&[
+            Tag::longs(254, &[0]),
+            Tag::longs(256, &[picture.width]),
+            Tag::longs(257, &[picture.length]),
+            Tag::shorts(258, &vec![picture.bits as u16; samples]),
+            Tag::shorts(259, &[1]),
+            Tag::shorts(262, &[photometric]),
+            Tag::new(273, LONG, Data::LongPlaces(strips)),
+            Tag::shorts(277, &[picture.samples as u16]),
+            Tag::longs(278, &[picture.rows_per_strip]),
+            Tag::longs(279, &byte_counts),
+            Tag::bytes(50706, &[1, 7, 1, 0]),
+        ]);
+        Dng {
+            order,
+            start: None,
+            first: Place::Ifd(0),
+            ifds: vec![raw],
+            raw: 0,
+            blocks,
+            ifds_first: false,
+            gap: 0,
+            tail: 0,
+        }
+    }
+
+    pub fn first_ifd(&mut self) -> &mut Ifd {
+        &mut self.ifds[0]
+    }
+
+    pub fn raw_ifd(&mut self) -> &mut Ifd {
+        &mut self.ifds[self.raw]
+    }
+
+    /// The same file with a tag set in the raw IFD.
+    pub fn with(mut self, tag: Tag) -> Dng {
+        self.raw_ifd().set(tag);
+        self
+    }
+
+    /// The same file with a tag set in IFD 0.
+    pub fn with_first(mut self, tag: Tag) -> Dng {
+        self.first_ifd().set(tag);
+        self
+    }
+
+    /// The same file without a tag of the raw IFD.
+    pub fn without(mut self, tag: u16) -> Dng {
+        self.raw_ifd().remove(tag);
+        self
+    }
+
+    pub fn with_opcodes(self, opcodes: &[Opcode]) -> Dng {
+        self.with(OpcodeList::new(opcodes).tag())
+    }
+
+    /// The same file with the raw IFD at the end of a chain of `depth` SubIFDs.
+    pub fn nested(mut self, depth: usize) -> Dng {
+        for _ in 0..depth {
+            let child = self.ifds.len();
+            let (stay, moved) =
+                self.ifds[self.raw].tags.iter().cloned().partition(|t| FIRST_IFD_TAGS.contains(&t.tag));
+            let mut parent = Ifd { tags: stay, ..Ifd::default() };
+            parent.set(Tag::longs(254, &[1])).set(Tag::sub_ifds(&[child]));
+            self.ifds[self.raw] = parent;
+            self.ifds.push(Ifd { tags: moved, ..Ifd::default() });
+            self.raw = child;
+        }
+        self
+    }
+
+    pub fn file(&self) -> Vec<u8> {
+        self.layout().file
+    }
+
+    /// The file's bytes: header, blocks, values of more than four bytes, IFDs
+    /// (or IFDs before values).
+    pub fn layout(&self) -> Layout {
+        let mut plan = Plan { end: 8, gap: self.gap };
+        let blocks: Vec<usize> = self.blocks.iter().map(|b| plan.take(b.len())).collect();
+        let early = self.ifds_first.then(|| plan.take_ifds(&self.ifds));
+        let values: Vec<Vec<usize>> = self.ifds.iter().map(|ifd| plan.take_values(ifd)).collect();
+        let ifds = early.unwrap_or_else(|| plan.take_ifds(&self.ifds));
+        let mut layout = Layout { file: vec![IDLE; plan.end + self.tail], ifds, blocks, entries: Vec::new() };
+        self.write_header(&mut layout);
+        for (i, block) in self.blocks.iter().enumerate() {
+            layout.write(layout.blocks[i], block);
+        }
+        for (i, places) in values.iter().enumerate() {
+            self.write_ifd(&mut layout, i, places);
+        }
+        layout
+    }
+
+    fn write_header(&self, layout: &mut Layout) {
+        let start = self.start.unwrap_or(match self.order {
+            ByteOrder::Little => *b"II\x2A\x00",
+            ByteOrder::Big => *b"MM\x00\x2A",
+        });
+        layout.write(0, &start);
+        let first = layout.find(self.first);
+        layout.write(4, &self.order.spell(first.into(), 4));
+    }
+
+    fn write_ifd(&self, layout: &mut Layout, number: usize, values: &[usize]) {
+        let ifd = &self.ifds[number];
+        let start = layout.ifds[number];
+        let count = ifd.count.unwrap_or(ifd.tags.len() as u16);
+        layout.write(start, &self.order.spell(count.into(), 2));
+        for (i, tag) in ifd.sorted().into_iter().enumerate() {
+            self.write_entry(layout, number, start + 2 + 12 * i, tag, values[i]);
+        }
+        let next = self.order.spell(ifd.next.into(), 4);
+        layout.write(start + 2 + 12 * ifd.tags.len(), &next);
+    }
+
+    fn write_entry(&self, layout: &mut Layout, ifd: usize, at: usize, tag: &Tag, value: usize) {
+        let bytes = tag.data.spell(self.order, |place| layout.find(place));
+        let in_entry = bytes.len() <= 4;
+        let value = if in_entry { at + 8 } else { value };
+        let count = tag.count.unwrap_or(tag.data.count() as u32);
+        layout.write(at, &self.order.spell(tag.tag.into(), 2));
+        layout.write(at + 2, &self.order.spell(tag.kind.into(), 2));
+        layout.write(at + 4, &self.order.spell(count.into(), 4));
+        layout.write(at + 8, &if in_entry { vec![0; 4] } else { self.order.spell(value as u64, 4) });
+        layout.write(value, &bytes);
+        if let Some(field) = tag.field {
+            layout.write(at + 8, &self.order.spell(field.into(), 4));
+        }
+        layout.entries.push(EntryPlace { ifd, tag: tag.tag, entry: at, value, length: bytes.len() });
+    }
+}
+
+/// Idle bytes hold this, so that reading one would show.
+const IDLE: u8 = 0xA5;
+
+/// Hands out the file's bytes from front to back.
+struct Plan {
+    end: usize,
+    gap: usize,
+}
+
+impl Plan {
+    fn take(&mut self, length: usize) -> usize {
+        let start = self.end + self.gap;
+        self.end = start + length;
+        start
+    }
+
+    fn take_ifds(&mut self, ifds: &[Ifd]) -> Vec<usize> {
+        ifds.iter().map(|ifd| self.take(ifd.byte_length())).collect()
+    }
+
+    fn take_values(&mut self, ifd: &Ifd) -> Vec<usize> {
+        let mut place = |length| if length > 4 { self.take(length) } else { 0 };
+        ifd.sorted().iter().map(|tag| place(tag.data.byte_length())).collect()
+    }
+}
+
+/// Where one entry and its value stand.
+#[derive(Clone, Copy, Debug, PartialEq, Eq)]
+pub struct EntryPlace {
+    pub ifd: usize,
+    pub tag: u16,
+    pub entry: usize,
+    pub value: usize,
+    pub length: usize,
+}
+
+/// The bytes of a file and where its parts stand.
+#[derive(Clone, Debug)]
+pub struct Layout {
+    pub file: Vec<u8>,
+    pub ifds: Vec<usize>,
+    pub blocks: Vec<usize>,
+    pub entries: Vec<EntryPlace>,
+}
+
+impl Layout {
+    pub fn entry(&self, ifd: usize, tag: u16) -> EntryPlace {
+        let found = self.entries.iter().find(|e| e.ifd == ifd && e.tag == tag);
+        *found.expect("the description holds the tag")
+    }
+
+    fn find(&self, place: Place) -> u32 {
+        match place {
+            Place::At(offset) => offset,
+            Place::Ifd(i) => self.ifds[i] as u32,
+            Place::Block(i, distance) => self.blocks[i] as u32 + distance,
+        }
+    }
+
+    fn write(&mut self, start: usize, bytes: &[u8]) {
+        self.file[start..start + bytes.len()].copy_from_slice(bytes);
+    }
+}
+
+/// The first eight parameters of an opcode.
+#[derive(Clone, Copy, Debug, PartialEq, Eq)]
+pub struct Area {
+    pub top: u32,
+    pub left: u32,
+    pub bottom: u32,
+    pub right: u32,
+    pub plane: u32,
+    pub planes: u32,
+    pub row_pitch: u32,
+    pub column_pitch: u32,
+}
+
+impl Area {
+    /// Every sample of the first `planes` planes of a frame.
+    pub fn whole(rows: u32, columns: u32, planes: u32) -> Area {
+        Area {
+            top: 0,
+            left: 0,
+            bottom: rows,
+            right: columns,
+            plane: 0,
+            planes,
+            row_pitch: 1,
+            column_pitch: 1,
+        }
+    }
+
+    pub fn fields(&self) -> [u32; 8] {
+        let Area { top, left, bottom, right, plane, planes, row_pitch, column_pitch } = *self;
+        [top, left, bottom, right, plane, planes, row_pitch, column_pitch]
+    }
+}
+
+/// One opcode of OpcodeList2.
+#[derive(Clone, Debug, PartialEq)]
+pub struct Opcode {
+    pub id: u32,
+    pub version: u32,
+    pub flags: u32,
+    /// Stands in place of the parameters' length.
+    pub length: Option<u32>,
+    pub parameters: Vec<u8>,
+}
+
+impl Opcode {
+    pub fn new(id: u32, flags: u32, parameters: Vec<u8>) -> Opcode {
+        Opcode { id, version: 0x0103_0000, flags, length: None, parameters }
+    }
+
+    fn on_area(id: u32, area: Area, stated: u32, numbers: Vec<u8>) -> Opcode {
+        let longs = area.fields().into_iter().chain([stated]);
+        let parameters = longs.flat_map(u32::to_be_bytes).chain(numbers).collect();
+        Opcode::new(id, 0, parameters)
+    }
+
+    pub fn map_table(area: Area, entries: &[u16]) -> Opcode {
+        let numbers = entries.iter().flat_map(|e| e.to_be_bytes()).collect();
+        Opcode::on_area(7, area, entries.len() as u32, numbers)
+    }
+
+    /// Constant first; at least one coefficient.
+    pub fn map_polynomial(area: Area, coefficients: &[f64]) -> Opcode {
+        let numbers = coefficients.iter().flat_map(|c| c.to_be_bytes()).collect();
+        Opcode::on_area(8, area, coefficients.len() as u32 - 1, numbers)
+    }
+
+    /// 10, 11, 12 or 13: delta or scale, per row or per column.
+    pub fn per_line(id: u32, area: Area, values: &[f32]) -> Opcode {
+        let numbers = values.iter().flat_map(|v| v.to_bits().to_be_bytes()).collect();
+        Opcode::on_area(id, area, values.len() as u32, numbers)
+    }
+
+    pub fn with_version(mut self, version: u32) -> Opcode {
+        self.version = version;
+        self
+    }
+
+    pub fn with_flags(mut self, flags: u32) -> Opcode {
+        self.flags = flags;
+        self
+    }
+
+    pub fn with_length(mut self, length: u32) -> Opcode {
+        self.length = Some(length);
+        self
+    }
+
+    /// The same opcode with one of its nine LONG parameters changed.
+    pub fn with_long(mut self, place: usize, value: u32) -> Opcode {
+        self.parameters[4 * place..4 * place + 4].copy_from_slice(&value.to_be_bytes());
+        self
+    }
+
+    pub fn spell(&self) -> Vec<u8> {
+        let length = self.length.unwrap_or(self.parameters.len() as u32);
+        let header = [self.id, self.version, self.flags, length];
+        header.into_iter().flat_map(u32::to_be_bytes).chain(self.parameters.clone()).collect()
+    }
+}
+
+#[derive(Clone, Debug, PartialEq)]
+pub struct OpcodeList {
+    pub opcodes: Vec<Opcode>,
+    /// Stands in place of the number of opcodes.
+    pub count: Option<u32>,
+    /// Bytes after the last opcode.
+    pub tail: Vec<u8>,
+}
+
+impl OpcodeList {
+    pub fn new(opcodes: &[Opcode]) -> OpcodeList {
+        OpcodeList { opcodes: opcodes.to_vec(), count: None, tail: Vec::new() }
+    }
+
+    pub fn spell(&self) -> Vec<u8> {
+        let count = self.count.unwrap_or(self.opcodes.len() as u32);
+        let opcodes = self.opcodes.iter().flat_map(Opcode::spell);
+        count.to_be_bytes().into_iter().chain(opcodes).chain(self.tail.clone()).collect()
+    }
+
+    pub fn tag(&self) -> Tag {
+        Tag::undefined(51009, &self.spell())
+    }
+}

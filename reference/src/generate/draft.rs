@@ -1,0 +1,275 @@
+//! A valid file, described part by part with random choices.
+
+use crate::builder::{Data, Dng, OpcodeList, Picture, Place, Tag};
+use crate::bytes::ByteOrder;
+use crate::random::Random;
+use crate::tag_test::{LONG, SHORT};
+
+use super::{lists, trees};
+
+/// A description that can still be edited; the opcode list is kept apart.
+#[derive(Clone, Debug)]
+pub struct Draft {
+    pub dng: Dng,
+    pub picture: Picture,
+    /// Active rows and columns.
+    pub rows: u32,
+    pub columns: u32,
+    pub list: Option<OpcodeList>,
+}
+
+impl Draft {
+    pub fn valid(random: &mut Random) -> Draft {
+        let mut draft = Draft::plain(random);
+        draft.choose_strips(random);
+        draft.choose_optional_tags(random);
+        draft.choose_active_area(random);
+        draft.choose_table(random);
+        draft.choose_levels(random);
+        draft.list = lists::list(random, &draft);
+        draft.choose_colour(random);
+        draft.choose_noise(random);
+        trees::nest(random, &mut draft.dng);
+        draft.dng.ifds_first = random.one_in(2);
+        draft.dng.gap = random.pick(&[0, 0, 0, 1, 2, 5]);
+        draft.dng.tail = random.pick(&[0, 0, 0, 1, 9]);
+        draft
+    }
+
+    /// The finished description.
+    pub fn dng(&self) -> Dng {
+        let mut dng = self.dng.clone();
+        if let Some(list) = &self.list {
+            dng.raw_ifd().set(list.tag());
+        }
+        dng
+    }
+
+    pub fn samples(&self) -> u32 {
+        self.picture.samples
+    }
+
+    fn plain(random: &mut Random) -> Draft {
+        let greatest = if random.one_in(24) { 40 } else { 9 };
+        let (width, length) = (random.small(1, greatest), random.small(1, greatest));
+        let samples = random.pick(&[1, 3]);
+        let bits = random.pick(&[8, 16]);
+        let mask = if random.one_in(3) { 0x3F } else { (1u32 << bits) - 1 };
+        let stored = (0..width * length * samples).map(|_| (random.any() as u32 & mask) as u16).collect();
+        let rows_per_strip = match random.index(4) {
+            0 => random.small(1, length),
+            1 => random.small(length, length + 2),
+            2 => 1,
+            _ => u32::MAX,
+        };
+        let order = random.pick(&[ByteOrder::Little, ByteOrder::Big]);
+        let picture = Picture { width, length, samples, bits, rows_per_strip, stored };
+        let dng = Dng::new(order, &picture);
+        Draft { dng, rows: length, columns: width, picture, list: None }
+    }
+
+    /// SHORT or LONG, apart or overlapping.
+    fn choose_strips(&mut self, random: &mut Random) {
+        let strips = self.dng.blocks.len();
+        if strips > 1 && random.one_in(4) {
+            self.overlap_strips(random);
+        }
+        if random.one_in(2) {
+            if let Some(Tag { kind, data, .. }) = self.dng.raw_ifd().get_mut(273) {
+                if let Data::LongPlaces(places) = data {
+                    *data = Data::ShortPlaces(places.clone());
+                    *kind = SHORT;
+                }
+            }
+        }
+        for tag in [256, 257, 278, 279] {
+            if random.one_in(2) {
+                self.shorten(tag);
+            }
+        }
+    }
+
+    /// All strips stand anywhere in one block.
+    fn overlap_strips(&mut self, random: &mut Random) {
+        let sizes: Vec<usize> = self.dng.blocks.iter().map(Vec::len).collect();
+        let block = self.dng.blocks.concat();
+        let places = sizes.iter().map(|size| Place::Block(0, random.index(block.len() - size + 1) as u32));
+        let places = Data::LongPlaces(places.collect());
+        self.dng.blocks = vec![block];
+        self.dng.raw_ifd().set(Tag::new(273, LONG, places));
+    }
+
+    /// Turns a tag of LONGs into one of SHORTs where the values allow it.
+    fn shorten(&mut self, tag: u16) {
+        if let Some(Tag { kind, data, .. }) = self.dng.raw_ifd().get_mut(tag) {
+            if let Data::Longs(values) = data {
+                if values.iter().all(|v| *v <= 65_535) {
+                    *data = Data::Shorts(values.iter().map(|v| *v as u16).collect());
+                    *kind = SHORT;
+                }
+            }
+        }
+    }
+
+    fn choose_optional_tags(&mut self, random: &mut Random) {
+        let samples = self.samples() as usize;
+        for tag in [254, 259] {
+            if random.one_in(3) {
+                self.dng.raw_ifd().remove(tag);
+            }
+        }
+        if samples == 1 && random.one_in(3) {
+            self.dng.raw_ifd().remove(277);
+        }
+        if self.picture.rows_per_strip >= self.picture.length && random.one_in(2) {
+            self.dng.raw_ifd().remove(278);
+        }
+        let ones = [
+            Tag::shorts(284, &[1]),
+            Tag::shorts(339, &vec![1; samples]),
+            Tag::shorts(50975, &[1]),
+            Tag::longs(52547, &[1]),
+        ];
+        for tag in ones {
+            if random.one_in(3) {
+                self.dng.raw_ifd().set(tag);
+            }
+        }
+        if random.one_in(3) {
+            let version = random.pick(&[[1, 1, 0, 0], [1, 7, 1, 0], [1, 7, 0, 255], [0, 9, 9, 9]]);
+            self.dng.first_ifd().set(Tag::bytes(50707, &version));
+        }
+    }
+
+    fn choose_active_area(&mut self, random: &mut Random) {
+        if random.one_in(3) {
+            return;
+        }
+        let (width, length) = (self.picture.width, self.picture.length);
+        let (top, left) = (random.small(0, length - 1), random.small(0, width - 1));
+        let (bottom, right) = (random.small(top + 1, length), random.small(left + 1, width));
+        self.rows = bottom - top;
+        self.columns = right - left;
+        self.dng.raw_ifd().set(Tag::longs(50829, &[top, left, bottom, right]));
+        if random.one_in(2) {
+            self.shorten(50829);
+        }
+    }
+
+    fn choose_table(&mut self, random: &mut Random) {
+        if !random.one_in(4) {
+            return;
+        }
+        let length = match random.index(24) {
+            0 => 65_536,
+            1..=4 => 256,
+            _ => random.index(8) + 1,
+        };
+        let entries: Vec<u16> = (0..length).map(|_| random.any() as u16).collect();
+        self.dng.raw_ifd().set(Tag::shorts(50712, &entries));
+    }
+
+    /// Blacks, deltas and a white above them all.
+    fn choose_levels(&mut self, random: &mut Random) {
+        let mut greatest = 0;
+        if random.one_in(2) {
+            greatest = self.choose_black(random);
+        }
+        for (tag, count) in [(50715, self.columns), (50716, self.rows)] {
+            if random.one_in(3) {
+                let deltas: Vec<(i32, i32)> = (0..count).map(|_| delta(random)).collect();
+                greatest += deltas.iter().map(|(n, d)| i64::from(256 / d) * i64::from(*n)).max().unwrap_or(0);
+                self.dng.raw_ifd().set(Tag::srationals(tag, &deltas));
+            }
+        }
+        self.choose_white(random, greatest);
+    }
+
+    /// Gives the greatest cell in 256ths.
+    fn choose_black(&mut self, random: &mut Random) -> i64 {
+        let mut cells = self.samples();
+        if random.one_in(2) {
+            let greatest = random.pick(&[2, 2, 3, 8]);
+            let (rows, columns) = (random.small(1, greatest), random.small(1, greatest));
+            self.dng.raw_ifd().set(Tag::shorts(50713, &[rows as u16, columns as u16]));
+            cells *= rows * columns;
+        }
+        let denominators: &[u32] = if random.one_in(2) { &[1] } else { &[1, 2, 4, 8, 16, 32, 64, 128, 256] };
+        let top = if self.picture.bits == 8 { 60 } else { random.pick(&[60, 600, 30_000]) };
+        let blacks: Vec<(u32, u32)> = (0..cells)
+            .map(|_| {
+                let denominator = random.pick(denominators);
+                (random.small(0, top * denominator), denominator)
+            })
+            .collect();
+        let wholes: Vec<u32> = blacks.iter().map(|(n, _)| *n).collect();
+        let tag =
+            if denominators.len() > 1 { Tag::rationals(50714, &blacks) } else { Tag::longs(50714, &wholes) };
+        self.dng.raw_ifd().set(tag);
+        if random.one_in(2) {
+            self.shorten(50714);
+        }
+        blacks.iter().map(|(n, d)| i64::from(256 / d) * i64::from(*n)).max().unwrap_or(0)
+    }
+
+    fn choose_white(&mut self, random: &mut Random, greatest_black: i64) {
+        let least = (greatest_black.div_euclid(256) + 1).max(0);
+        let default = (1 << self.picture.bits) - 1;
+        if default >= least && random.one_in(3) {
+            return;
+        }
+        let whites: Vec<u32> = (0..self.samples())
+            .map(|_| match random.index(3) {
+                0 => least,
+                1 => random.between(least, 65_535),
+                _ => default.max(least),
+            })
+            .map(|white| white as u32)
+            .collect();
+        self.dng.raw_ifd().set(Tag::longs(50717, &whites));
+        if random.one_in(2) {
+            self.shorten(50717);
+        }
+    }
+
+    fn choose_colour(&mut self, random: &mut Random) {
+        if random.one_in(if self.samples() == 3 { 6 } else { 2 }) {
+            return;
+        }
+        let matrix: Vec<(i32, i32)> = (0..9)
+            .map(|_| {
+                (random.between(-20_000, 20_000) as i32, random.pick(&[1, 3, 10_000, -7, i32::MIN, i32::MAX]))
+            })
+            .collect();
+        self.dng.first_ifd().set(Tag::srationals(50964, &matrix));
+        let neutral: Vec<(u32, u32)> =
+            (0..3).map(|_| (random.small(1, 1000), random.pick(&[1, 3, 1000, u32::MAX]))).collect();
+        let shorts: Vec<u16> = neutral.iter().map(|(n, _)| *n as u16).collect();
+        let tag =
+            if random.one_in(4) { Tag::shorts(50728, &shorts) } else { Tag::rationals(50728, &neutral) };
+        self.dng.first_ifd().set(tag);
+    }
+
+    /// Tags that no call reads, of known and unknown types.
+    fn choose_noise(&mut self, random: &mut Random) {
+        for _ in 0..random.index(3) {
+            let tag = random.pick(&[1, 253, 266, 271, 305, 330, 700, 33_421, 50_718, 51_041, 65_535]);
+            let length = random.index(12);
+            let bytes = random.bytes(length);
+            let noise = if random.one_in(3) {
+                let kind = random.pick(&[0, 14, 255, 65_535]);
+                Tag::bytes(tag, &bytes).with_kind(kind).with_count(random.any() as u32)
+            } else {
+                Tag::bytes(tag, &bytes).with_kind(random.pick(&[1, 2, 6, 7]))
+            };
+            self.dng.raw_ifd().set(noise);
+        }
+    }
+}
+
+/// "carried are 1, 2, 4 .. 256"; negative ones too.
+fn delta(random: &mut Random) -> (i32, i32) {
+    let denominator = random.pick(&[1, 2, 4, 8, 16, 32, 64, 128, 256]);
+    let reach = 6 * i64::from(denominator);
+    (random.between(-reach, reach) as i32, denominator)
+}

@@ -1,0 +1,366 @@
+//! Single faults in a valid description, at each limit and one step off it.
+//! Not every edit is a fault: some land on the good side of their limit.
+
+use crate::builder::{Data, OpcodeList, Place, Tag};
+use crate::bytes::ByteOrder;
+use crate::random::Random;
+
+use super::draft::Draft;
+use super::lists;
+
+type Fault = fn(&mut Random, &mut Draft);
+
+const FAULTS: &[(&str, Fault)] = &[
+    ("tag absent", tag_absent),
+    ("tag type", tag_type),
+    ("tag type", tag_type),
+    ("tag count", tag_count),
+    ("tag count", tag_count),
+    ("tag value", tag_value),
+    ("tag value", tag_value),
+    ("tag value", tag_value),
+    ("tag forbidden", tag_forbidden),
+    ("value place", value_place),
+    ("strip place", strip_place),
+    ("tag order", tag_order),
+    ("entry count", entry_count),
+    ("header", header),
+    ("version", version),
+    ("white", white),
+    ("list count", list_count),
+    ("list bytes", list_bytes),
+    ("opcode header", opcode_header),
+    ("opcode area", opcode_area),
+    ("opcode area", opcode_area),
+    ("opcode numbers", opcode_numbers),
+    ("opcode size", opcode_size),
+];
+
+/// A valid file with one fault, or now and then two or three.
+pub fn faulty(random: &mut Random) -> (String, Vec<u8>) {
+    let mut draft = Draft::valid(random);
+    let mut labels = Vec::new();
+    for _ in 0..random.pick(&[1, 1, 1, 1, 2, 2, 3]) {
+        let (label, fault) = random.pick(FAULTS);
+        fault(random, &mut draft);
+        labels.push(label);
+    }
+    (labels.join(" + "), draft.dng().file())
+}
+
+const RAW_TAGS: [u16; 22] = [
+    254, 256, 257, 262, 277, 258, 259, 284, 339, 50975, 52547, 278, 273, 279, 50829, 50712, 50713, 50714,
+    50715, 50716, 50717, 51009,
+];
+const FIRST_TAGS: [u16; 6] = [254, 330, 50706, 50707, 50728, 50964];
+const FORBIDDEN_IN_RAW: [u16; 2] = [51008, 51022];
+const FORBIDDEN_IN_FIRST: [u16; 3] = [50723, 50727, 50965];
+
+/// An IFD and one of its tags, put there with a harmless value if absent.
+fn choose_tag<'a>(random: &mut Random, draft: &'a mut Draft) -> &'a mut Tag {
+    if let Some(list) = draft.list.take() {
+        draft.dng.raw_ifd().set(list.tag());
+    }
+    let raw = !random.one_in(5);
+    let tag = if raw { random.pick(&RAW_TAGS) } else { random.pick(&FIRST_TAGS) };
+    let harmless = harmless_tag(draft, tag);
+    let ifd = if raw { draft.dng.raw_ifd() } else { draft.dng.first_ifd() };
+    if ifd.get(tag).is_none() {
+        ifd.set(harmless);
+    }
+    ifd.get_mut(tag).expect("it was set")
+}
+
+/// A tag that says what its absence says, as far as that can be.
+fn harmless_tag(draft: &Draft, tag: u16) -> Tag {
+    let samples = draft.samples() as usize;
+    let zeros = |count: u32| vec![(0, 1); count as usize];
+    match tag {
+        254 => Tag::longs(254, &[0]),
+        278 => Tag::longs(278, &[draft.picture.rows_per_strip]),
+        277 => Tag::shorts(277, &[samples as u16]),
+        259 | 284 | 50975 | 52547 => Tag::shorts(tag, &[1]),
+        339 => Tag::shorts(339, &vec![1; samples]),
+        330 => Tag::sub_ifds(&[0]),
+        50829 => Tag::longs(50829, &[0, 0, draft.picture.length, draft.picture.width]),
+        50712 => Tag::shorts(50712, &[0, 1, 2, 3]),
+        50713 => Tag::shorts(50713, &[1, 1]),
+        50714 => Tag::shorts(50714, &vec![0; samples]),
+        50715 => Tag::srationals(50715, &zeros(draft.columns)),
+        50716 => Tag::srationals(50716, &zeros(draft.rows)),
+        50717 => Tag::longs(50717, &vec![(1 << draft.picture.bits) - 1; samples]),
+        51009 => OpcodeList::new(&[]).tag(),
+        50707 => Tag::bytes(50707, &[1, 4, 0, 0]),
+        50964 => Tag::srationals(50964, &zeros(9)),
+        50728 => Tag::rationals(50728, &[(1, 1), (1, 1), (1, 1)]),
+        _ => Tag::longs(tag, &[1]),
+    }
+}
+
+fn tag_absent(random: &mut Random, draft: &mut Draft) {
+    let required = [256, 257, 258, 262, 273, 279, 277, 278, 50706, 50964, 50728, 50713, 254, 330];
+    let tag = random.pick(&required);
+    draft.dng.raw_ifd().remove(tag);
+    draft.dng.first_ifd().remove(tag);
+}
+
+fn tag_type(random: &mut Random, draft: &mut Draft) {
+    let kind = random.pick(&[0, 1, 2, 3, 4, 5, 6, 7, 8, 9, 10, 11, 12, 13, 14, 65_535]);
+    choose_tag(random, draft).kind = kind;
+}
+
+fn tag_count(random: &mut Random, draft: &mut Draft) {
+    let tag = choose_tag(random, draft);
+    let count = tag.data.count() as u32;
+    let counts = [0, count.saturating_sub(1), count + 1, 1, 17, 65_536, 65_537, u32::MAX];
+    tag.count = Some(random.pick(&counts));
+}
+
+/// One value changed to one of its limits or a neighbour of it.
+fn tag_value(random: &mut Random, draft: &mut Draft) {
+    let (length, width) = (draft.picture.length, draft.picture.width);
+    let tag = choose_tag(random, draft);
+    let edges = edges(tag.tag, length, width);
+    let edge = random.pick(&edges);
+    let unsigned = [0, 1, 2, 3, 128, 255, 256, 512, 65_535, 65_536, 16_776_960, 16_776_961, u32::MAX];
+    let signed = [0, 1, 2, 3, 128, 256, 512, 65_535, 65_536, 16_776_960, 16_776_961, i32::MAX, i32::MIN];
+    let count = tag.data.count();
+    if count == 0 {
+        return;
+    }
+    let i = random.index(count);
+    match &mut tag.data {
+        Data::Bytes(v) => v[i] = edge as u8,
+        Data::Shorts(v) => v[i] = edge as u16,
+        Data::Longs(v) => v[i] = edge,
+        Data::Rationals(v) if random.one_in(2) => v[i].0 = random.pick(&unsigned),
+        Data::Rationals(v) => v[i].1 = random.pick(&unsigned),
+        Data::SRationals(v) if random.one_in(2) => {
+            v[i].0 = random.pick(&signed).wrapping_mul(random.pick(&[1, -1]));
+        }
+        Data::SRationals(v) => v[i].1 = random.pick(&signed).wrapping_mul(random.pick(&[1, -1])),
+        Data::ShortPlaces(v) | Data::LongPlaces(v) => v[i] = Place::At(edge),
+    }
+}
+
+fn edges(tag: u16, length: u32, width: u32) -> Vec<u32> {
+    let edges: &[u32] = match tag {
+        256 | 257 => &[0, 1, 16_384, 16_385, 65_535, u32::MAX],
+        262 => &[0, 1, 2, 32_802, 32_803, 32_804, 34_891, 34_892, 34_893],
+        258 => &[0, 1, 7, 8, 9, 12, 15, 16, 17, 32],
+        278 => &[0, 1, 2, length, length + 1, 65_535, u32::MAX],
+        50829 => &[0, 1, length, width, length + 1, width + 1, u32::MAX],
+        50713 => &[0, 1, 2, 7, 8, 9, 65_535],
+        50714 | 50717 => &[0, 1, 254, 65_534, 65_535, 65_536, u32::MAX],
+        50706 | 50707 => &[0, 1, 2, 7, 8, 255],
+        _ => &[0, 1, 2, 3, 4, 8, 255, 65_535, u32::MAX],
+    };
+    edges.to_vec()
+}
+
+fn tag_forbidden(random: &mut Random, draft: &mut Draft) {
+    let tag = |number| Tag::bytes(number, &[0; 4]);
+    let kind = random.pick(&[0, 1, 3, 7, 14]);
+    if random.one_in(2) {
+        draft.dng.raw_ifd().set(tag(random.pick(&FORBIDDEN_IN_RAW)).with_kind(kind));
+    } else {
+        draft.dng.first_ifd().set(tag(random.pick(&FORBIDDEN_IN_FIRST)).with_kind(kind));
+    }
+}
+
+/// A value that ends at the file's end, or past it by a byte, or far away.
+fn value_place(random: &mut Random, draft: &mut Draft) {
+    let length = draft.dng().file().len() as u32;
+    let tag = choose_tag(random, draft);
+    let size = tag.data.byte_length() as u32;
+    let last = length.saturating_sub(size);
+    tag.field = Some(random.pick(&[last, last + 1, length, u32::MAX, 0]));
+}
+
+/// A strip that ends at the file's end, or past it by a byte, or far away.
+fn strip_place(random: &mut Random, draft: &mut Draft) {
+    let length = draft.dng().file().len() as u32;
+    let sizes = match draft.dng.raw_ifd().get(279).map(|t| t.data.clone()) {
+        Some(Data::Shorts(sizes)) => sizes.into_iter().map(u32::from).collect(),
+        Some(Data::Longs(sizes)) => sizes,
+        _ => Vec::new(),
+    };
+    let Some(tag) = draft.dng.raw_ifd().get_mut(273) else {
+        return;
+    };
+    if let Data::LongPlaces(places) | Data::ShortPlaces(places) = &mut tag.data {
+        if !places.is_empty() && places.len() == sizes.len() {
+            let i = random.index(places.len());
+            let last = length.saturating_sub(sizes[i]);
+            places[i] = Place::At(random.pick(&[last, last + 1, length, u32::MAX, 0]));
+        }
+    }
+}
+
+fn tag_order(random: &mut Random, draft: &mut Draft) {
+    let raw = draft.dng.raw;
+    let ifd = random.pick(&[0, raw]);
+    let ifd = &mut draft.dng.ifds[ifd];
+    ifd.tags.sort_by_key(|t| t.tag);
+    ifd.as_listed = true;
+    let i = random.index(ifd.tags.len());
+    if random.one_in(2) {
+        let twice = ifd.tags[i].clone();
+        ifd.tags.insert(i, twice);
+    } else {
+        let j = (i + 1) % ifd.tags.len();
+        ifd.tags.swap(i, j);
+    }
+}
+
+fn entry_count(random: &mut Random, draft: &mut Draft) {
+    let raw = draft.dng.raw;
+    let ifd = random.pick(&[0, raw]);
+    let ifd = &mut draft.dng.ifds[ifd];
+    let count = ifd.tags.len() as u16;
+    ifd.count = Some(random.pick(&[0, count - 1, count + 1, u16::MAX]));
+}
+
+fn header(random: &mut Random, draft: &mut Draft) {
+    let length = draft.dng().file().len() as u32;
+    let ifd = draft.dng().layout().ifds[0] as u32;
+    match random.index(3) {
+        0 => {
+            let starts = [
+                *b"II\x2A\x01",
+                *b"II\x00\x2A",
+                *b"MM\x2A\x00",
+                *b"MM\x00\x2B",
+                *b"IM\x2A\x00",
+                *b"\0\0\0\0",
+            ];
+            draft.dng.start = Some(random.pick(&starts));
+        }
+        1 => {
+            // The header of the other byte order.
+            let little = draft.dng.order == ByteOrder::Little;
+            draft.dng.start = Some(if little { *b"MM\x00\x2A" } else { *b"II\x2A\x00" });
+        }
+        _ => {
+            let places = [0, ifd - 1, ifd + 1, length - 1, length - 2, length, u32::MAX];
+            draft.dng.first = Place::At(random.pick(&places));
+        }
+    }
+}
+
+fn version(random: &mut Random, draft: &mut Draft) {
+    let versions = [[1, 7, 1, 0], [1, 7, 1, 1], [1, 7, 2, 0], [1, 8, 0, 0], [2, 0, 0, 0], [1, 7, 0, 9]];
+    let tag = random.pick(&[50706, 50707]);
+    if tag == 50706 && random.one_in(2) {
+        draft.dng.first_ifd().remove(50707);
+    }
+    draft.dng.first_ifd().set(Tag::bytes(tag, &random.pick(&versions)));
+}
+
+/// A white one below, at, or one above the greatest black.
+fn white(random: &mut Random, draft: &mut Draft) {
+    let samples = draft.samples() as usize;
+    let black = random.small(1, 200);
+    let white = random.small(black - 1, black + 1);
+    let raw = draft.dng.raw_ifd();
+    for tag in [50713, 50715, 50716] {
+        raw.remove(tag);
+    }
+    raw.set(Tag::longs(50714, &vec![black; samples]));
+    raw.set(Tag::longs(50717, &vec![white; samples]));
+}
+
+/// The draft's list, made if there is none.
+fn list<'a>(random: &mut Random, draft: &'a mut Draft) -> &'a mut OpcodeList {
+    let one = lists::kept(random, draft);
+    let list = draft.list.get_or_insert_with(|| OpcodeList::new(&[]));
+    if list.opcodes.is_empty() {
+        list.opcodes.push(one);
+    }
+    list
+}
+
+fn list_count(random: &mut Random, draft: &mut Draft) {
+    let one = lists::kept(random, draft);
+    let list = list(random, draft);
+    let length = list.opcodes.len() as u32;
+    match random.index(3) {
+        0 => list.opcodes.resize(random.pick(&[31, 32, 33]), one),
+        1 => list.count = Some(random.pick(&[32, 33, 0x0100_0000, u32::MAX])),
+        _ => list.count = Some(random.pick(&[0, length - 1, length + 1])),
+    }
+}
+
+fn list_bytes(random: &mut Random, draft: &mut Draft) {
+    let list = list(random, draft);
+    if random.one_in(2) {
+        let length = random.index(17) + 1;
+        list.tail = random.bytes(length);
+        return;
+    }
+    let length = list.spell().len() as u32;
+    let tag = list.tag().with_count(random.pick(&[0, 3, 4, 5, 19, 20, length - 1, length - 4]));
+    draft.list = None;
+    draft.dng.raw_ifd().set(tag);
+}
+
+fn opcode_header(random: &mut Random, draft: &mut Draft) {
+    let list = list(random, draft);
+    let i = random.index(list.opcodes.len());
+    let opcode = &mut list.opcodes[i];
+    let length = opcode.parameters.len() as u32;
+    match random.index(4) {
+        0 => opcode.id = random.pick(&[0, 6, 7, 8, 9, 10, 11, 12, 13, 14, 0x0700_0000]),
+        1 => opcode.version = random.pick(&[0, 0x0107_0100, 0x0107_0101, 0x0108_0000, u32::MAX]),
+        2 => opcode.length = Some(random.pick(&[0, 35, 36, length.saturating_sub(1), length + 1, u32::MAX])),
+        _ => opcode.id = 9,
+    }
+    opcode.flags = random.pick(&[0, 0, 1, 2, 0xFFFF_FFFE]);
+}
+
+/// One of the nine LONGs changed to a limit or a neighbour of it.
+fn opcode_area(random: &mut Random, draft: &mut Draft) {
+    let (rows, columns, samples) = (draft.rows, draft.columns, draft.samples());
+    let list = list(random, draft);
+    let i = random.index(list.opcodes.len());
+    if list.opcodes[i].parameters.len() < 36 {
+        return;
+    }
+    let edges = [0, 1, 2, 8, 9, rows, rows + 1, columns, columns + 1, samples, samples + 1, u32::MAX];
+    let long = random.index(9);
+    list.opcodes[i] = list.opcodes[i].clone().with_long(long, random.pick(&edges));
+}
+
+/// A FLOAT or DOUBLE that is or is not infinite, NaN or denormal.
+fn opcode_numbers(random: &mut Random, draft: &mut Draft) {
+    let list = list(random, draft);
+    let i = random.index(list.opcodes.len());
+    let opcode = &mut list.opcodes[i];
+    let (size, patterns): (usize, &[u64]) = match opcode.id {
+        8 => (8, &[0x7FF << 52, 0xFFF << 52, 0x7FF8 << 48, 1, (1 << 52) - 1, 1 << 52, 1 << 63, 0x7FEF << 48]),
+        10..=13 => (
+            4,
+            &[0x7F80_0000, 0xFF80_0000, 0x7FC0_0000, 1, 0x007F_FFFF, 0x0080_0000, 0x8000_0000, 0x8000_0001],
+        ),
+        _ => return,
+    };
+    if opcode.parameters.len() < 36 + size {
+        return;
+    }
+    let place = 36 + size * random.index((opcode.parameters.len() - 36) / size);
+    let bytes = ByteOrder::Big.spell(random.pick(patterns), size);
+    opcode.parameters[place..place + size].copy_from_slice(&bytes);
+}
+
+/// A stated size at its limit, with exactly as many bytes.
+fn opcode_size(random: &mut Random, draft: &mut Draft) {
+    let one = lists::kept(random, draft);
+    let (stated, bytes) = match one.id {
+        7 => random.pick(&[(0, 0), (1, 2), (3, 6), (3, 5), (3, 8), (65_536, 131_072), (65_537, 131_074)]),
+        8 => random.pick(&[(0, 8), (8, 72), (9, 80), (2, 16), (2, 32), (u32::MAX, 0)]),
+        _ => random.pick(&[(0, 0), (1, 4), (2, 8), (1, 5), (u32::MAX, 4)]),
+    };
+    let mut one = one.with_long(8, stated);
+    one.parameters.resize(36 + bytes, 0);
+    list(random, draft).opcodes.push(one);
+}

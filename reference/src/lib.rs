@@ -1,0 +1,26 @@
+//! An independent reference for document 01, "From stored DNG samples to
+//! developed values". The modules follow the document's sections; each rule
+//! stands once, beside the words of the document that demand it.
+
+#![forbid(unsafe_code)]
+
+pub mod answer;
+pub mod bytes;
+pub mod calls;
+pub mod colour;
+pub mod develop;
+pub mod directory;
+pub mod levels;
+pub mod listing;
+pub mod opcodes;
+pub mod raw_tags;
+pub mod tag_test;
+
+pub mod builder;
+pub mod cases;
+pub mod generate;
+pub mod random;
+
+pub use answer::{Answer, Card};
+pub use calls::{card, colour_window, spot, window};
+pub use listing::{listing, write_listing};

@@ -1,0 +1,48 @@
+//! Board example 11: the listing program.
+
+use std::io::{self, Write};
+
+use crate::answer::Answer;
+use crate::develop::{accept, Developed};
+use crate::opcodes::FrameSize;
+
+/// "over 65,536 bytes counts as refusal 1"
+pub const GREATEST_INPUT: usize = 65_536;
+
+/// The whole listing as one string.
+pub fn listing(input: &[u8]) -> String {
+    let mut out = Vec::new();
+    write_listing(input, &mut out).expect("a vector takes every byte");
+    String::from_utf8(out).expect("a listing is plain text")
+}
+
+/// Writes the listing row by row, so that a great frame needs little memory.
+pub fn write_listing(input: &[u8], out: &mut impl Write) -> io::Result<()> {
+    if input.len() > GREATEST_INPUT {
+        return write_refusal(Answer::FILE_SIZE, out);
+    }
+    match accept(input) {
+        Err(refusal) => write_refusal(refusal, out),
+        Ok(accepted) => write_frame(accepted.size(), &Developed::new(&accepted), out),
+    }
+}
+
+/// "`refused number detail`"
+fn write_refusal(refusal: Answer, out: &mut impl Write) -> io::Result<()> {
+    writeln!(out, "refused {} {}", refusal.number, refusal.detail)
+}
+
+/// "`frame rows columns samples`, then a line per row, each f64 as 16 hex
+/// digits, single spaces"
+fn write_frame(size: FrameSize, developed: &Developed, out: &mut impl Write) -> io::Result<()> {
+    let FrameSize { rows, columns, samples } = size;
+    writeln!(out, "frame {rows} {columns} {samples}")?;
+    for row in 0..rows {
+        let words: Vec<String> = (0..columns)
+            .flat_map(|column| (0..samples).map(move |plane| (column, plane)))
+            .map(|(column, plane)| format!("{:016x}", developed.value(row, column, plane).to_bits()))
+            .collect();
+        writeln!(out, "{}", words.join(" "))?;
+    }
+    Ok(())
+}

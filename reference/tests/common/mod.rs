@@ -1,0 +1,97 @@
+//! Shared by the tests: small files and short questions about them.
+#![allow(dead_code)]
+
+use reference::builder::{Dng, Picture};
+use reference::bytes::ByteOrder;
+use reference::{card, colour_window, spot, window, Answer};
+
+pub const BOTH: [ByteOrder; 2] = [ByteOrder::Little, ByteOrder::Big];
+
+pub use reference::cases::UNTOUCHED;
+
+pub fn mosaic(width: u32, length: u32) -> Dng {
+    Dng::new(ByteOrder::Little, &Picture::counting(width, length, 1, 8))
+}
+
+pub fn linear(width: u32, length: u32) -> Dng {
+    Dng::new(ByteOrder::Big, &Picture::counting(width, length, 3, 16))
+}
+
+/// A mosaic of one row of 16-bit samples.
+pub fn row_of(stored: &[u16]) -> Dng {
+    Dng::new(ByteOrder::Big, &Picture::row(16, stored))
+}
+
+pub fn refusal(number: u32, detail: u32) -> Answer {
+    Answer { number, detail }
+}
+
+pub const DONE: Answer = Answer::DONE;
+
+/// The card's answer, which is the other calls' answer to the file too.
+pub fn answer_to(file: &[u8]) -> Answer {
+    card(file).answer()
+}
+
+pub fn answer(dng: &Dng) -> Answer {
+    answer_to(&dng.file())
+}
+
+/// The whole active frame through the window call.
+pub fn frame_of(file: &[u8]) -> Vec<f64> {
+    let card = card(file);
+    assert_eq!(card.answer(), DONE);
+    let mut out = vec![UNTOUCHED; (card.rows * card.columns * card.samples) as usize];
+    assert_eq!(window(file, 0, 0, card.rows, card.columns, &mut out), DONE);
+    out
+}
+
+pub fn frame(dng: &Dng) -> Vec<f64> {
+    frame_of(&dng.file())
+}
+
+/// The whole frame before the last division; the file must have no opcode.
+pub fn levels(dng: &Dng) -> Vec<u32> {
+    frame(dng).into_iter().map(|x| (x * 65535.0).round() as u32).collect()
+}
+
+/// The colour of the whole active frame.
+pub fn colours(dng: &Dng) -> Vec<f64> {
+    let file = dng.file();
+    let card = card(&file);
+    let mut out = vec![UNTOUCHED; (card.rows * card.columns * 3) as usize];
+    assert_eq!(colour_window(&file, 0, 0, card.rows, card.columns, &mut out), DONE);
+    out
+}
+
+/// The answer of a colour window over the first pixel.
+pub fn colour_answer(dng: &Dng) -> Answer {
+    colour_window(&dng.file(), 0, 0, 1, 1, &mut [UNTOUCHED; 3])
+}
+
+pub fn spot_value(file: &[u8], row: u64, column: u64, plane: u64) -> f64 {
+    let (answer, value) = spot(file, row, column, plane);
+    assert_eq!(answer, DONE);
+    value
+}
+
+pub fn bits(values: &[f64]) -> Vec<u64> {
+    values.iter().map(|v| v.to_bits()).collect()
+}
+
+#[track_caller]
+pub fn accepts(dng: &Dng) {
+    assert_eq!(answer(dng), DONE);
+}
+
+#[track_caller]
+pub fn refuses(dng: &Dng, number: u32, detail: u32) {
+    assert_eq!(answer(dng), refusal(number, detail));
+}
+
+/// The file with some bytes changed.
+pub fn poked(file: &[u8], place: usize, bytes: &[u8]) -> Vec<u8> {
+    let mut file = file.to_vec();
+    file[place..place + bytes.len()].copy_from_slice(bytes);
+    file
+}

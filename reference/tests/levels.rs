@@ -1,0 +1,166 @@
+//! "Levels": blacks, whites, the table, and the rounding of L.
+
+mod common;
+
+use common::*;
+use reference::builder::{Dng, Picture, Tag};
+use reference::bytes::ByteOrder;
+use reference::random::Random;
+
+/// L for whole numbers in 256ths, found by search: the greatest L whose
+/// lower half-step is not above 65535 D / S.
+fn level_by_search(d: i64, s: i64) -> u32 {
+    let (d, s) = (i128::from(d), i128::from(s));
+    let (mut low, mut high) = (0i128, 65_535i128);
+    while low < high {
+        let middle = (low + high + 1) / 2;
+        if (2 * middle - 1) * s <= 2 * 65_535 * d {
+            low = middle;
+        } else {
+            high = middle - 1;
+        }
+    }
+    low as u32
+}
+
+#[test]
+fn levels_are_rounded_to_nearest_halves_up() {
+    let random = &mut Random::new(7);
+    for _ in 0..400 {
+        let power = random.index(9);
+        let black = random.between(0, 300 << power);
+        let greatest_white = random.pick(&[340, 65_535]);
+        let white = random.between(301, greatest_white);
+        let stored: Vec<u16> = (0..20).map(|_| random.between(0, 400) as u16).collect();
+        let dng = row_of(&stored)
+            .with(Tag::rationals(50714, &[(black as u32, 1 << power)]))
+            .with(Tag::longs(50717, &[white as u32]));
+        let black = black << (8 - power);
+        let expected: Vec<u32> = stored
+            .iter()
+            .map(|v| level_by_search(256 * i64::from(*v) - black, 256 * white - black))
+            .collect();
+        assert_eq!(levels(&dng), expected);
+    }
+}
+
+#[test]
+fn the_scaled_value_is_one_division() {
+    let stored: Vec<u16> = (0..16_384).map(|i| i * 4 + 3).collect();
+    let expected: Vec<f64> = stored.iter().map(|v| f64::from(*v) / 65535.0).collect();
+    assert_eq!(bits(&frame(&row_of(&stored))), bits(&expected));
+}
+
+#[test]
+fn both_clips_are_sharp() {
+    // Black 10, white 12 in 256ths: S is 512.
+    let at = |quarter: u32| {
+        let dng = row_of(&[10, 11, 12, 13]);
+        let dng = dng.with(Tag::rationals(50714, &[(40 + quarter, 4)])).with(Tag::shorts(50717, &[12]));
+        levels(&dng)
+    };
+    assert_eq!(at(0), [0, 32768, 65535, 65535]);
+    // Black 10.25: D is -64, 192, 448; S is 448.
+    assert_eq!(at(1), [0, 28086, 65535, 65535]);
+}
+
+#[test]
+fn black_cells_repeat_over_rows_columns_and_planes() {
+    let picture = Picture { stored: vec![200; 5 * 4 * 3], ..Picture::counting(5, 4, 3, 8) };
+    let cells: Vec<u16> = (0..18).collect();
+    let dng = Dng::new(ByteOrder::Little, &picture)
+        .with(Tag::shorts(50713, &[2, 3]))
+        .with(Tag::shorts(50714, &cells))
+        .with(Tag::shorts(50717, &[255, 254, 253]));
+    let levels = levels(&dng);
+    for row in 0..4 {
+        for column in 0..5 {
+            for plane in 0..3 {
+                let black = ((row % 2) * 3 + column % 3) * 3 + plane;
+                let greatest = 15 + plane;
+                let span = 255 - plane - greatest;
+                let d = 200 - black;
+                let expected = level_by_search(d.min(span), span);
+                assert_eq!(levels[((row * 5 + column) * 3 + plane) as usize], expected);
+            }
+        }
+    }
+}
+
+#[test]
+fn deltas_belong_to_active_rows_and_columns() {
+    let picture = Picture { stored: vec![100; 12], ..Picture::counting(4, 3, 1, 8) };
+    let dng = Dng::new(ByteOrder::Little, &picture)
+        .with(Tag::longs(50829, &[1, 1, 3, 4]))
+        .with(Tag::shorts(50714, &[50]))
+        .with(Tag::srationals(50715, &[(-2, 1), (3, 2), (0, 1)]))
+        .with(Tag::srationals(50716, &[(1, 1), (-1, 256)]))
+        .with(Tag::shorts(50717, &[200]));
+    // In 256ths: M is 50 + 1.5 + 1.
+    let span = 256 * 200 - (256 * 50 + 384 + 256);
+    let d = |column: i64, row: i64| 256 * 100 - (256 * 50 + column + row);
+    let expected: Vec<u32> = [256, -1]
+        .iter()
+        .flat_map(|row| [-512, 384, 0].map(|column| level_by_search(d(column, *row), span)))
+        .collect();
+    assert_eq!(levels(&dng), expected);
+}
+
+#[test]
+fn the_greatest_black_counts_cells_that_meet_no_sample() {
+    let with_white = |white: u16| {
+        row_of(&[1])
+            .with(Tag::shorts(50713, &[2, 2]))
+            .with(Tag::shorts(50714, &[0, 0, 0, 90]))
+            .with(Tag::shorts(50717, &[white]))
+    };
+    refuses(&with_white(90), 9, 0);
+    accepts(&with_white(91));
+}
+
+#[test]
+fn the_greatest_delta_may_be_negative() {
+    let dng = |white: u16| {
+        row_of(&[10, 10])
+            .with(Tag::shorts(50714, &[20]))
+            .with(Tag::srationals(50715, &[(-15, 1), (-12, 1)]))
+            .with(Tag::shorts(50717, &[white]))
+    };
+    // M is 20 - 12.
+    refuses(&dng(8), 9, 0);
+    accepts(&dng(9));
+    assert_eq!(levels(&dng(16)), [40959, 16384]);
+}
+
+#[test]
+fn white_must_be_above_black_on_every_plane() {
+    let whites = |whites: [u16; 3]| {
+        linear(1, 1).with(Tag::shorts(50714, &[10, 20, 30])).with(Tag::shorts(50717, &whites))
+    };
+    accepts(&whites([11, 21, 31]));
+    refuses(&whites([10, 21, 31]), 9, 0);
+    refuses(&whites([11, 20, 31]), 9, 0);
+    refuses(&whites([11, 21, 30]), 9, 0);
+    // A 256th above is enough.
+    let close = |n: u32| row_of(&[1]).with(Tag::rationals(50714, &[(n, 256)])).with(Tag::shorts(50717, &[1]));
+    accepts(&close(255));
+    refuses(&close(256), 9, 0);
+}
+
+#[test]
+fn the_default_white_is_of_the_bits_also_with_a_table() {
+    let table: Vec<u16> = vec![0, 255, 256, 65_535];
+    let eight = Dng::new(ByteOrder::Little, &Picture::row(8, &[0, 1, 2, 3])).with(Tag::shorts(50712, &table));
+    assert_eq!(levels(&eight), [0, 65_535, 65_535, 65_535]);
+    let sixteen = row_of(&[0, 1, 2, 3]).with(Tag::shorts(50712, &table));
+    assert_eq!(levels(&sixteen), [0, 255, 256, 65_535]);
+}
+
+#[test]
+fn the_table_holds_its_last_entry() {
+    let table: Vec<u16> = (0..100).map(|i| 1000 - i).collect();
+    let dng = row_of(&[0, 98, 99, 100, 65_535]).with(Tag::shorts(50712, &table));
+    assert_eq!(levels(&dng), [1000, 902, 901, 901, 901]);
+    let whole: Vec<u16> = (0..=65_535).rev().collect();
+    assert_eq!(levels(&row_of(&[0, 1, 65_535]).with(Tag::shorts(50712, &whole))), [65_535, 65_534, 0]);
+}

@@ -1,0 +1,81 @@
+//! "for every string of bytes": no call panics, whatever it is given.
+
+mod common;
+
+use common::*;
+use reference::builder::{Area, Opcode, Tag};
+use reference::cases::{answer_line, Call};
+use reference::generate::generate;
+use reference::random::Random;
+use reference::{card, listing};
+
+fn ask_everything(file: &[u8]) {
+    let calls = [
+        Call::Card,
+        Call::Window { top: 0, left: 0, height: 1, width: 1, slice: 1 },
+        Call::Spot { row: 0, column: 0, plane: 0 },
+        Call::ColourWindow { top: 0, left: 0, height: 1, width: 1, slice: 3 },
+    ];
+    for call in &calls {
+        answer_line(file, call);
+    }
+}
+
+#[test]
+fn generated_cases() {
+    for index in 0..10_000 {
+        let case = generate(40, index);
+        for call in &case.calls {
+            answer_line(&case.file, call);
+        }
+    }
+}
+
+#[test]
+fn random_bytes() {
+    let random = &mut Random::new(41);
+    for _ in 0..50_000 {
+        let length = random.index(120);
+        let mut file = random.bytes(length);
+        if length >= 8 && random.one_in(2) {
+            file[..8].copy_from_slice(b"MM\x00\x2A\x00\x00\x00\x08");
+        }
+        // Few entries, and small numbers, so that more tests are reached.
+        if length >= 10 && random.one_in(2) {
+            file[8] = 0;
+            file[9] %= 9;
+        }
+        ask_everything(&file);
+        listing(&file);
+    }
+}
+
+#[test]
+fn every_byte_of_a_file_changed() {
+    let opcodes = [
+        Opcode::map_table(Area::whole(2, 2, 3), &[1, 2]),
+        Opcode::map_polynomial(Area { row_pitch: 2, ..Area::whole(2, 2, 3) }, &[0.5, 0.25]),
+        Opcode::new(9, 1, vec![1, 2]),
+        Opcode::per_line(11, Area::whole(2, 2, 3), &[0.5, 0.25]),
+    ];
+    let file = linear(3, 3)
+        .with(Tag::longs(50829, &[1, 1, 3, 3]))
+        .with(Tag::shorts(50712, &[1, 2, 3]))
+        .with(Tag::shorts(50713, &[2, 1]))
+        .with(Tag::rationals(50714, &[(1, 2); 6]))
+        .with(Tag::srationals(50715, &[(1, 2); 2]))
+        .with(Tag::srationals(50716, &[(-1, 2); 2]))
+        .with(Tag::longs(50717, &[300; 3]))
+        .with_opcodes(&opcodes)
+        .with_first(Tag::srationals(50964, &[(1, 2); 9]))
+        .with_first(Tag::rationals(50728, &[(1, 2); 3]))
+        .nested(2)
+        .file();
+    assert_eq!(card(&file).answer(), DONE);
+    for place in 0..file.len() {
+        for byte in [0, 1, 2, 7, 8, 0x7F, 0x80, 0xFE, 0xFF, file[place] ^ 1, file[place].wrapping_add(1)] {
+            ask_everything(&poked(&file, place, &[byte]));
+        }
+        ask_everything(&file[..place]);
+    }
+}

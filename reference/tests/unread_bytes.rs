@@ -1,0 +1,89 @@
+//! "It doesn't read a next offset, the value of any other tag (even one that
+//! stands in its entry), a skipped correction's parameters, or a stored sample
+//! outside the active area."
+
+mod common;
+
+use common::*;
+use reference::builder::{Area, Dng, Opcode, OpcodeList, Tag};
+use reference::{card, colour_window};
+
+fn answers(file: &[u8]) -> (reference::Card, Vec<u64>, Vec<u64>) {
+    let mut colours = vec![UNTOUCHED; 2 * 2 * 3];
+    assert_eq!(colour_window(file, 0, 0, 2, 2, &mut colours), DONE);
+    (card(file), bits(&frame_of(file)), bits(&colours))
+}
+
+/// A file with something of everything that is not read.
+fn subject() -> (Dng, OpcodeList) {
+    let list = OpcodeList::new(&[
+        Opcode::map_polynomial(Area::whole(2, 2, 3), &[0.25, 0.5]),
+        Opcode::new(9, 1, vec![1; 40]),
+        Opcode::per_line(12, Area::whole(2, 2, 3), &[0.5, 0.75]),
+    ]);
+    let dng = linear(4, 4)
+        .with(Tag::longs(50829, &[1, 1, 3, 3]))
+        .with(list.tag())
+        .with(Tag::shorts(266, &[1]))
+        .with(Tag::bytes(305, &[7; 9]))
+        .with_first(Tag::srationals(50964, &[(1, 2); 9]))
+        .with_first(Tag::shorts(50728, &[1, 2, 3]))
+        .nested(1);
+    (Dng { gap: 3, tail: 5, ..dng }.with_first(Tag::bytes(271, &[1; 3])), list)
+}
+
+/// The places of all bytes that the document says are not read.
+fn unread(dng: &Dng, list: &OpcodeList) -> Vec<usize> {
+    let layout = dng.layout();
+    let mut places = Vec::new();
+    for (ifd, start) in layout.ifds.iter().enumerate() {
+        let next = start + 2 + 12 * dng.ifds[ifd].tags.len();
+        places.extend(next..next + 4);
+    }
+    for (ifd, tag) in [(dng.raw, 266), (dng.raw, 305), (0, 271)] {
+        let entry = layout.entry(ifd, tag);
+        places.extend(entry.value..entry.value + entry.length);
+    }
+    let skipped = layout.entry(dng.raw, 51009).value + 4 + list.opcodes[0].spell().len() + 16;
+    places.extend(skipped..skipped + 40);
+    for sample in 0..4 * 4 * 3 {
+        let (row, column) = (sample / 12, sample / 3 % 4);
+        if ![1, 2].contains(&row) || ![1, 2].contains(&column) {
+            let start = layout.blocks[0] + 2 * sample;
+            places.extend(start..start + 2);
+        }
+    }
+    let length = layout.file.len();
+    places.extend([8, 9, 10].into_iter().chain(length - 5..length));
+    places
+}
+
+#[test]
+fn bytes_that_are_not_read_change_no_answer() {
+    let (dng, list) = subject();
+    let file = dng.file();
+    let before = answers(&file);
+    let places = unread(&dng, &list);
+    for place in &places {
+        for change in [1, 0x80, 0xFF] {
+            assert_eq!(answers(&poked(&file, *place, &[file[*place] ^ change])), before);
+        }
+    }
+    let mut all = file.clone();
+    for place in places {
+        all[place] ^= 0xFF;
+    }
+    assert_eq!(answers(&all), before);
+}
+
+#[test]
+fn bytes_that_are_read_can_change_an_answer() {
+    let (dng, _) = subject();
+    let layout = dng.layout();
+    let file = &layout.file;
+    let before = answers(file);
+    let sample = layout.blocks[0] + 2 * (4 + 1) * 3;
+    assert_ne!(answers(&poked(file, sample, &[0xFF])), before);
+    let neutral = layout.entry(0, 50728).value;
+    assert_ne!(answers(&poked(file, neutral, &[0, 2])), before);
+}
