@@ -1,0 +1,21 @@
+-- Laws of `bind`.
+-- Assumes nothing.
+use mathlib.Core.Path.{_≡_, sym, ap, _∙_}
+use mathlib.Core.List.{List}
+use Prim.Native.Nat.{ℕ}
+use Rattle.reading.specs.Reading.{Reading, Reading.answer, run}
+use Rattle.reading.proofs.Reading.{run-answer, run-then}
+use Rattle.directory.specs.Out.{Out, Out.refused, Out.is, onward, bind}
+
+module _ {A B : Type 0} (f : List ℕ) (p : Reading (Out A)) (k : A → Reading (Out B)) where
+  pub bind-refused : (n d : ℕ) → refused n d ≡ run f p → refused n d ≡ run f (bind p k)
+  unfolding bind
+  bind-refused n d e = sym (run-then f p (onward k) (refused n d) e ∙ run-answer f (refused n d))
+
+  pub bind-is : (a : A) → is a ≡ run f p → run f (bind p k) ≡ run f (k a)
+  unfolding bind
+  bind-is a e = run-then f p (onward k) (is a) e
+
+  -- the last step of a chain
+  pub bind-last : (a : A) (b : Out B) → is a ≡ run f p → b ≡ run f (k a) → b ≡ run f (bind p k)
+  bind-last a b e h = h ∙ sym (bind-is a e)

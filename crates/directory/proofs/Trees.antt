@@ -1,0 +1,162 @@
+-- Laws of the tree, each by the code's tests.
+-- Assumes nothing.
+use mathlib.Core.Path.{_≡_, refl, sym, ap, _∙_}
+use mathlib.Core.Bool.{Bool, true, false, _&&_}
+use mathlib.Core.List.{List, [], _∷_}
+use Prim.Native.Nat.{ℕ, zero, suc, _+_, _*_, _-_, _≤_, _<_}
+use native.Mathlib.Numerals.{add-one}
+use native.Mathlib.Omega.{arith}
+use lib.Dec.{eqb}
+use lib.ListN.{length, take, getD}
+use borrow.Author.Tests.{eq-eqb, ne-eqb, lt-ltb, le-ltb}
+use Rattle.reading.specs.Bytes.{part}
+use Rattle.reading.specs.Number.{numberOf}
+use Rattle.reading.specs.Reading.{run}
+use Rattle.reading.specs.declared.number.Order.{Order}
+use Rattle.reading.specs.declared.number.Order.the-variants.{Little, Big}
+use Rattle.reading.proofs.Reading.{running, run-answer, run-then, pick-yes, pick-no}
+use Rattle.directory.specs.Out.{Out, Out.refused, Out.is}
+use Rattle.directory.specs.Widths.{Widths, classic}
+use Rattle.directory.specs.Shape.{ifdReading}
+use Rattle.directory.specs.Tag.{valuesReading, oneReading, optional, range}
+use Rattle.directory.specs.Tree.{Seen, raw-one, parent, childrenRule, lookReading, versionRule, backwardRule, backwardReading, versionReading, Walked, raw, left, afterLook, afterChild, childrenReading, visitReading, listVisit, afterWalk, roots, walkReading, rootReading, sameBytes, littleMark, bigMark, treeReading}
+use Rattle.directory.specs.declared.Ifd.{Ifd}
+use Rattle.directory.specs.declared.tag.Kinds.the-variants as kinds
+use Rattle.directory.specs.declared.tag.Values.{Values}
+use Rattle.directory.proofs.Outs.{bind-refused, bind-is}
+
+-- ---- the version
+module _ (f : List ℕ) (v b : Values) (n : ℕ) where
+  pub backward-default : b .count ≡ 0 → n ≡ numberOf Big (part f (v .place) 2) → n * 65536 ≡ run f (backwardReading v b)
+  unfolding backwardReading
+  backward-default h e = simp (eq-eqb _ _ h, running, ← e)
+
+  pub backward-given : (b .count ≡ 0 → ⊥) → n ≡ numberOf Big (part f (b .place) 4) → n ≡ run f (backwardReading v b)
+  unfolding backwardReading
+  backward-given h e = simp (ne-eqb _ _ h, running, ← e)
+
+module _ (w : Widths) (f : List ℕ) (d : Ifd) where
+  pub version-refused : (k e : ℕ) → refused k e ≡ run f (valuesReading w d versionRule) → refused k e ≡ run f (versionReading w d)
+  unfolding versionReading
+  version-refused k e h = bind-refused f _ _ k e h
+
+  module _ (v : Values) (version : is v ≡ run f (valuesReading w d versionRule)) where
+    pub backward-refused : (k e : ℕ) → refused k e ≡ run f (valuesReading w d backwardRule) → refused k e ≡ run f (versionReading w d)
+    unfolding versionReading
+    backward-refused k e h = bind-refused f _ _ k e h ∙ sym (bind-is f _ _ v version)
+
+    module _ (b : Values) (given : is b ≡ run f (valuesReading w d backwardRule)) (n : ℕ) (number : n ≡ run f (backwardReading v b)) where
+      pub version-above : 0x0107_0100 < n → refused 7 0 ≡ run f (versionReading w d)
+      unfolding versionReading
+      version-above h = sym (bind-is f _ _ v version ∙ bind-is f _ _ b given ∙ run-then f _ _ n number ∙ run-answer f _ ∙ rw (lt-ltb _ _ h, pick-yes))
+
+      pub version-is : n ≤ 0x0107_0100 → is n ≡ run f (versionReading w d)
+      unfolding versionReading
+      version-is h = sym (bind-is f _ _ v version ∙ bind-is f _ _ b given ∙ run-then f _ _ n number ∙ run-answer f _ ∙ rw (le-ltb _ _ h, pick-no))
+
+-- ---- one directory
+module _ (w : Widths) (f : List ℕ) (d : Ifd) where
+  pub look-refused : (k e : ℕ) → refused k e ≡ run f (oneReading w d (optional 254 kinds.Long 1) 0 (range 0 0 0xFFFF_FFFF)) → refused k e ≡ run f (lookReading w d)
+  unfolding lookReading
+  look-refused k e h = bind-refused f _ _ k e h
+
+  module _ (t : ℕ) (subfile : is t ≡ run f (oneReading w d (optional 254 kinds.Long 1) 0 (range 0 0 0xFFFF_FFFF))) where
+    pub look-raw : t ≡ 0 → is raw-one ≡ run f (lookReading w d)
+    unfolding lookReading
+    look-raw h = sym (bind-is f _ _ t subfile ∙ rw (eq-eqb _ _ h, pick-yes) (run-answer f _))
+
+    module _ (other : t ≡ 0 → ⊥) where
+      pub children-refused : (k e : ℕ) → refused k e ≡ run f (valuesReading w d childrenRule) → refused k e ≡ run f (lookReading w d)
+      unfolding lookReading
+      children-refused k e h = sym (bind-is f _ _ t subfile ∙ rw (ne-eqb _ _ other, pick-no) (sym (bind-refused f _ _ k e h)))
+
+      pub look-into : (v : Values) → is v ≡ run f (valuesReading w d childrenRule) → is (parent (v .place) (v .count)) ≡ run f (lookReading w d)
+      unfolding lookReading
+      look-into v h = sym (bind-is f _ _ t subfile ∙ rw (ne-eqb _ _ other, pick-no) (bind-is f _ _ v h ∙ run-answer f _))
+
+-- ---- the walk
+module _ (w : Widths) (f : List ℕ) (size : ℕ) (o : Order) (d at v : ℕ) where
+  pub visit-deep : d ≡ 0 → refused 6 0 ≡ run f (visitReading w size o d at v)
+  unfolding visitReading
+  visit-deep e = rw (e, run-answer)
+
+  module _ (m : ℕ) (deep : d ≡ m + 1) where
+    pub visit-late : v ≡ 0 → refused 6 0 ≡ run f (visitReading w size o d at v)
+    unfolding visitReading
+    visit-late g = rw (deep, add-one m, g, run-answer)
+
+    module _ (u : ℕ) (some : v ≡ u + 1) where
+      pub visit-refused : (k e : ℕ) → refused k e ≡ run f (ifdReading w size o at) → refused k e ≡ run f (visitReading w size o d at v)
+      unfolding visitReading
+      visit-refused k e h = rw (deep, add-one m, some, add-one u) (bind-refused f _ _ k e h)
+
+      module _ (i : Ifd) (ifd : is i ≡ run f (ifdReading w size o at)) where
+        pub visit-unseen : (k e : ℕ) → refused k e ≡ run f (lookReading w i) → refused k e ≡ run f (visitReading w size o d at v)
+        unfolding visitReading
+        visit-unseen k e h = rw (deep, add-one m, some, add-one u) (bind-refused f _ _ k e h ∙ sym (bind-is f _ _ i ifd))
+
+        pub visit-seen : (s : Seen) → is s ≡ run f (lookReading w i) → run f (visitReading w size o d at v) ≡ run f (afterLook i (λ p n. listVisit w size o m n p u) s)
+        unfolding visitReading
+        visit-seen s h = rw (deep, add-one m, some, add-one u) (bind-is f _ _ i ifd ∙ bind-is f _ _ s h)
+
+module _ (w : Widths) (f : List ℕ) (size : ℕ) (o : Order) (d n p v : ℕ) where
+  pub children-none : n ≡ 0 → is (left v) ≡ run f (listVisit w size o d n p v)
+  unfolding childrenReading
+  children-none e = rw (e, run-answer)
+
+  module _ (m at : ℕ) (some : n ≡ m + 1) (offset : at ≡ numberOf o (part f p (w .word))) where
+    pub child-refused : (k e : ℕ) → refused k e ≡ run f (visitReading w size o d at v) → refused k e ≡ run f (listVisit w size o d n p v)
+    unfolding childrenReading
+    child-refused k e h = rw (some, add-one m) (simp (running, ← offset) (bind-refused f _ _ k e h))
+
+    pub child-is : (s : Walked) → is s ≡ run f (visitReading w size o d at v) → run f (listVisit w size o d n p v) ≡ run f (afterChild (λ u. listVisit w size o d m (p + w .word) u) s)
+    unfolding childrenReading
+    child-is s h = rw (some, add-one m) (simp (running, ← offset) (bind-is f _ _ s h))
+
+-- ---- the file
+
+-- the first four bytes of a list
+four : (l : List ℕ) → 4 ≤ length l → take 4 l ≡ getD l 0 0 ∷ getD l 1 0 ∷ getD l 2 0 ∷ getD l 3 0 ∷ []
+four [] h = absurd (omega arith)
+four (a ∷ []) h = absurd (omega arith)
+four (a ∷ b ∷ []) h = absurd (omega arith)
+four (a ∷ b ∷ c ∷ []) h = absurd (omega arith)
+four (a ∷ b ∷ c ∷ d ∷ l) h = refl
+
+pub start-is : (f m : List ℕ) → 4 ≤ length f → length m ≡ 4 →
+    (eqb (getD f 0 0) (getD m 0 0) && (eqb (getD f 1 0) (getD m 1 0) && (eqb (getD f 2 0) (getD m 2 0) && (eqb (getD f 3 0) (getD m 3 0) && true)))) ≡ sameBytes (take 4 f) m
+start-is f m h e = rw (four f h) (go m e)
+  where
+    go : (m : List ℕ) → length m ≡ 4 →
+        (eqb (getD f 0 0) (getD m 0 0) && (eqb (getD f 1 0) (getD m 1 0) && (eqb (getD f 2 0) (getD m 2 0) && (eqb (getD f 3 0) (getD m 3 0) && true))))
+        ≡ sameBytes (getD f 0 0 ∷ getD f 1 0 ∷ getD f 2 0 ∷ getD f 3 0 ∷ []) m
+    go [] q = absurd (omega arith)
+    go (a ∷ []) q = absurd (omega arith)
+    go (a ∷ b ∷ []) q = absurd (omega arith)
+    go (a ∷ b ∷ c ∷ []) q = absurd (omega arith)
+    go (a ∷ b ∷ c ∷ d ∷ []) q = refl
+    go (a ∷ b ∷ c ∷ d ∷ x ∷ l) q = absurd (omega arith)
+
+module _ (f : List ℕ) (size : ℕ) where
+  pub tree-small : size < 8 → refused 1 0 ≡ run f (treeReading size)
+  unfolding treeReading
+  tree-small h = simp (lt-ltb _ _ h, running)
+
+  module _ (s : 8 ≤ size) where
+    pub tree-large : 67108864 < size → refused 1 0 ≡ run f (treeReading size)
+    unfolding treeReading
+    tree-large h = simp (le-ltb _ _ s, lt-ltb _ _ h, running)
+
+    module _ (h : size ≤ 67108864) where
+      pub tree-little : sameBytes (take 4 f) littleMark ≡ true → (at : ℕ) → at ≡ numberOf Little (part f 4 4) → run f (treeReading size) ≡ run f (rootReading classic size Little at)
+      unfolding treeReading
+      tree-little e at q = simp (le-ltb _ _ s, le-ltb _ _ h, running, e, ← q)
+
+      module _ (n : sameBytes (take 4 f) littleMark ≡ false) where
+        pub tree-big : sameBytes (take 4 f) bigMark ≡ true → (at : ℕ) → at ≡ numberOf Big (part f 4 4) → run f (treeReading size) ≡ run f (rootReading classic size Big at)
+        unfolding treeReading
+        tree-big e at q = simp (le-ltb _ _ s, le-ltb _ _ h, running, n, e, ← q)
+
+        pub tree-neither : sameBytes (take 4 f) bigMark ≡ false → refused 2 0 ≡ run f (treeReading size)
+        unfolding treeReading
+        tree-neither e = simp (le-ltb _ _ s, le-ltb _ _ h, running, n, e)

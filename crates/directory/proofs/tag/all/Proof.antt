@@ -1,0 +1,60 @@
+use mathlib.Core.Path.{_≡_, refl, sym, ap, subst, _∙_}
+use Prim.Native.Nat.{ℕ, _+_, _-_, _*_, _≤_, _<_}
+use native.Mathlib.Omega.{arith}
+use denote.Ref.{now}
+use lib.ListN.{length}
+use Rattle.reading.specs.Reading.{run}
+use Rattle.directory.specs.Out.{numberOut, Out.is}
+use Rattle.directory.specs.Widths.{classic}
+use Rattle.directory.specs.Tag.{valuesOut, ValuesIn, Placed-values, valuesReading, Wide, oneReading, allReading}
+use Rattle.directory.proofs.Outs.{bind-refused, bind-is}
+use Rattle.directory.proofs.Tags.{wide}
+use Rattle.reading.proofs.Reading.{run-answer}
+use borrow.Author.Needs.{needs}
+use Rattle.directory.proofs.tag.all.Statement.{statement}
+use Rattle.directory.proofs.tag.all.Tie as tie
+
+look-up-requires : tie.Need-look-up-requires
+look-up-requires c κs = search needs
+
+enum-known-number : tie.Need-enum-known-number
+enum-known-number c = search needs
+
+returns : tie.Need-returns
+unfolding allReading
+returns c = (bind-refused _ _ _ _ _ (ap valuesOut (sym (c .before .number .given .1)) ∙ c .before .before .before .look-up .ensures .0), tt)
+
+enum-known-v : tie.Need-enum-known-v
+enum-known-v c = search needs
+
+-- the tag's values, and what holds of them
+given : (c : tie.After-known-told2) → is (c .before .v .given .0 .0) ≡ run (now (c .before .before .before .before .before .args .file)) (valuesReading classic (c .before .before .before .before .before .args .ifd) (c .before .before .before .before .before .args .rule))
+given c = ap valuesOut (sym (c .before .v .given .1)) ∙ c .before .before .before .look-up .ensures .0
+
+placed : (c : tie.After-known-told2) → Placed-values (length (now (c .before .before .before .before .before .args .file))) (c .before .before .before .before .before .args .rule) (c .before .v .given .0 .0)
+placed c = let a = c .before .before .before .before .before in subst (ValuesIn (length (now (a .args .file))) (a .args .rule)) (c .before .v .given .1) (c .before .before .before .look-up .ensures .1)
+
+each-requires : tie.Need-each-requires
+each-requires c κs = (placed c .inside, λ h. wide (c .before .before .before .before .before .args .rule .kinds) (c .before .before .before .before .before .pre .1) _ (placed c .sized h))
+
+enum-known-number-2 : tie.Need-enum-known-number-2
+enum-known-number-2 c = search needs
+
+enum-told : tie.Need-enum-told
+enum-told c = search needs
+
+returns-2 : tie.Need-returns-2
+unfolding allReading
+returns-2 c =
+    let e = ap numberOut (sym (c .before .number2 .given .1)) ∙ c .before .before .before .each .ensures in
+    (bind-refused _ _ _ _ _ e ∙ sym (bind-is _ _ _ _ (given (c .before .before .before .before))), tt)
+
+returns-3 : tie.Need-returns-3
+unfolding allReading
+returns-3 c =
+    let e = ap numberOut (sym (c .enum-told .given .1)) ∙ c .before .before .each .ensures in
+    let g = c .before .before .before in
+    (sym (bind-is _ _ _ _ (given g) ∙ bind-is _ _ _ _ e ∙ run-answer _ _), placed g)
+
+pub all-spec : {M : Type 1} → statement M
+all-spec = tie.close (tie.spec look-up-requires enum-known-number returns enum-known-v each-requires enum-known-number-2 enum-told returns-2 returns-3)

@@ -1,0 +1,62 @@
+use mathlib.Core.Path.{_≡_, refl, sym, ap, subst, _∙_}
+use Prim.Native.Nat.{ℕ, _+_, _-_, _*_, _≤_, _<_}
+use native.Mathlib.Omega.{arith}
+use denote.Ref.{now}
+use lib.ListN.{length}
+use Rattle.reading.specs.Reading.{run}
+use Rattle.directory.specs.Out.{numberOut, Out.is}
+use Rattle.directory.specs.Widths.{classic}
+use Rattle.directory.specs.Tag.{valuesOut, ValuesIn, Placed-values, valuesReading, Wide, oneReading, allReading}
+use Rattle.directory.proofs.Outs.{bind-refused, bind-is}
+use Rattle.directory.proofs.Tags.{room, wide, first-default, first-is}
+use borrow.Author.Needs.{needs}
+use Rattle.directory.proofs.tag.one.Statement.{statement}
+use Rattle.directory.proofs.tag.one.Tie as tie
+
+look-up-requires : tie.Need-look-up-requires
+look-up-requires c κs = search needs
+
+enum-known-number : tie.Need-enum-known-number
+enum-known-number c = search needs
+
+returns : tie.Need-returns
+unfolding oneReading
+returns c = (bind-refused _ _ _ _ _ (ap valuesOut (sym (c .before .number .given .1)) ∙ c .before .before .before .look-up .ensures .0), tt)
+
+enum-known-v : tie.Need-enum-known-v
+enum-known-v c = search needs
+
+-- the tag's values, and what holds of them
+given : (c : tie.After-known-told2) → is (c .before .v .given .0 .0) ≡ run (now (c .before .before .before .before .before .args .file)) (valuesReading classic (c .before .before .before .before .before .args .ifd) (c .before .before .before .before .before .args .rule))
+given c = ap valuesOut (sym (c .before .v .given .1)) ∙ c .before .before .before .look-up .ensures .0
+
+placed : (c : tie.After-known-told2) → Placed-values (length (now (c .before .before .before .before .before .args .file))) (c .before .before .before .before .before .args .rule) (c .before .v .given .0 .0)
+placed c = let a = c .before .before .before .before .before in subst (ValuesIn (length (now (a .args .file))) (a .args .rule)) (c .before .v .given .1) (c .before .before .before .look-up .ensures .1)
+
+judged-requires : tie.Need-judged-requires
+judged-requires c κs = search needs
+
+returns-2 : tie.Need-returns-2
+unfolding oneReading
+returns-2 c =
+    let g = c .before .before in
+    (c .judged .ensures .0 ∙ first-default _ _ _ _ _ _ (c .before .if1 .taken) ∙ sym (bind-is _ _ _ _ (given g)), c .judged .ensures .1)
+
+value-requires : tie.Need-value-requires
+value-requires c κs =
+    let v = c .before .before .v .given .0 .0 in
+    let s : 0 < v .count = omega arith in
+    let q = placed (c .before) in
+    (room (v .place) (v .size) (v .count) (v .count - 1) _ (omega arith) (q .inside) .0, wide (c .before .before .before .before .before .before .args .rule .kinds) (c .before .before .before .before .before .before .pre .1) _ (q .sized s))
+
+judged-requires-2 : tie.Need-judged-requires-2
+judged-requires-2 c κs = search needs
+
+returns-3 : tie.Need-returns-3
+unfolding oneReading
+returns-3 c =
+    let g = c .before .before .before in
+    (c .judged2 .ensures .0 ∙ first-is _ _ _ _ _ _ (c .before .before .if1 .left) _ (c .before .value .ensures .0) ∙ sym (bind-is _ _ _ _ (given g)), c .judged2 .ensures .1)
+
+pub one-spec : {M : Type 1} → statement M
+one-spec = tie.close (tie.spec look-up-requires enum-known-number returns enum-known-v judged-requires returns-2 value-requires judged-requires-2 returns-3)

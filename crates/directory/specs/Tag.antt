@@ -1,0 +1,208 @@
+-- One tag of a directory: "presence (5), type and count (4), then each value in stored order: legal (4), then carried (8)".
+use mathlib.Core.Path.{_≡_}
+use mathlib.Core.List.{List, [], _∷_}
+use mathlib.Core.Bool.{Bool, true, false}
+use mathlib.Core.Logic.{_⊎_}
+use Prim.Native.Nat.{ℕ, zero, suc, _+_, _*_, _≤_, _<_}
+use lib.Dec.{ltb, leb, eqb}
+use lib.ListN.{length}
+use mir.Val.{hasKey}
+use Rattle.reading.specs.Bytes.{part}
+use Rattle.reading.specs.Number.{numberOf}
+use Rattle.reading.specs.Reading.{Reading, Reading.answer, Reading.ask, andThen, pick, numberAt}
+use Rattle.reading.specs.declared.number.Order.{Order}
+use Rattle.directory.specs.Out.{Out, Out.refused, Out.is, bind}
+use Rattle.directory.specs.Widths.{Widths, headWidth, entryWidth}
+use Rattle.directory.specs.Entry.{codeOf, sizeOf, bytesOf, headerOf}
+use Rattle.directory.specs.declared.Ifd.{Ifd}
+use Rattle.directory.specs.declared.Number.{Number}
+use Rattle.directory.specs.declared.Number.the-variants as number
+use Rattle.directory.specs.declared.entry.Kind.{Kind}
+use Rattle.directory.specs.declared.entry.Entry.{Entry}
+use Rattle.directory.specs.declared.tag.Found.{Found}
+use Rattle.directory.specs.declared.tag.Found.the-variants as found
+use Rattle.directory.specs.declared.tag.Kinds.{Kinds}
+use Rattle.directory.specs.declared.tag.Kinds.the-variants as kinds
+use Rattle.directory.specs.declared.tag.Rule.{Rule}
+use Rattle.directory.specs.declared.tag.Range.{Range}
+use Rattle.directory.specs.declared.tag.Values.{Values}
+use Rattle.directory.specs.declared.tag.Given.{Given}
+use Rattle.directory.specs.declared.tag.Given.the-variants as given
+
+-- ---- finding a tag
+
+-- the first of so many entries with a tag, and the place of its value or offset; its bytes before that are read
+unfoldable pub findFrom : Widths → Order → ℕ → ℕ → ℕ → Reading Found
+findFrom w o zero at tag = answer found.Absent
+findFrom w o (suc n) at tag =
+    ask at (headWidth w) (λ bs.
+    pick (eqb (headerOf w o bs .tag) tag) (answer (found.At (at + headWidth w) (headerOf w o bs))) (findFrom w o n (at + entryWidth w) tag))
+
+abbrev pub foundReading : Widths → Ifd → ℕ → Reading Found
+foundReading w d tag = findFrom w (d .order) (d .count) (d .at) tag
+
+-- ---- type and count
+
+-- the types that a tag may have, by their numbers
+abbrev pub codesOf : Kinds → List ℕ
+codesOf kinds.Byte = 1 ∷ []
+codesOf kinds.Short = 3 ∷ []
+codesOf kinds.Long = 4 ∷ []
+codesOf kinds.ShortOrLong = 3 ∷ 4 ∷ []
+codesOf kinds.LongOrIfd = 4 ∷ 13 ∷ []
+codesOf kinds.ShortOrRational = 3 ∷ 5 ∷ []
+codesOf kinds.ShortLongOrRational = 3 ∷ 4 ∷ 5 ∷ []
+codesOf kinds.SignedRational = 10 ∷ []
+codesOf kinds.Undefined = 7 ∷ []
+
+abbrev pub allowsOf : Kinds → Kind → Bool
+allowsOf ks k = hasKey (codesOf ks) (codeOf k)
+
+-- where the values of an entry stand, how wide each is, and how many there are; none of an absent tag
+abbrev pub valuesAt : ℕ → Entry → Values
+valuesAt p e = record { place = p; size = sizeOf (e .kind); count = e .count }
+
+abbrev pub noValues : Values
+noValues = record { place = 0; size = 0; count = 0 }
+
+abbrev pub valuesOut : Given → Out Values
+valuesOut (given.Refused n d) = refused n d
+valuesOut (given.Is v) = is v
+
+-- the value of a tag that is tested is read, whole
+unfoldable pub wholeReading : ℕ → Entry → Reading (Out Values)
+wholeReading p e = ask p (bytesOf e) (λ _. answer (is (valuesAt p e)))
+
+-- a value that fits stands in the entry, any other where the offset says
+unfoldable pub valueReading : Widths → Order → ℕ → Entry → Reading (Out Values)
+valueReading w o p e = pick (leb (bytesOf e) (w .word)) (wholeReading p e) (andThen (numberAt o p (w .word)) (λ q. wholeReading q e))
+
+-- a tag that is there: its type and count (4), and its value
+unfoldable pub testedReading : Widths → Order → Rule → ℕ → Entry → Reading (Out Values)
+testedReading w o r p e =
+    pick (allowsOf (r .kinds) (e .kind))
+    (pick (leb (r .least) (e .count)) (pick (leb (e .count) (r .most)) (valueReading w o p e) (answer (refused 4 (r .tag)))) (answer (refused 4 (r .tag))))
+    (answer (refused 4 (r .tag)))
+
+-- an absent tag: 5 where it is required
+unfoldable pub absentOf : Rule → Out Values
+absentOf r = pick (r .required) (refused 5 (r .tag)) (is noValues)
+
+abbrev pub valuesFound : Widths → Order → Rule → Found → Reading (Out Values)
+valuesFound w o r found.Absent = answer (absentOf r)
+valuesFound w o r (found.At p e) = testedReading w o r p e
+
+-- a tag of a directory: presence, type and count
+unfoldable pub valuesReading : Widths → Ifd → Rule → Reading (Out Values)
+valuesReading w d r = andThen (foundReading w d (r .tag)) (valuesFound w (d .order) r)
+
+abbrev pub ifAbsent : ℕ → Found → Reading (Out ℕ)
+ifAbsent tag found.Absent = answer (is 0)
+ifAbsent tag (found.At p e) = answer (refused 8 tag)
+
+-- "if present with any type, not carried"
+unfoldable pub notCarried : Widths → Ifd → ℕ → Reading (Out ℕ)
+notCarried w d tag = andThen (foundReading w d tag) (ifAbsent tag)
+
+-- ---- value by value
+
+-- the refusal of a number by its range, or 0: legal (4), then carried (8)
+unfoldable pub faultOf : Range → ℕ → ℕ
+faultOf r v = pick (ltb v (r .legal)) 4 (pick (ltb v (r .from)) 8 (pick (ltb (r .to) v) 8 0))
+
+unfoldable pub judgedOf : ℕ → Range → ℕ → Out ℕ
+judgedOf tag r v = pick (eqb (faultOf r v) 0) (is v) (refused (faultOf r v) tag)
+
+-- the first of a tag's numbers, or the default, which is judged like a value
+unfoldable pub firstReading : Order → ℕ → ℕ → Range → Values → Reading (Out ℕ)
+firstReading o tag default r v =
+    pick (eqb (v .count) 0) (answer (judgedOf tag r default)) (andThen (numberAt o (v .place) (v .size)) (λ n. answer (judgedOf tag r n)))
+
+-- a tag that holds one number
+unfoldable pub oneReading : Widths → Ifd → Rule → ℕ → Range → Reading (Out ℕ)
+oneReading w d r default range = bind (valuesReading w d r) (firstReading (d .order) (r .tag) default range)
+
+-- so many numbers from a place on, in stored order
+unfoldable pub eachReading : Order → ℕ → ℕ → Range → ℕ → ℕ → Reading (Out ℕ)
+eachReading o size tag r zero p = answer (is 0)
+eachReading o size tag r (suc n) p =
+    bind (andThen (numberAt o p size) (λ v. answer (judgedOf tag r v))) (λ _. eachReading o size tag r n (p + size))
+
+-- a tag whose numbers must all be in a range
+unfoldable pub allReading : Widths → Ifd → Rule → Range → Reading (Out Values)
+allReading w d r range =
+    bind (valuesReading w d r) (λ v. bind (eachReading (d .order) (v .size) (r .tag) range (v .count) (v .place)) (λ _. answer (is v)))
+
+-- ---- rules
+
+abbrev pub rule : Bool → ℕ → Kinds → ℕ → ℕ → Rule
+rule must tag ks least most = record { tag = tag; kinds = ks; required = must; least = least; most = most }
+
+-- exactly n values
+abbrev pub required : ℕ → Kinds → ℕ → Rule
+required tag ks n = rule true tag ks n n
+
+abbrev pub optional : ℕ → Kinds → ℕ → Rule
+optional tag ks n = rule false tag ks n n
+
+-- at least legal, else 4; from one number to another, else 8
+abbrev pub range : ℕ → ℕ → ℕ → Range
+range legal from to = record { legal = legal; from = from; to = to }
+
+-- ---- what holds of a found entry, and of an accepted tag
+
+-- the value or offset of an entry that was found lies in the file
+abbrev pub FoundIn : ℕ → Found → Type 0
+FoundIn size found.Absent = Unit {0}
+FoundIn size (found.At p e) = (p + 4 ≤ size) × (e .count < 0x1_0000_0000)
+
+-- and so does a value that stands elsewhere
+unfoldable pub Placed : Widths → List ℕ → Order → ℕ → Entry → Type 0
+Placed w f o p e = w .word < bytesOf e → numberOf o (part f p (w .word)) + bytesOf e ≤ length f
+
+-- SHORT or LONG
+abbrev pub Wide : ℕ → Type 0
+Wide s = (s ≡ 2) ⊎ (s ≡ 4)
+
+abbrev pub SizeIn : Kinds → ℕ → Type 0
+SizeIn kinds.Byte s = s ≡ 1
+SizeIn kinds.Short s = s ≡ 2
+SizeIn kinds.Long s = s ≡ 4
+SizeIn kinds.ShortOrLong s = Wide s
+SizeIn kinds.LongOrIfd s = s ≡ 4
+SizeIn kinds.ShortOrRational s = (s ≡ 2) ⊎ (s ≡ 8)
+SizeIn kinds.ShortLongOrRational s = (s ≡ 2) ⊎ ((s ≡ 4) ⊎ (s ≡ 8))
+SizeIn kinds.SignedRational s = s ≡ 8
+SizeIn kinds.Undefined s = s ≡ 1
+
+-- the types that are numbers
+abbrev pub Numeric : Kinds → Type 0
+Numeric kinds.Byte = ⊥
+Numeric kinds.Short = Unit {0}
+Numeric kinds.Long = Unit {0}
+Numeric kinds.ShortOrLong = Unit {0}
+Numeric kinds.LongOrIfd = Unit {0}
+Numeric kinds.ShortOrRational = ⊥
+Numeric kinds.ShortLongOrRational = ⊥
+Numeric kinds.SignedRational = ⊥
+Numeric kinds.Undefined = ⊥
+
+pub record Placed-values (size : ℕ) (r : Rule) (v : Values) : Type 0 where
+  pub inside : v .place + v .size * v .count ≤ size
+  pub sized : 0 < v .count → SizeIn (r .kinds) (v .size)
+  pub enough : 0 < v .count → r .least ≤ v .count
+  pub within : v .count ≤ r .most
+  pub present : r .required ≡ true → r .least ≤ v .count
+
+abbrev pub ValuesIn : ℕ → Rule → Given → Type 0
+ValuesIn size r (given.Refused n d) = Unit {0}
+ValuesIn size r (given.Is v) = Placed-values size r v
+
+pub record InRange (r : Range) (v : ℕ) : Type 0 where
+  pub legal : r .legal ≤ v
+  pub from : r .from ≤ v
+  pub to : v ≤ r .to
+
+abbrev pub NumberIn : Range → Number → Type 0
+NumberIn r (number.Refused n d) = Unit {0}
+NumberIn r (number.Is v) = InRange r v

@@ -1,0 +1,288 @@
+// One tag of a directory: presence (5), type and count (4), then each value: legal (4), carried (8).
+ghost use mathlib.Core.Path.{_≡_};
+ghost use Prim.Native.Nat.{ℕ, _+_, _*_, _≤_, _<_};
+ghost use lib.ListN.{length};
+ghost use Rattle.reading.specs.Bytes.{part};
+ghost use Rattle.reading.specs.Number.{numberOf};
+ghost use Rattle.reading.specs.Reading.{run};
+ghost use Rattle.directory.specs.Out.{numberOut};
+ghost use Rattle.directory.specs.Widths.{classic};
+ghost use Rattle.directory.specs.Shape.{Tested};
+ghost use Rattle.directory.specs.Tag.{findFrom, FoundIn, Placed, allowsOf, valuesOut, absentOf, testedReading, valuesReading, notCarried, ValuesIn, faultOf, Wide, eachReading, oneReading, NumberIn, InRange, Numeric, judgedOf, allReading};
+use crate::Ifd;
+use crate::Number;
+use crate::entry;
+use crate::entry::Entry;
+use crate::entry::Kind;
+use reading::number;
+use reading::number::Order;
+
+// A tag's entry and the place of its value or offset.
+pub enum Found {
+    At { place: usize, entry: Entry },
+    Absent,
+}
+
+// The types that a tag may have.
+pub enum Kinds {
+    Byte,
+    Short,
+    Long,
+    ShortOrLong,
+    LongOrIfd,
+    ShortOrRational,
+    ShortLongOrRational,
+    SignedRational,
+    Undefined,
+}
+
+// What is asked of a tag before its values are looked at.
+pub struct Rule {
+    pub tag: usize,
+    pub kinds: Kinds,
+    pub required: bool,
+    pub least: usize,
+    pub most: usize,
+}
+
+// Where the values of a tag stand, the bytes of one, and how many there are; none where the tag is absent.
+pub struct Values {
+    pub place: usize,
+    pub size: usize,
+    pub count: usize,
+}
+
+pub enum Given {
+    Refused { number: usize, detail: usize },
+    Is(Values),
+}
+
+// What a number must be: at least legal, else 4; from one number to another, else 8.
+pub struct Range {
+    pub legal: usize,
+    pub from: usize,
+    pub to: usize,
+}
+
+// The first of so many entries with a tag.
+fn find(file: &[u8], order: Order, count: usize, at: usize, tag: usize) -> Found
+    requires { ⌜ at + 12 * count ≤ length (now file) ⌝ }
+    ensures { λ r. ⌜ (r ≡ run (now (file .entry)) (findFrom classic order count at tag)) × FoundIn (length (now (file .entry))) r ⌝ }
+{
+    let mut left = count;
+    let mut p = at;
+    while 0 < left {
+        let e = entry::header(&file[p..p + 8], order);
+        if e.tag == tag {
+            return Found::At {
+                place: p + 8,
+                entry: e,
+            };
+        }
+        p += 12;
+        left -= 1;
+    }
+    Found::Absent
+}
+
+fn allows(kinds: Kinds, kind: Kind) -> bool
+    ensures { λ r. ⌜ r ≡ allowsOf kinds kind ⌝ }
+{
+    let t = entry::code(kind);
+    match kinds {
+        Kinds::Byte => t == 1,
+        Kinds::Short => t == 3,
+        Kinds::Long => t == 4,
+        Kinds::ShortOrLong => t == 3 || t == 4,
+        Kinds::LongOrIfd => t == 4 || t == 13,
+        Kinds::ShortOrRational => t == 3 || t == 5,
+        Kinds::ShortLongOrRational => if t == 3 { true } else { t == 4 || t == 5 },
+        Kinds::SignedRational => t == 10,
+        Kinds::Undefined => t == 7,
+    }
+}
+
+fn absent(rule: Rule) -> Given
+    ensures { λ r. ⌜ (valuesOut r ≡ absentOf rule) × ((size : ℕ) → ValuesIn size rule r) ⌝ }
+{
+    if rule.required {
+        Given::Refused {
+            number: 5,
+            detail: rule.tag,
+        }
+    } else {
+        Given::Is(Values {
+            place: 0,
+            size: 0,
+            count: 0,
+        })
+    }
+}
+
+// The entry of a tag, whose value or offset stands at a place.
+fn tested(file: &[u8], order: Order, rule: Rule, place: usize, entry: Entry) -> Given
+    requires { ⌜ (place + 4 ≤ length (now file)) × (entry .count < 4294967296) ⌝ }
+    requires { ⌜ Placed classic (now file) order place entry ⌝ }
+    ensures { λ r. ⌜ (valuesOut r ≡ run (now (file .entry)) (testedReading classic order rule place entry)) × ValuesIn (length (now (file .entry))) rule r ⌝ }
+{
+    let kind = entry.kind;
+    let count = entry.count;
+    let kinds = rule.kinds;
+    let detail = rule.tag;
+    let ok = allows(kinds, kind);
+    if ok {
+        if count < rule.least {
+            return Given::Refused { number: 4, detail };
+        }
+        if rule.most < count {
+            return Given::Refused { number: 4, detail };
+        }
+        let size = entry::size(kind);
+        if entry::value_bytes(kind, count) <= 4 {
+            Given::Is(Values { place, size, count })
+        } else {
+            Given::Is(Values {
+                place: number::long(file, order, place) as usize,
+                size,
+                count,
+            })
+        }
+    } else {
+        Given::Refused { number: 4, detail }
+    }
+}
+
+// A tag by its rule.
+pub fn look_up(file: &[u8], ifd: Ifd, rule: Rule) -> Given
+    requires { ⌜ Tested (now file) ifd ⌝ }
+    ensures { λ r. ⌜ (valuesOut r ≡ run (now (file .entry)) (valuesReading classic ifd rule)) × ValuesIn (length (now (file .entry))) rule r ⌝ }
+{
+    let order = ifd.order;
+    let found = find(file, order, ifd.count, ifd.at, rule.tag);
+    match found {
+        Found::Absent => absent(rule),
+        Found::At { place, entry } => tested(file, order, rule, place, entry),
+    }
+}
+
+// A tag that must not be there.
+pub fn not_carried(file: &[u8], ifd: Ifd, tag: usize) -> Number
+    requires { ⌜ Tested (now file) ifd ⌝ }
+    ensures { λ r. ⌜ numberOut r ≡ run (now (file .entry)) (notCarried classic ifd tag) ⌝ }
+{
+    let order = ifd.order;
+    let found = find(file, order, ifd.count, ifd.at, tag);
+    match found {
+        Found::Absent => Number::Is(0),
+        Found::At { place: _, entry: _ } => Number::Refused {
+            number: 8,
+            detail: tag,
+        },
+    }
+}
+
+// The refusal of a number, or 0.
+fn fault(range: Range, v: usize) -> usize
+    ensures { λ r. ⌜ (r ≡ faultOf range v) × (r ≡ 0 → InRange range v) ⌝ }
+{
+    if v < range.legal {
+        return 4;
+    }
+    if v < range.from {
+        return 8;
+    }
+    if range.to < v { 8 } else { 0 }
+}
+
+// A number that must be in a range.
+pub fn judged(tag: usize, range: Range, v: usize) -> Number
+    ensures { λ r. ⌜ (numberOut r ≡ judgedOf tag range v) × NumberIn range r ⌝ }
+{
+    let number = fault(range, v);
+    if number == 0 {
+        Number::Is(v)
+    } else {
+        Number::Refused {
+            number,
+            detail: tag,
+        }
+    }
+}
+
+// A SHORT or a LONG.
+pub fn value(file: &[u8], order: Order, size: usize, place: usize) -> usize
+    requires { ⌜ (place + size ≤ length (now file)) × Wide size ⌝ }
+    ensures { λ r. ⌜ (r ≡ numberOf order (part (now (file .entry)) place size)) × (r < 4294967296) ⌝ }
+{
+    if size == 2 {
+        number::short(file, order, place) as usize
+    } else {
+        number::long(file, order, place) as usize
+    }
+}
+
+// So many numbers from a place on, each in a range.
+pub fn each(
+    file: &[u8],
+    order: Order,
+    size: usize,
+    tag: usize,
+    range: Range,
+    count: usize,
+    place: usize,
+) -> Number
+    requires { ⌜ (place + size * count ≤ length (now file)) × (0 < count → Wide size) ⌝ }
+    ensures { λ r. ⌜ numberOut r ≡ run (now (file .entry)) (eachReading order size tag range count place) ⌝ }
+{
+    let mut left = count;
+    let mut p = place;
+    while 0 < left {
+        match judged(tag, range, value(file, order, size, p)) {
+            Number::Refused { number, detail } => return Number::Refused { number, detail },
+            Number::Is(_) => {}
+        }
+        p += size;
+        left -= 1;
+    }
+    Number::Is(0)
+}
+
+// A tag that holds one number, or its default.
+pub fn one(file: &[u8], ifd: Ifd, rule: Rule, default: usize, range: Range) -> Number
+    requires { ⌜ Tested (now file) ifd ⌝ }
+    requires { ⌜ Numeric (rule .kinds) ⌝ }
+    ensures { λ r. ⌜ (numberOut r ≡ run (now (file .entry)) (oneReading classic ifd rule default range)) × NumberIn range r ⌝ }
+{
+    let v = match look_up(file, ifd, rule) {
+        Given::Refused { number, detail } => return Number::Refused { number, detail },
+        Given::Is(v) => v,
+    };
+    let count = v.count;
+    if count == 0 {
+        return judged(rule.tag, range, default);
+    }
+    let size = v.size;
+    let place = v.place;
+    let order = ifd.order;
+    judged(rule.tag, range, value(file, order, size, place))
+}
+
+// A tag whose numbers must all be in a range.
+pub fn all(file: &[u8], ifd: Ifd, rule: Rule, range: Range) -> Given
+    requires { ⌜ Tested (now file) ifd ⌝ }
+    requires { ⌜ Numeric (rule .kinds) ⌝ }
+    ensures { λ r. ⌜ (valuesOut r ≡ run (now (file .entry)) (allReading classic ifd rule range)) × ValuesIn (length (now (file .entry))) rule r ⌝ }
+{
+    let v = match look_up(file, ifd, rule) {
+        Given::Refused { number, detail } => return Given::Refused { number, detail },
+        Given::Is(v) => v,
+    };
+    let size = v.size;
+    let place = v.place;
+    let count = v.count;
+    let order = ifd.order;
+    match each(file, order, size, rule.tag, range, count, place) {
+        Number::Refused { number, detail } => Given::Refused { number, detail },
+        Number::Is(_) => Given::Is(v),
+    }
+}
