@@ -77,4 +77,4 @@ module _ (w : Widths) (f : List ℕ) (size : ℕ) (o : Order) (at : ℕ) where
 
         pub ifd-is : (t : ℕ) → is t ≡ run f (shapeFrom w size o n (at + w .entries) 0) → is (ifd o n (at + w .entries)) ≡ run f (ifdReading w size o at)
         unfolding ifdReading
-        ifd-is t e = simp (le-leb _ _ inside, running, ← count, lt-ltb _ _ some, le-leb _ _ room) (sym (bind-is f _ _ t e ∙ run-answer f _))
+        ifd-is t e = simp (le-leb _ _ inside, running, ← count, lt-ltb _ _ some, le-leb _ _ room) (sym (bind-is f _ _ t e ∙ simp running))
