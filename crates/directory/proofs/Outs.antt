@@ -1,8 +1,9 @@
 -- Laws of `bind`.
 -- Assumes nothing.
-use mathlib.Core.Path.{_≡_, sym, ap, _∙_}
+use mathlib.Core.Path.{_≡_, refl, sym, _∙_}
 use mathlib.Core.List.{List}
 use Prim.Native.Nat.{ℕ}
+use native.Mathlib.Omega.{arith}
 use Rattle.reading.specs.Reading.{Reading, Reading.answer, run}
 use Rattle.reading.proofs.Reading.{run-answer, run-then}
 use Rattle.directory.specs.Out.{Out, Out.refused, Out.is, onward, bind}
@@ -19,3 +20,12 @@ module _ {A B : Type 0} (f : List ℕ) (p : Reading (Out A)) (k : A → Reading 
   -- the last step of a chain
   pub bind-last : (a : A) (b : Out B) → is a ≡ run f p → b ≡ run f (k a) → b ≡ run f (bind p k)
   bind-last a b e h = h ∙ sym (bind-is a e)
+
+-- a value came from a value
+pub bind-inverse : {A B : Type 0} (f : List ℕ) (p : Reading (Out A)) (k : A → Reading (Out B)) (b : B) → is b ≡ run f (bind p k) →
+    (a : A) × (is a ≡ run f p) × (is b ≡ run f (k a))
+bind-inverse {A} {B} f p k b e = go (run f p) refl
+  where
+    go : (r : Out A) → r ≡ run f p → (a : A) × (is a ≡ run f p) × (is b ≡ run f (k a))
+    go (refused n d) q = absurd (let c : is b ≡ refused n d = e ∙ sym (bind-refused f p k n d q) in let z : _≡_ {A = ℕ} 0 1 = cc in omega arith)
+    go (is a) q = (a, q, e ∙ bind-is f p k a q)

@@ -21,7 +21,7 @@ use Rattle.directory.specs.Out.{Out, Out.refused, Out.is}
 use Rattle.directory.specs.Widths.{Widths, headWidth, entryWidth}
 use Rattle.directory.specs.Entry.{codeOf, sizes, sizeOf, bytesOf, headerOf}
 use Rattle.directory.specs.Shape.{entryReading, shapeFrom}
-use Rattle.directory.specs.Tag.{findFrom, foundReading, codesOf, allowsOf, valuesAt, noValues, wholeReading, valueReading, testedReading, valuesFound, valuesReading, Placed, Wide, SizeIn, Numeric, Placed-values, required, faultOf, judgedOf, firstReading, oneReading, eachReading, InRange, NumberIn}
+use Rattle.directory.specs.Tag.{findFrom, foundReading, codesOf, allowsOf, valuesAt, noValues, wholeReading, valueReading, testedReading, valuesFound, valuesReading, Placed, Wide, SizeIn, Numeric, Placed-values, required, optional, faultOf, judgedOf, firstReading, oneReading, eachReading, InRange, NumberIn}
 use Rattle.directory.specs.declared.Ifd.{Ifd}
 use Rattle.directory.specs.declared.Number.{Number}
 use Rattle.directory.specs.declared.Number.the-variants as number
@@ -268,3 +268,13 @@ module _ (f : List ℕ) (o : Order) (tag default : ℕ) (r : Range) (v : Values)
 pub widen : (a b : Range) → ((v : ℕ) → InRange a v → InRange b v) → (n : Number) → NumberIn a n → NumberIn b n
 widen a b h (number.Refused n d) i = tt
 widen a b h (number.Is v) i = h v i
+
+-- a tag that is there has as many values as its rule says
+pub counted : {size : ℕ} (tag : ℕ) (ks : Kinds) (n : ℕ) {v : Values} → Placed-values size (optional tag ks n) v → (v .count ≡ 0 → ⊥) →
+    (v .place + v .size * n ≤ size) × SizeIn ks (v .size)
+counted tag ks n {v} q e =
+    let z : 0 < v .count = omega arith in
+    let l = q .enough z in
+    let m = q .within in
+    let c : v .count ≡ n = omega arith in
+    (rw c at (q .inside), q .sized z)

@@ -98,7 +98,7 @@ pub fn greatest(
     step: usize,
     count: usize,
 ) -> Black
-    requires { ⌜ ((i : ℕ) → i < count → at + step * i + widthOf kind ≤ length (now s)) × (step ≤ 65536) ⌝ }
+    requires { ⌜ ((i : ℕ) → i < count → at + step * i + widthOf kind ≤ length (now s)) × (0 < count → step ≤ 65536) ⌝ }
     ensures { λ r. ⌜ r ≡ greatestOf (runOf (blackAt kind order (now (s .entry))) step at count) ⌝ }
 {
     if count == 0 {

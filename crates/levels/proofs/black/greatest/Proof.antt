@@ -36,7 +36,7 @@ black-at-requires : tie.Need-black-at-requires Inv-loop μ-loop
 black-at-requires c κs = first c .1
 
 add-p : tie.Need-add-p Inv-loop μ-loop
-add-p c = omega (arith, first (c .before) .1, c .before .before .before .pre .1)
+add-p c = omega (arith, first (c .before) .1, c .before .before .before .pre .1 (first (c .before) .0))
 
 loop-holds : tie.Need-loop-holds Inv-loop μ-loop
 loop-holds c =
@@ -59,7 +59,8 @@ add-p-2 : tie.Need-add-p-2 Inv-loop μ-loop
 add-p-2 c =
     let l = c .before .before .before .loop in
     let a = c .before .before .before .before .before .before .before in
-    omega (arith, a .pre .0 (l .i) (c .before .before .loop-test .taken), a .pre .1, l .inv .1, a .good)
+    let some : 0 < a .args .count = omega (arith, c .before .before .loop-test .taken) in
+    omega (arith, a .pre .0 (l .i) (c .before .before .loop-test .taken), a .pre .1 some, l .inv .1, a .good)
 
 add-i : tie.Need-add-i Inv-loop μ-loop
 add-i c = search needs

@@ -1,0 +1,98 @@
+-- The tests of the black levels and the white levels.
+-- Assumes nothing.
+use mathlib.Core.Path.{_≡_, refl, sym, ap, subst, _∙_}
+use mathlib.Core.List.{List}
+use mathlib.Core.Logic.{⊎-elim}
+use Prim.Native.Nat.{ℕ, suc, _+_, _*_, _-_, _≤_, _<_}
+use native.Mathlib.Nat.{mul-le-mul, mul-le-mul-left, mul-suc}
+use native.Mathlib.Omega.{arith}
+use lib.ListN.{length}
+use Rattle.reading.specs.Bytes.{part}
+use Rattle.reading.specs.Fraction.{widthOf, fractionOf}
+use Rattle.reading.specs.Number.{numberOf}
+use Rattle.reading.specs.Reading.{run, pick}
+use Rattle.reading.specs.declared.number.Order.{Order}
+use Rattle.reading.specs.declared.fraction.FractionKind.{FractionKind}
+use Rattle.reading.specs.declared.fraction.FractionKind.the-variants as kind
+use Rattle.reading.proofs.Bytes.{part-part}
+use Rattle.reading.proofs.Reading.{running, run-answer}
+use Rattle.directory.specs.Out.{Out, Out.refused, Out.is}
+use Rattle.directory.specs.Widths.{Widths}
+use Rattle.directory.specs.Tag.{SizeIn, valuesOut, ValuesIn, range, allReading}
+use Rattle.directory.specs.declared.Ifd.{Ifd}
+use Rattle.directory.specs.declared.tag.Kinds.the-variants as kinds
+use Rattle.directory.specs.declared.tag.Values.{Values}
+use Rattle.directory.specs.declared.tag.Given.{Given}
+use Rattle.directory.specs.declared.tag.Given.the-variants as given
+use Rattle.directory.proofs.Outs.{bind-inverse}
+use Rattle.levels.specs.Run.{runOf}
+use Rattle.levels.specs.Black.{blackOf, blackAt, partsOf, greatestOf}
+use Rattle.levels.specs.declared.black.Black.{Black}
+use Rattle.levels.specs.declared.black.Black.the-variants.{Parts, Illegal}
+use Rattle.levels.proofs.Runs.{run-same, run-at, length-run}
+use Rattle.levels.proofs.Greatest.{greatest-carried}
+use Rattle.raw.specs.Black.{kindFor, blackOut, blacksTest, CarriedRun}
+use Rattle.raw.specs.White.{whiteReading, whiteRule, WhitesIn}
+use Rattle.raw.proofs.Ranges.{each-to}
+
+-- the bytes of the type
+pub width-for : (s : ℕ) → SizeIn kinds.ShortLongOrRational s → s ≡ widthOf (kindFor s)
+unfolding kindFor pick
+width-for s h = ⊎-elim (λ e. rw e) (λ h′. ⊎-elim (λ e. rw e) (λ e. rw e) h′) h
+
+pub width-most : (k : FractionKind) → widthOf k ≤ 8
+width-most kind.Short = omega arith
+width-most kind.Long = omega arith
+width-most kind.Rational = omega arith
+width-most kind.SignedRational = omega arith
+
+pub cells-fit : (r c s : ℕ) → r ≤ 8 → c ≤ 8 → s ≤ 3 → r * c * s ≤ 192
+cells-fit r c s a b d = mul-le-mul (mul-le-mul a b) d
+
+pub pair-fits : (r c : ℕ) → r ≤ 8 → c ≤ 8 → r * c ≤ 64
+pair-fits r c a b = mul-le-mul a b
+
+-- the i-th of n values of a size
+pub within : (size n i : ℕ) → i < n → size * i + size ≤ size * n
+within size n i h = omega (arith, mul-suc size i, mul-le-mul-left size h)
+
+module _ (f : List ℕ) (o : Order) (k : FractionKind) (size n p : ℕ) (sized : 0 < n → size ≡ widthOf k) where
+  -- a tag's values are the same in its bytes and in the file
+  same-run : runOf (blackAt k o (part f p (size * n))) size 0 n ≡ runOf (blackAt k o f) size p n
+  unfolding blackAt
+  same-run = run-same (blackAt k o (part f p (size * n))) (blackAt k o f) size 0 p n
+      (λ i h.
+      let e : size ≡ widthOf k = sized (omega arith) in
+      let b : 0 + size * i + widthOf k ≤ size * n = omega (arith, within size n i h) in
+      let g : p + (0 + size * i) ≡ p + size * i = omega arith in
+      ap (λ (bs : List ℕ). blackOf (fractionOf k o bs)) (part-part f p (size * n) (0 + size * i) (widthOf k) b ∙ ap (λ (q : ℕ). part f q (widthOf k)) g))
+
+  pub blacks-test : (tag : ℕ) (b : Black) → b ≡ greatestOf (runOf (blackAt k o f) size p n) → blackOut tag b ≡ run f (blacksTest o tag k size n p)
+  unfolding blacksTest
+  blacks-test tag b e = ap (blackOut tag) (e ∙ sym (ap greatestOf same-run)) ∙ sym (simp running)
+
+-- where the greatest is there, every value is carried
+pub run-carried : (f : List ℕ) (o : Order) (k : FractionKind) (size n p : ℕ) (b : _) → Parts b ≡ greatestOf (runOf (blackAt k o f) size p n) → CarriedRun f o k size n p
+run-carried f o k size n p b e i h =
+    let g = greatest-carried (runOf (blackAt k o f) size p n) b (sym e) i (subst (λ (m : ℕ). i < m) (sym (length-run (blackAt k o f) size p n)) h) in
+    rw (run-at (blackAt k o f) size p n i Illegal h) at g
+
+-- the white levels
+same-value : (v u : Values) → is v ≡ is u → v ≡ u
+same-value v u e = cc
+
+abbrev Most : List ℕ → Order → Values → Type 0
+Most f o v = (i : ℕ) → i < v .count → numberOf o (part f (v .place + v .size * i) (v .size)) ≤ 65535
+
+pub whites-in : (w : Widths) (f : List ℕ) (d : Ifd) (s : ℕ) (r : Given) → valuesOut r ≡ run f (whiteReading w d s) → ValuesIn (length f) (whiteRule s) r → WhitesIn f (d .order) (whiteRule s) r
+unfolding whiteReading allReading
+whites-in w f d s (given.Refused n t) e q = tt
+whites-in w f d s (given.Is v) e q =
+    let a = bind-inverse f _ _ v e in
+    let b = bind-inverse f _ _ v (a .2) in
+    let u : Values = a .0 in
+    let same : v ≡ u = same-value v u (b .2 ∙ run-answer f _) in
+    record {
+      placed = q;
+      most = subst (Most f (d .order)) (sym same) (λ i l. each-to f (d .order) (u .size) 50717 (range 0 0 65535) (b .0) (u .count) i (u .place) (b .1) l);
+    }

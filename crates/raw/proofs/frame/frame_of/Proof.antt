@@ -1,0 +1,65 @@
+use mathlib.Core.Path.{_≡_, refl, sym, ap, subst, _∙_}
+use Prim.Native.Nat.{ℕ, _+_, _-_, _*_, _≤_, _<_}
+use native.Mathlib.Omega.{arith}
+use denote.Ref.{now}
+use lib.ListN.{length}
+use Rattle.directory.specs.Out.{numberOut}
+use Rattle.directory.proofs.Outs.{bind-refused, bind-is}
+use Rattle.reading.proofs.Reading.{run-answer}
+use Rattle.directory.specs.Tag.{NumberIn}
+use Rattle.raw.specs.Frame.{dimensionRange, planesRange, frameReading}
+use borrow.Author.Needs.{needs}
+use Rattle.raw.proofs.frame.frame_of.Statement.{statement}
+use Rattle.raw.proofs.frame.frame_of.Tie as tie
+
+dimension-requires : tie.Need-dimension-requires
+dimension-requires c κs = search needs
+
+enum-known-number : tie.Need-enum-known-number
+enum-known-number c = search needs
+
+returns : tie.Need-returns
+unfolding frameReading
+returns c = (bind-refused _ _ _ _ _ (ap numberOut (sym (c .before .number .given .1)) ∙ c .before .before .before .dimension .ensures .0), tt)
+
+enum-known-v : tie.Need-enum-known-v
+enum-known-v c = search needs
+
+dimension-requires-2 : tie.Need-dimension-requires-2
+dimension-requires-2 c κs = search needs
+
+enum-known-number-2 : tie.Need-enum-known-number-2
+enum-known-number-2 c = search needs
+
+returns-2 : tie.Need-returns-2
+unfolding frameReading
+returns-2 c = (bind-refused _ _ _ _ _ (ap numberOut (sym (c .before .number2 .given .1)) ∙ c .before .before .before .dimension2 .ensures .0) ∙ sym (bind-is _ _ _ _ (ap numberOut (sym (c .before .before .before .before .before .v .given .1)) ∙ c .before .before .before .before .before .before .before .dimension .ensures .0)), tt)
+
+enum-known-v-2 : tie.Need-enum-known-v-2
+enum-known-v-2 c = search needs
+
+planes-requires : tie.Need-planes-requires
+planes-requires c κs = search needs
+
+enum-known-number-3 : tie.Need-enum-known-number-3
+enum-known-number-3 c = search needs
+
+returns-3 : tie.Need-returns-3
+unfolding frameReading
+returns-3 c = (bind-refused _ _ _ _ _ (ap numberOut (sym (c .before .number3 .given .1)) ∙ c .before .before .before .planes .ensures .0) ∙ sym (bind-is _ _ _ _ (ap numberOut (sym (c .before .before .before .before .before .before .before .before .before .v .given .1)) ∙ c .before .before .before .before .before .before .before .before .before .before .before .dimension .ensures .0) ∙ bind-is _ _ _ _ (ap numberOut (sym (c .before .before .before .before .before .v2 .given .1)) ∙ c .before .before .before .before .before .before .before .dimension2 .ensures .0)), tt)
+
+enum-known-v-3 : tie.Need-enum-known-v-3
+enum-known-v-3 c = search needs
+
+returns-4 : tie.Need-returns-4
+unfolding frameReading
+returns-4 c =
+    let w = subst (NumberIn dimensionRange) (c .before .before .before .before .before .before .before .before .before .v .given .1) (c .before .before .before .before .before .before .before .before .before .before .before .dimension .ensures .1) in
+    let l = subst (NumberIn dimensionRange) (c .before .before .before .before .before .v2 .given .1) (c .before .before .before .before .before .before .before .dimension2 .ensures .1) in
+    let s = subst (NumberIn planesRange) (c .before .v3 .given .1) (c .before .before .before .planes .ensures .1) in (
+      sym (bind-is _ _ _ _ (ap numberOut (sym (c .before .before .before .before .before .before .before .before .before .v .given .1)) ∙ c .before .before .before .before .before .before .before .before .before .before .before .dimension .ensures .0) ∙ bind-is _ _ _ _ (ap numberOut (sym (c .before .before .before .before .before .v2 .given .1)) ∙ c .before .before .before .before .before .before .before .dimension2 .ensures .0) ∙ bind-is _ _ _ _ (ap numberOut (sym (c .before .v3 .given .1)) ∙ c .before .before .before .planes .ensures .0) ∙ run-answer _ _),
+      record { some-columns = w .legal; columns = w .to; some-rows = l .legal; rows = l .to; some-samples = s .from; samples = s .to },
+    )
+
+pub frame-of-spec : {M : Type 1} → statement M
+frame-of-spec = tie.close (tie.spec dimension-requires enum-known-number returns enum-known-v dimension-requires-2 enum-known-number-2 returns-2 enum-known-v-2 planes-requires enum-known-number-3 returns-3 enum-known-v-3 returns-4)

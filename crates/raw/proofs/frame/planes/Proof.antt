@@ -1,0 +1,53 @@
+use mathlib.Core.Path.{_≡_, refl, sym, ap, subst, _∙_}
+use Prim.Native.Nat.{ℕ, _+_, _-_, _*_, _≤_, _<_}
+use native.Mathlib.Omega.{arith}
+use denote.Ref.{now}
+use lib.ListN.{length}
+use Rattle.directory.specs.Out.{numberOut}
+use Rattle.directory.proofs.Outs.{bind-refused, bind-is}
+use Rattle.reading.proofs.Reading.{running, pick-no}
+use borrow.Author.Tests.{eq-eqb, ne-eqb}
+use Rattle.directory.specs.Tag.{range}
+use Rattle.directory.proofs.Tags.{widen}
+use Rattle.raw.specs.Frame.{samplesOf, planesRange, planesReading}
+use borrow.Author.Needs.{needs}
+use Rattle.raw.proofs.frame.planes.Statement.{statement}
+use Rattle.raw.proofs.frame.planes.Tie as tie
+
+one-requires : tie.Need-one-requires
+one-requires c κs = search needs
+
+enum-known-number : tie.Need-enum-known-number
+enum-known-number c = search needs
+
+returns : tie.Need-returns
+unfolding planesReading
+returns c = (bind-refused _ _ _ _ _ (ap numberOut (sym (c .before .number .given .1)) ∙ c .before .before .before .one .ensures .0), tt)
+
+enum-known-v : tie.Need-enum-known-v
+enum-known-v c = search needs
+
+samples-of-requires : tie.Need-samples-of-requires
+samples-of-requires c κs = search needs
+
+returns-2 : tie.Need-returns-2
+unfolding planesReading
+returns-2 c =
+    let e = bind-is _ _ _ _ (ap numberOut (sym (c .before .before .before .v .given .1)) ∙ c .before .before .before .before .before .one .ensures .0) in
+    (sym (e ∙ simp (eq-eqb _ _ (sym (c .before .samples-of .ensures .0) ∙ c .if1 .taken), running)), tt)
+
+one-requires-2 : tie.Need-one-requires-2
+one-requires-2 c κs = search needs
+
+returns-3 : tie.Need-returns-3
+unfolding planesReading
+returns-3 c =
+    let s = c .before .before .samples-of in
+    let z : samplesOf (c .before .before .before .before .v .given .0 .0) ≡ 0 → ⊥ = λ h. c .before .if1 .left (s .ensures .0 ∙ h) in
+    let e = bind-is _ _ _ _ (ap numberOut (sym (c .before .before .before .before .v .given .1)) ∙ c .before .before .before .before .before .before .one .ensures .0) in (
+      sym (e ∙ simp (ne-eqb _ _ z, pick-no, ← s .ensures .0) (sym (c .one2 .ensures .0))),
+      widen (range 0 (s .result) (s .result)) planesRange (λ v i. record { legal = omega arith; from = omega arith; to = omega arith }) (c .one2 .result) (c .one2 .ensures .1),
+    )
+
+pub planes-spec : {M : Type 1} → statement M
+planes-spec = tie.close (tie.spec one-requires enum-known-number returns enum-known-v samples-of-requires returns-2 one-requires-2 returns-3)

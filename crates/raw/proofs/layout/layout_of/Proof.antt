@@ -1,0 +1,114 @@
+use mathlib.Core.Path.{_≡_, refl, sym, ap, subst, _∙_}
+use Prim.Native.Nat.{ℕ, _+_, _-_, _*_, _≤_, _<_}
+use native.Mathlib.Omega.{arith}
+use denote.Ref.{now}
+use lib.ListN.{length}
+use Rattle.directory.specs.Out.{numberOut}
+use Rattle.directory.proofs.Outs.{bind-refused, bind-is}
+use Rattle.reading.proofs.Reading.{run-answer}
+use Rattle.directory.specs.Tag.{NumberIn, range, valuesOut}
+use Rattle.raw.specs.Layout.{layoutReading}
+use borrow.Author.Needs.{needs}
+use Rattle.raw.proofs.layout.layout_of.Statement.{statement}
+use Rattle.raw.proofs.layout.layout_of.Tie as tie
+
+depth-requires : tie.Need-depth-requires
+depth-requires c κs = search needs
+
+enum-known-number : tie.Need-enum-known-number
+enum-known-number c = search needs
+
+returns : tie.Need-returns
+unfolding layoutReading
+returns c = (bind-refused _ _ _ _ _ (ap numberOut (sym (c .before .number .given .1)) ∙ c .before .before .before .depth .ensures .0), tt)
+
+enum-known-v : tie.Need-enum-known-v
+enum-known-v c = search needs
+
+only-one-requires : tie.Need-only-one-requires
+only-one-requires c κs = search needs
+
+enum-known-number-2 : tie.Need-enum-known-number-2
+enum-known-number-2 c = search needs
+
+returns-2 : tie.Need-returns-2
+unfolding layoutReading
+returns-2 c = (bind-refused _ _ _ _ _ (ap numberOut (sym (c .before .number2 .given .1)) ∙ c .before .before .before .only-one .ensures) ∙ sym (bind-is _ _ _ _ (ap numberOut (sym (c .before .before .before .before .before .v .given .1)) ∙ c .before .before .before .before .before .before .before .depth .ensures .0)), tt)
+
+enum-told : tie.Need-enum-told
+enum-told c = search needs
+
+only-one-requires-2 : tie.Need-only-one-requires-2
+only-one-requires-2 c κs = search needs
+
+enum-known-number-3 : tie.Need-enum-known-number-3
+enum-known-number-3 c = search needs
+
+returns-3 : tie.Need-returns-3
+unfolding layoutReading
+returns-3 c = (bind-refused _ _ _ _ _ (ap numberOut (sym (c .before .number3 .given .1)) ∙ c .before .before .before .only-one2 .ensures) ∙ sym (bind-is _ _ _ _ (ap numberOut (sym (c .before .before .before .before .before .before .before .before .v .given .1)) ∙ c .before .before .before .before .before .before .before .before .before .before .depth .ensures .0) ∙ bind-is _ _ _ _ (ap numberOut (sym (c .before .before .before .before .enum-told .given .1)) ∙ c .before .before .before .before .before .before .only-one .ensures)), tt)
+
+enum-told-2 : tie.Need-enum-told-2
+enum-told-2 c = search needs
+
+format-requires : tie.Need-format-requires
+format-requires c κs = search needs
+
+enum-known-number-4 : tie.Need-enum-known-number-4
+enum-known-number-4 c = search needs
+
+returns-4 : tie.Need-returns-4
+unfolding layoutReading
+returns-4 c = (bind-refused _ _ _ _ _ (ap valuesOut (sym (c .before .number4 .given .1)) ∙ c .before .before .before .format .ensures) ∙ sym (bind-is _ _ _ _ (ap numberOut (sym (c .before .before .before .before .before .before .before .before .before .before .before .v .given .1)) ∙ c .before .before .before .before .before .before .before .before .before .before .before .before .before .depth .ensures .0) ∙ bind-is _ _ _ _ (ap numberOut (sym (c .before .before .before .before .before .before .before .enum-told .given .1)) ∙ c .before .before .before .before .before .before .before .before .before .only-one .ensures) ∙ bind-is _ _ _ _ (ap numberOut (sym (c .before .before .before .before .enum-told2 .given .1)) ∙ c .before .before .before .before .before .before .only-one2 .ensures)), tt)
+
+enum-told-3 : tie.Need-enum-told-3
+enum-told-3 c = search needs
+
+only-one-requires-3 : tie.Need-only-one-requires-3
+only-one-requires-3 c κs = search needs
+
+enum-known-number-5 : tie.Need-enum-known-number-5
+enum-known-number-5 c = search needs
+
+returns-5 : tie.Need-returns-5
+unfolding layoutReading
+returns-5 c = (bind-refused _ _ _ _ _ (ap numberOut (sym (c .before .number5 .given .1)) ∙ c .before .before .before .only-one3 .ensures) ∙ sym (bind-is _ _ _ _ (ap numberOut (sym (c .before .before .before .before .before .before .before .before .before .before .before .before .before .before .v .given .1)) ∙ c .before .before .before .before .before .before .before .before .before .before .before .before .before .before .before .before .depth .ensures .0) ∙ bind-is _ _ _ _ (ap numberOut (sym (c .before .before .before .before .before .before .before .before .before .before .enum-told .given .1)) ∙ c .before .before .before .before .before .before .before .before .before .before .before .before .only-one .ensures) ∙ bind-is _ _ _ _ (ap numberOut (sym (c .before .before .before .before .before .before .before .enum-told2 .given .1)) ∙ c .before .before .before .before .before .before .before .before .before .only-one2 .ensures) ∙ bind-is _ _ _ _ (ap valuesOut (sym (c .before .before .before .before .enum-told3 .given .1)) ∙ c .before .before .before .before .before .before .format .ensures)), tt)
+
+enum-told-4 : tie.Need-enum-told-4
+enum-told-4 c = search needs
+
+only-one-requires-4 : tie.Need-only-one-requires-4
+only-one-requires-4 c κs = search needs
+
+enum-known-number-6 : tie.Need-enum-known-number-6
+enum-known-number-6 c = search needs
+
+returns-6 : tie.Need-returns-6
+unfolding layoutReading
+returns-6 c = (bind-refused _ _ _ _ _ (ap numberOut (sym (c .before .number6 .given .1)) ∙ c .before .before .before .only-one4 .ensures) ∙ sym (bind-is _ _ _ _ (ap numberOut (sym (c .before .before .before .before .before .before .before .before .before .before .before .before .before .before .before .before .before .v .given .1)) ∙ c .before .before .before .before .before .before .before .before .before .before .before .before .before .before .before .before .before .before .before .depth .ensures .0) ∙ bind-is _ _ _ _ (ap numberOut (sym (c .before .before .before .before .before .before .before .before .before .before .before .before .before .enum-told .given .1)) ∙ c .before .before .before .before .before .before .before .before .before .before .before .before .before .before .before .only-one .ensures) ∙ bind-is _ _ _ _ (ap numberOut (sym (c .before .before .before .before .before .before .before .before .before .before .enum-told2 .given .1)) ∙ c .before .before .before .before .before .before .before .before .before .before .before .before .only-one2 .ensures) ∙ bind-is _ _ _ _ (ap valuesOut (sym (c .before .before .before .before .before .before .before .enum-told3 .given .1)) ∙ c .before .before .before .before .before .before .before .before .before .format .ensures) ∙ bind-is _ _ _ _ (ap numberOut (sym (c .before .before .before .before .enum-told4 .given .1)) ∙ c .before .before .before .before .before .before .only-one3 .ensures)), tt)
+
+enum-told-5 : tie.Need-enum-told-5
+enum-told-5 c = search needs
+
+strip-rows-requires : tie.Need-strip-rows-requires
+strip-rows-requires c κs = search needs
+
+enum-known-number-7 : tie.Need-enum-known-number-7
+enum-known-number-7 c = search needs
+
+returns-7 : tie.Need-returns-7
+unfolding layoutReading
+returns-7 c = (bind-refused _ _ _ _ _ (ap numberOut (sym (c .before .number7 .given .1)) ∙ c .before .before .before .strip-rows .ensures .0) ∙ sym (bind-is _ _ _ _ (ap numberOut (sym (c .before .before .before .before .before .before .before .before .before .before .before .before .before .before .before .before .before .before .before .before .v .given .1)) ∙ c .before .before .before .before .before .before .before .before .before .before .before .before .before .before .before .before .before .before .before .before .before .before .depth .ensures .0) ∙ bind-is _ _ _ _ (ap numberOut (sym (c .before .before .before .before .before .before .before .before .before .before .before .before .before .before .before .before .enum-told .given .1)) ∙ c .before .before .before .before .before .before .before .before .before .before .before .before .before .before .before .before .before .before .only-one .ensures) ∙ bind-is _ _ _ _ (ap numberOut (sym (c .before .before .before .before .before .before .before .before .before .before .before .before .before .enum-told2 .given .1)) ∙ c .before .before .before .before .before .before .before .before .before .before .before .before .before .before .before .only-one2 .ensures) ∙ bind-is _ _ _ _ (ap valuesOut (sym (c .before .before .before .before .before .before .before .before .before .before .enum-told3 .given .1)) ∙ c .before .before .before .before .before .before .before .before .before .before .before .before .format .ensures) ∙ bind-is _ _ _ _ (ap numberOut (sym (c .before .before .before .before .before .before .before .enum-told4 .given .1)) ∙ c .before .before .before .before .before .before .before .before .before .only-one3 .ensures) ∙ bind-is _ _ _ _ (ap numberOut (sym (c .before .before .before .before .enum-told5 .given .1)) ∙ c .before .before .before .before .before .before .only-one4 .ensures)), tt)
+
+enum-known-v-2 : tie.Need-enum-known-v-2
+enum-known-v-2 c = search needs
+
+returns-8 : tie.Need-returns-8
+unfolding layoutReading
+returns-8 c =
+    let b = subst (NumberIn (range 1 1 2)) (c .before .before .before .before .before .before .before .before .before .before .before .before .before .before .before .before .before .before .before .before .v .given .1) (c .before .before .before .before .before .before .before .before .before .before .before .before .before .before .before .before .before .before .before .before .before .before .depth .ensures .1) in
+    let r = subst (NumberIn (range 1 1 4294967295)) (c .before .v2 .given .1) (c .before .before .before .strip-rows .ensures .1) in
+    (sym (bind-is _ _ _ _ (ap numberOut (sym (c .before .before .before .before .before .before .before .before .before .before .before .before .before .before .before .before .before .before .before .before .v .given .1)) ∙ c .before .before .before .before .before .before .before .before .before .before .before .before .before .before .before .before .before .before .before .before .before .before .depth .ensures .0) ∙ bind-is _ _ _ _ (ap numberOut (sym (c .before .before .before .before .before .before .before .before .before .before .before .before .before .before .before .before .enum-told .given .1)) ∙ c .before .before .before .before .before .before .before .before .before .before .before .before .before .before .before .before .before .before .only-one .ensures) ∙ bind-is _ _ _ _ (ap numberOut (sym (c .before .before .before .before .before .before .before .before .before .before .before .before .before .enum-told2 .given .1)) ∙ c .before .before .before .before .before .before .before .before .before .before .before .before .before .before .before .only-one2 .ensures) ∙ bind-is _ _ _ _ (ap valuesOut (sym (c .before .before .before .before .before .before .before .before .before .before .enum-told3 .given .1)) ∙ c .before .before .before .before .before .before .before .before .before .before .before .before .format .ensures) ∙ bind-is _ _ _ _ (ap numberOut (sym (c .before .before .before .before .before .before .before .enum-told4 .given .1)) ∙ c .before .before .before .before .before .before .before .before .before .only-one3 .ensures) ∙ bind-is _ _ _ _ (ap numberOut (sym (c .before .before .before .before .enum-told5 .given .1)) ∙ c .before .before .before .before .before .before .only-one4 .ensures) ∙ bind-is _ _ _ _ (ap numberOut (sym (c .before .v2 .given .1)) ∙ c .before .before .before .strip-rows .ensures .0) ∙ run-answer _ _), record { some-bytes = b .legal; bytes = b .to; some-rows = r .legal; rows = r .to })
+
+pub layout-of-spec : {M : Type 1} → statement M
+layout-of-spec = tie.close (tie.spec depth-requires enum-known-number returns enum-known-v only-one-requires enum-known-number-2 returns-2 enum-told only-one-requires-2 enum-known-number-3 returns-3 enum-told-2 format-requires enum-known-number-4 returns-4 enum-told-3 only-one-requires-3 enum-known-number-5 returns-5 enum-told-4 only-one-requires-4 enum-known-number-6 returns-6 enum-told-5 strip-rows-requires enum-known-number-7 returns-7 enum-known-v-2 returns-8)

@@ -1,0 +1,74 @@
+-- The black levels: 50714, and the deltas 50715 and 50716.
+use mathlib.Core.Path.{_≡_}
+use mathlib.Core.List.{List}
+use Prim.Native.Nat.{ℕ, _+_, _*_, _<_}
+use lib.Dec.{eqb}
+use lib.ListN.{length}
+use Rattle.reading.specs.Reading.{Reading, Reading.answer, Reading.ask, pick}
+use Rattle.reading.specs.declared.number.Order.{Order}
+use Rattle.reading.specs.declared.fraction.FractionKind.{FractionKind}
+use Rattle.reading.specs.declared.fraction.FractionKind.the-variants as kind
+use Rattle.directory.specs.Out.{Out, Out.refused, Out.is, bind}
+use Rattle.directory.specs.Widths.{Widths}
+use Rattle.directory.specs.Tag.{valuesReading, optional, Placed-values}
+use Rattle.directory.specs.declared.Ifd.{Ifd}
+use Rattle.directory.specs.declared.Number.{Number}
+use Rattle.directory.specs.declared.Number.the-variants as number
+use Rattle.directory.specs.declared.tag.Kinds.the-variants as kinds
+use Rattle.directory.specs.declared.tag.Rule.{Rule}
+use Rattle.directory.specs.declared.tag.Values.{Values}
+use Rattle.directory.specs.declared.tag.Given.{Given}
+use Rattle.directory.specs.declared.tag.Given.the-variants as given
+use Rattle.levels.specs.Run.{runOf}
+use Rattle.levels.specs.Black.{blackAt, partsOf, greatestOf}
+use Rattle.levels.specs.declared.black.Black.{Black}
+use Rattle.levels.specs.declared.black.Black.the-variants as black
+use Rattle.raw.specs.declared.repeat.Repeat.{Repeat}
+
+-- the type of a black level by its bytes
+unfoldable pub kindFor : ℕ → FractionKind
+kindFor s = pick (eqb s 2) kind.Short (pick (eqb s 4) kind.Long kind.Rational)
+
+-- illegal is 4, not carried is 8
+abbrev pub blackOut : ℕ → Black → Out ℕ
+blackOut tag (black.Parts b) = is 0
+blackOut tag black.Illegal = refused 4 tag
+blackOut tag black.NotCarried = refused 8 tag
+
+-- so many values of a size from a place on, in stored order: the first that is illegal or not carried refuses
+unfoldable pub blacksTest : Order → ℕ → FractionKind → ℕ → ℕ → ℕ → Reading (Out ℕ)
+blacksTest o tag k size n p = ask p (size * n) (λ bs. answer (blackOut tag (greatestOf (runOf (blackAt k o bs) size 0 n))))
+
+abbrev pub blackRule : Repeat → ℕ → Rule
+blackRule r s = optional 50714 kinds.ShortLongOrRational (r .rows * r .columns * s)
+
+-- 50714: "SHORT, LONG or RATIONAL, count rows x columns x samples of the repeat"
+unfoldable pub blackReading : Widths → Ifd → Repeat → ℕ → Reading (Out Values)
+blackReading w d r s =
+    bind (valuesReading w d (blackRule r s)) (λ v.
+    bind (blacksTest (d .order) 50714 (kindFor (v .size)) (v .size) (v .count) (v .place)) (λ _. answer (is v)))
+
+abbrev pub deltaRule : ℕ → ℕ → Rule
+deltaRule tag n = optional tag kinds.SignedRational n
+
+-- 50715: "SRATIONAL, one per active column". 50716: "SRATIONAL, one per active row"
+unfoldable pub deltaReading : Widths → Ifd → ℕ → ℕ → Reading (Out Values)
+deltaReading w d tag n =
+    bind (valuesReading w d (deltaRule tag n)) (λ v.
+    bind (blacksTest (d .order) tag kind.SignedRational (v .size) (v .count) (v .place)) (λ _. answer (is v)))
+
+-- every value is carried
+abbrev pub CarriedRun : List ℕ → Order → FractionKind → ℕ → ℕ → ℕ → Type 0
+CarriedRun f o k size n p = (i : ℕ) → i < n → blackAt k o f (p + size * i) ≡ black.Parts (partsOf (blackAt k o f (p + size * i)))
+
+abbrev pub AllCarried : List ℕ → Order → FractionKind → ℕ → ℕ → ℕ → Number → Type 0
+AllCarried f o k size n p (number.Refused a b) = Unit {0}
+AllCarried f o k size n p (number.Is z) = CarriedRun f o k size n p
+
+pub record Blacks-in (f : List ℕ) (o : Order) (r : Rule) (k : ℕ → FractionKind) (v : Values) : Type 0 where
+  pub placed : Placed-values (length f) r v
+  pub carried : CarriedRun f o (k (v .size)) (v .size) (v .count) (v .place)
+
+abbrev pub BlacksIn : List ℕ → Order → Rule → (ℕ → FractionKind) → Given → Type 0
+BlacksIn f o r k (given.Refused n d) = Unit {0}
+BlacksIn f o r k (given.Is v) = Blacks-in f o r k v

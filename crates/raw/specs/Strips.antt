@@ -1,0 +1,63 @@
+-- The strips: 273, 279.
+use mathlib.Core.List.{List}
+use Prim.Native.Nat.{ℕ, zero, suc, _+_, _*_, _-_, _/_, _≤_, _<_, min}
+use lib.Dec.{eqb, leb}
+use lib.ListN.{length}
+use Rattle.reading.specs.Bytes.{part}
+use Rattle.reading.specs.Number.{numberOf}
+use Rattle.reading.specs.Reading.{Reading, Reading.answer, andThen, pick, numberAt}
+use Rattle.reading.specs.declared.number.Order.{Order}
+use Rattle.directory.specs.Out.{Out, Out.refused, Out.is, bind}
+use Rattle.directory.specs.Widths.{Widths}
+use Rattle.directory.specs.Tag.{valuesReading, required, Placed-values}
+use Rattle.directory.specs.declared.Ifd.{Ifd}
+use Rattle.directory.specs.declared.tag.Kinds.the-variants as kinds
+use Rattle.directory.specs.declared.tag.Rule.{Rule}
+use Rattle.directory.specs.declared.tag.Values.{Values}
+use Rattle.directory.specs.declared.tag.Given.{Given}
+use Rattle.directory.specs.declared.tag.Given.the-variants as given
+use Rattle.raw.specs.declared.frame.Frame.{Frame}
+use Rattle.raw.specs.declared.layout.Layout.{Layout}
+
+-- "length / rows per strip, rounded up"
+abbrev pub stripCount : Frame → Layout → ℕ
+stripCount f l = (f .length + l .rows - 1) / l .rows
+
+abbrev pub rowBytes : Frame → Layout → ℕ
+rowBytes f l = f .width * f .samples * l .bytes
+
+-- so many strips, whose offsets and byte counts start at two places, with so many rows left:
+-- "byte count must be exactly its rows x width x samples x bytes (4, tag 279); the strip must lie in the file (4, tag 273)"
+unfoldable pub stripFrom : ℕ → Order → ℕ → ℕ → ℕ → ℕ → ℕ → ℕ → ℕ → ℕ → Reading (Out ℕ)
+stripFrom size o wide broad rows row zero p q rest = answer (is 0)
+stripFrom size o wide broad rows row (suc n) p q rest =
+    andThen (numberAt o q broad) (λ b.
+    pick (eqb b (min rows rest * row))
+    (andThen (numberAt o p wide) (λ a.
+    pick (leb (a + b) size) (stripFrom size o wide broad rows row n (p + wide) (q + broad) (rest - min rows rest)) (answer (refused 4 273))))
+    (answer (refused 4 279)))
+
+abbrev pub offsetsRule : Frame → Layout → Rule
+offsetsRule f l = required 273 kinds.ShortOrLong (stripCount f l)
+
+abbrev pub countsRule : Frame → Layout → Rule
+countsRule f l = required 279 kinds.ShortOrLong (stripCount f l)
+
+-- 273, 279: "SHORT or LONG, required, count = length / rows per strip, rounded up. Then strip by strip"
+unfoldable pub stripsReading : Widths → ℕ → Ifd → Frame → Layout → Reading (Out Values)
+stripsReading w size d f l =
+    bind (valuesReading w d (offsetsRule f l)) (λ os.
+    bind (valuesReading w d (countsRule f l)) (λ cs.
+    bind (stripFrom size (d .order) (os .size) (cs .size) (l .rows) (rowBytes f l) (stripCount f l) (os .place) (cs .place) (f .length)) (λ _.
+    answer (is os))))
+
+-- the offsets, and that each strip lies in the file
+pub record Strips-in (f : List ℕ) (o : Order) (fr : Frame) (l : Layout) (v : Values) : Type 0 where
+  pub placed : Placed-values (length f) (offsetsRule fr l) v
+  pub inside :
+      (i : ℕ) → i < stripCount fr l
+      → numberOf o (part f (v .place + v .size * i) (v .size)) + min (l .rows) (fr .length - l .rows * i) * rowBytes fr l ≤ length f
+
+abbrev pub StripsIn : List ℕ → Order → Frame → Layout → Given → Type 0
+StripsIn f o fr l (given.Refused n d) = Unit {0}
+StripsIn f o fr l (given.Is v) = Strips-in f o fr l v

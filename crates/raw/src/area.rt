@@ -1,0 +1,113 @@
+// The active area: 50829. Stored rows and columns count from the frame's corner, active ones from the area's.
+ghost use mathlib.Core.Path.{_≡_};
+ghost use Prim.Native.Nat.{_+_, _≤_};
+ghost use Rattle.reading.specs.Reading.{run};
+ghost use Rattle.directory.specs.Widths.{classic};
+ghost use Rattle.directory.specs.Shape.{Tested};
+ghost use Rattle.raw.specs.Frame.{Framed-in};
+ghost use Rattle.raw.specs.Area.{areaOut, AreaIn, croppedOf, areaReading};
+use crate::frame::Frame;
+use directory::Ifd;
+use directory::tag;
+use directory::tag::Given;
+use directory::tag::Kinds;
+use directory::tag::Rule;
+
+pub struct StoredRow(pub usize);
+
+pub struct StoredColumn(pub usize);
+
+pub struct ActiveRow(pub usize);
+
+pub struct ActiveColumn(pub usize);
+
+// In stored rows and columns; bottom and right are past the area.
+pub struct Area {
+    pub top: usize,
+    pub left: usize,
+    pub bottom: usize,
+    pub right: usize,
+}
+
+pub enum Cropped {
+    Refused { number: usize, detail: usize },
+    Is(Area),
+}
+
+// The active area's corner: the only way from active to stored.
+impl Area {
+    pub fn stored_row(self, r: ActiveRow) -> StoredRow
+        requires { ⌜ (self .top ≤ 16384) × (r .0 ≤ 16384) ⌝ }
+        ensures { λ q. ⌜ q .0 ≡ self .top + r .0 ⌝ }
+    {
+        StoredRow(self.top + r.0)
+    }
+
+    pub fn stored_column(self, c: ActiveColumn) -> StoredColumn
+        requires { ⌜ (self .left ≤ 16384) × (c .0 ≤ 16384) ⌝ }
+        ensures { λ q. ⌜ q .0 ≡ self .left + c .0 ⌝ }
+    {
+        StoredColumn(self.left + c.0)
+    }
+}
+
+fn crop(frame: Frame, area: Area) -> Cropped
+    ensures { λ r. ⌜ (areaOut r ≡ croppedOf frame area) × AreaIn frame r ⌝ }
+{
+    if area.top < area.bottom {
+        if area.bottom <= frame.length {
+            if area.left < area.right {
+                if area.right <= frame.width {
+                    return Cropped::Is(area);
+                }
+            }
+        }
+    }
+    Cropped::Refused {
+        number: 4,
+        detail: 50829,
+    }
+}
+
+pub fn area_of(file: &[u8], ifd: Ifd, frame: Frame) -> Cropped
+    requires { ⌜ Tested (now file) ifd ⌝ }
+    requires { ⌜ Framed-in frame ⌝ }
+    ensures { λ r. ⌜ (areaOut r ≡ run (now (file .entry)) (areaReading classic ifd frame)) × AreaIn frame r ⌝ }
+{
+    let rule = Rule {
+        tag: 50829,
+        kinds: Kinds::ShortOrLong,
+        required: false,
+        least: 4,
+        most: 4,
+    };
+    let v = match tag::look_up(file, ifd, rule) {
+        Given::Refused { number, detail } => return Cropped::Refused { number, detail },
+        Given::Is(v) => v,
+    };
+    let count = v.count;
+    if count == 0 {
+        return Cropped::Is(Area {
+            top: 0,
+            left: 0,
+            bottom: frame.length,
+            right: frame.width,
+        });
+    }
+    let size = v.size;
+    let place = v.place;
+    let order = ifd.order;
+    let top = tag::value(file, order, size, place);
+    let left = tag::value(file, order, size, place + size);
+    let bottom = tag::value(file, order, size, place + 2 * size);
+    let right = tag::value(file, order, size, place + 3 * size);
+    crop(
+        frame,
+        Area {
+            top,
+            left,
+            bottom,
+            right,
+        },
+    )
+}

@@ -1,0 +1,126 @@
+// The black levels: 50714, and the deltas 50715 and 50716.
+ghost use mathlib.Core.Path.{_≡_};
+ghost use Prim.Native.Nat.{_+_, _*_, _≤_, _<_};
+ghost use lib.ListN.{length};
+ghost use Rattle.reading.specs.Reading.{run};
+ghost use Rattle.reading.specs.Fraction.{widthOf};
+ghost use Rattle.directory.specs.Out.{numberOut};
+ghost use Rattle.directory.specs.Widths.{classic};
+ghost use Rattle.directory.specs.Shape.{Tested};
+ghost use Rattle.directory.specs.Tag.{valuesOut};
+ghost use Rattle.raw.specs.Repeat.{Repeated-in};
+ghost use Rattle.raw.specs.Black.{kindFor, blacksTest, AllCarried, blackRule, blackReading, deltaRule, deltaReading, BlacksIn};
+use crate::repeat::Repeat;
+use directory::Ifd;
+use directory::Number;
+use directory::tag;
+use directory::tag::Given;
+use directory::tag::Kinds;
+use directory::tag::Rule;
+use levels::black;
+use levels::black::Black;
+use reading::fraction::FractionKind;
+use reading::number::Order;
+
+// The type of a black level by its bytes.
+pub fn kind_for(size: usize) -> FractionKind
+    ensures { λ r. ⌜ r ≡ kindFor size ⌝ }
+{
+    if size == 2 {
+        return FractionKind::Short;
+    }
+    if size == 4 {
+        FractionKind::Long
+    } else {
+        FractionKind::Rational
+    }
+}
+
+// So many black levels from a place on.
+fn check_blacks(
+    file: &[u8],
+    order: Order,
+    tag: usize,
+    kind: FractionKind,
+    size: usize,
+    count: usize,
+    place: usize,
+) -> Number
+    requires { ⌜ (place + size * count ≤ length (now file)) × (0 < count → size ≡ widthOf kind) ⌝ }
+    ensures { λ r. ⌜ (numberOut r ≡ run (now (file .entry)) (blacksTest order tag kind size count place)) × AllCarried (now (file .entry)) order kind size count place r ⌝ }
+{
+    match black::greatest(file, order, kind, place, size, count) {
+        Black::Parts(_) => Number::Is(0),
+        Black::Illegal => Number::Refused {
+            number: 4,
+            detail: tag,
+        },
+        Black::NotCarried => Number::Refused {
+            number: 8,
+            detail: tag,
+        },
+    }
+}
+
+// 50714.
+pub fn black_of(file: &[u8], ifd: Ifd, repeat: Repeat, samples: usize) -> Given
+    requires { ⌜ Tested (now file) ifd ⌝ }
+    requires { ⌜ Repeated-in repeat × (samples ≤ 3) ⌝ }
+    ensures { λ r. ⌜ (valuesOut r ≡ run (now (file .entry)) (blackReading classic ifd repeat samples)) × BlacksIn (now (file .entry)) (ifd .order) (blackRule repeat samples) kindFor r ⌝ }
+{
+    let cells = repeat.rows * repeat.columns * samples;
+    let rule = Rule {
+        tag: 50714,
+        kinds: Kinds::ShortLongOrRational,
+        required: false,
+        least: cells,
+        most: cells,
+    };
+    let v = match tag::look_up(file, ifd, rule) {
+        Given::Refused { number, detail } => return Given::Refused { number, detail },
+        Given::Is(v) => v,
+    };
+    let size = v.size;
+    let place = v.place;
+    let count = v.count;
+    let order = ifd.order;
+    let kind = kind_for(size);
+    match check_blacks(file, order, 50714, kind, size, count, place) {
+        Number::Refused { number, detail } => Given::Refused { number, detail },
+        Number::Is(_) => Given::Is(v),
+    }
+}
+
+// 50715 or 50716.
+pub fn delta_of(file: &[u8], ifd: Ifd, tag: usize, many: usize) -> Given
+    requires { ⌜ Tested (now file) ifd ⌝ }
+    ensures { λ r. ⌜ (valuesOut r ≡ run (now (file .entry)) (deltaReading classic ifd tag many)) × BlacksIn (now (file .entry)) (ifd .order) (deltaRule tag many) (λ _. FractionKind.SignedRational) r ⌝ }
+{
+    let rule = Rule {
+        tag,
+        kinds: Kinds::SignedRational,
+        required: false,
+        least: many,
+        most: many,
+    };
+    let v = match tag::look_up(file, ifd, rule) {
+        Given::Refused { number, detail } => return Given::Refused { number, detail },
+        Given::Is(v) => v,
+    };
+    let size = v.size;
+    let place = v.place;
+    let count = v.count;
+    let order = ifd.order;
+    match check_blacks(
+        file,
+        order,
+        tag,
+        FractionKind::SignedRational,
+        size,
+        count,
+        place,
+    ) {
+        Number::Refused { number, detail } => Given::Refused { number, detail },
+        Number::Is(_) => Given::Is(v),
+    }
+}

@@ -1,0 +1,68 @@
+// What the levels of a sample come from: 50712 to 50717.
+ghost use mathlib.Core.Path.{_≡_};
+ghost use Prim.Native.Nat.{_≤_};
+ghost use Rattle.reading.specs.Reading.{run};
+ghost use Rattle.directory.specs.Widths.{classic};
+ghost use Rattle.directory.specs.Shape.{Tested};
+ghost use Rattle.raw.specs.LevelTags.{levelTagsOut, LevelTagsIn, levelTagsReading};
+use crate::black;
+use crate::repeat;
+use crate::repeat::Repeat;
+use crate::repeat::Repeated;
+use crate::white;
+use directory::Ifd;
+use directory::tag::Given;
+use directory::tag::Values;
+
+pub struct LevelTags {
+    pub table: Values,
+    pub repeat: Repeat,
+    pub black: Values,
+    pub column_deltas: Values,
+    pub row_deltas: Values,
+    pub white: Values,
+}
+
+pub enum Leveled {
+    Refused { number: usize, detail: usize },
+    Is(LevelTags),
+}
+
+pub fn level_tags_of(file: &[u8], ifd: Ifd, samples: usize, rows: usize, columns: usize) -> Leveled
+    requires { ⌜ Tested (now file) ifd ⌝ }
+    requires { ⌜ samples ≤ 3 ⌝ }
+    ensures { λ r. ⌜ (levelTagsOut r ≡ run (now (file .entry)) (levelTagsReading classic ifd samples rows columns)) × LevelTagsIn (now (file .entry)) (ifd .order) samples rows columns r ⌝ }
+{
+    let table = match white::table_of(file, ifd) {
+        Given::Refused { number, detail } => return Leveled::Refused { number, detail },
+        Given::Is(v) => v,
+    };
+    let repeat = match repeat::repeat_of(file, ifd) {
+        Repeated::Refused { number, detail } => return Leveled::Refused { number, detail },
+        Repeated::Is(v) => v,
+    };
+    let black = match black::black_of(file, ifd, repeat, samples) {
+        Given::Refused { number, detail } => return Leveled::Refused { number, detail },
+        Given::Is(v) => v,
+    };
+    let column_deltas = match black::delta_of(file, ifd, 50715, columns) {
+        Given::Refused { number, detail } => return Leveled::Refused { number, detail },
+        Given::Is(v) => v,
+    };
+    let row_deltas = match black::delta_of(file, ifd, 50716, rows) {
+        Given::Refused { number, detail } => return Leveled::Refused { number, detail },
+        Given::Is(v) => v,
+    };
+    let white = match white::white_of(file, ifd, samples) {
+        Given::Refused { number, detail } => return Leveled::Refused { number, detail },
+        Given::Is(v) => v,
+    };
+    Leveled::Is(LevelTags {
+        table,
+        repeat,
+        black,
+        column_deltas,
+        row_deltas,
+        white,
+    })
+}

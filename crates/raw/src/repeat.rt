@@ -1,0 +1,64 @@
+// The repeat of the black levels: 50713.
+ghost use mathlib.Core.Path.{_≡_};
+ghost use Rattle.reading.specs.Reading.{run};
+ghost use Rattle.directory.specs.Widths.{classic};
+ghost use Rattle.directory.specs.Shape.{Tested};
+ghost use Rattle.raw.specs.Repeat.{repeatOut, RepeatIn, repeatReading};
+use directory::Ifd;
+use directory::Number;
+use directory::tag;
+use directory::tag::Given;
+use directory::tag::Kinds;
+use directory::tag::Range;
+use directory::tag::Rule;
+
+pub struct Repeat {
+    pub rows: usize,
+    pub columns: usize,
+}
+
+pub enum Repeated {
+    Refused { number: usize, detail: usize },
+    Is(Repeat),
+}
+
+pub fn repeat_of(file: &[u8], ifd: Ifd) -> Repeated
+    requires { ⌜ Tested (now file) ifd ⌝ }
+    ensures { λ r. ⌜ (repeatOut r ≡ run (now (file .entry)) (repeatReading classic ifd)) × RepeatIn r ⌝ }
+{
+    let rule = Rule {
+        tag: 50713,
+        kinds: Kinds::Short,
+        required: false,
+        least: 2,
+        most: 2,
+    };
+    let v = match tag::look_up(file, ifd, rule) {
+        Given::Refused { number, detail } => return Repeated::Refused { number, detail },
+        Given::Is(v) => v,
+    };
+    let count = v.count;
+    if count == 0 {
+        return Repeated::Is(Repeat {
+            rows: 1,
+            columns: 1,
+        });
+    }
+    let size = v.size;
+    let place = v.place;
+    let order = ifd.order;
+    let range = Range {
+        legal: 1,
+        from: 1,
+        to: 8,
+    };
+    let rows = match tag::judged(50713, range, tag::value(file, order, size, place)) {
+        Number::Refused { number, detail } => return Repeated::Refused { number, detail },
+        Number::Is(n) => n,
+    };
+    let columns = match tag::judged(50713, range, tag::value(file, order, size, place + size)) {
+        Number::Refused { number, detail } => return Repeated::Refused { number, detail },
+        Number::Is(n) => n,
+    };
+    Repeated::Is(Repeat { rows, columns })
+}

@@ -1,0 +1,125 @@
+// The strips: 273, 279.
+ghost use mathlib.Core.Path.{_≡_};
+ghost use Prim.Native.Nat.{_+_, _*_, _≤_, _<_, min};
+ghost use lib.ListN.{length};
+ghost use Rattle.reading.specs.Reading.{run};
+ghost use Rattle.directory.specs.Out.{numberOut};
+ghost use Rattle.directory.specs.Widths.{classic};
+ghost use Rattle.directory.specs.Shape.{Tested};
+ghost use Rattle.directory.specs.Tag.{Wide, valuesOut};
+ghost use Rattle.raw.specs.Frame.{Framed-in};
+ghost use Rattle.raw.specs.Layout.{Laid-in};
+ghost use Rattle.raw.specs.Strips.{stripFrom, stripsReading, StripsIn};
+use crate::frame::Frame;
+use crate::layout::Layout;
+use directory::Ifd;
+use directory::Number;
+use directory::tag;
+use directory::tag::Given;
+use directory::tag::Kinds;
+use directory::tag::Rule;
+use reading::number::Order;
+
+// Where the numbers of one tag stand and how wide they are.
+pub struct Run {
+    pub place: usize,
+    pub size: usize,
+}
+
+fn smaller(a: usize, b: usize) -> usize
+    ensures { λ r. ⌜ r ≡ min a b ⌝ }
+{
+    if a < b { a } else { b }
+}
+
+// Strip by strip: its byte count (4, 279), then its place (4, 273).
+fn check_strips(
+    file: &[u8],
+    order: Order,
+    offsets: Run,
+    counts: Run,
+    count: usize,
+    rows: usize,
+    lines: usize,
+    row: usize,
+) -> Number
+    requires { ⌜ (offsets .place + offsets .size * count ≤ length (now file)) × Wide (offsets .size) ⌝ }
+    requires { ⌜ (counts .place + counts .size * count ≤ length (now file)) × Wide (counts .size) ⌝ }
+    requires { ⌜ (lines ≤ 16384) × (row ≤ 98304) ⌝ }
+    ensures { λ r. ⌜ numberOut r ≡ run (now (file .entry)) (stripFrom (length (now (file .entry))) order (offsets .size) (counts .size) rows row count (offsets .place) (counts .place) lines) ⌝ }
+{
+    let width = offsets.size;
+    let breadth = counts.size;
+    let mut left = count;
+    let mut p = offsets.place;
+    let mut q = counts.place;
+    let mut rest = lines;
+    while 0 < left {
+        let here = smaller(rows, rest);
+        let bytes = tag::value(file, order, breadth, q);
+        if bytes != here * row {
+            return Number::Refused {
+                number: 4,
+                detail: 279,
+            };
+        }
+        let place = tag::value(file, order, width, p);
+        if file.len() < place + bytes {
+            return Number::Refused {
+                number: 4,
+                detail: 273,
+            };
+        }
+        p += width;
+        q += breadth;
+        rest -= here;
+        left -= 1;
+    }
+    Number::Is(0)
+}
+
+// 273 and 279: where the strips' offsets stand.
+pub fn strips_of(file: &[u8], ifd: Ifd, frame: Frame, layout: Layout) -> Given
+    requires { ⌜ Tested (now file) ifd ⌝ }
+    requires { ⌜ Framed-in frame × Laid-in layout ⌝ }
+    ensures { λ r. ⌜ (valuesOut r ≡ run (now (file .entry)) (stripsReading classic (length (now (file .entry))) ifd frame layout)) × StripsIn (now (file .entry)) (ifd .order) frame layout r ⌝ }
+{
+    let rows = layout.rows;
+    let count = (frame.length + rows - 1) / rows;
+    let row = frame.width * frame.samples * layout.bytes;
+    let offsets_rule = Rule {
+        tag: 273,
+        kinds: Kinds::ShortOrLong,
+        required: true,
+        least: count,
+        most: count,
+    };
+    let offsets = match tag::look_up(file, ifd, offsets_rule) {
+        Given::Refused { number, detail } => return Given::Refused { number, detail },
+        Given::Is(v) => v,
+    };
+    let counts_rule = Rule {
+        tag: 279,
+        kinds: Kinds::ShortOrLong,
+        required: true,
+        least: count,
+        most: count,
+    };
+    let counts = match tag::look_up(file, ifd, counts_rule) {
+        Given::Refused { number, detail } => return Given::Refused { number, detail },
+        Given::Is(v) => v,
+    };
+    let order = ifd.order;
+    let at = Run {
+        place: offsets.place,
+        size: offsets.size,
+    };
+    let long = Run {
+        place: counts.place,
+        size: counts.size,
+    };
+    match check_strips(file, order, at, long, count, rows, frame.length, row) {
+        Number::Refused { number, detail } => Given::Refused { number, detail },
+        Number::Is(_) => Given::Is(offsets),
+    }
+}
