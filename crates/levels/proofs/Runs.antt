@@ -24,24 +24,28 @@ run-at f w at zero i d h = absurd (not-suc-le-zero h)
 run-at f w at (suc n) zero d h = ap f (omega (arith, mul-zero w))
 run-at f w at (suc n) (suc i) d h = run-at f w (at + w) n i d (le-of-suc-le-suc h) ∙ ap f (omega (arith, mul-suc w i))
 
--- two runs with the same values
-pub run-same : {A : Type 0} (f g : ℕ → A) (w a b n : ℕ) → ((i : ℕ) → i < n → f (a + w * i) ≡ g (b + w * i)) → runOf f w a n ≡ runOf g w b n
+-- two runs with the same values, whatever their steps
+pub run-same : {A : Type 0} (f g : ℕ → A) (w v a b n : ℕ) → ((i : ℕ) → i < n → f (a + w * i) ≡ g (b + v * i)) → runOf f w a n ≡ runOf g v b n
 unfolding runOf
-run-same f g w a b zero h = refl
-run-same {A} f g w a b (suc n) h =
+run-same f g w v a b zero h = refl
+run-same {A} f g w v a b (suc n) h =
     let e : a + w * 0 ≡ a = omega (arith, mul-zero w) in
-    let d : b + w * 0 ≡ b = omega (arith, mul-zero w) in
+    let d : b + v * 0 ≡ b = omega (arith, mul-zero v) in
     let first : f a ≡ g b = rw (e, d) at (h 0 (omega arith)) in
     ap (λ (x : A). x ∷ runOf f w (a + w) n) first
-    ∙ ap (λ (l : List A). g b ∷ l) (run-same f g w (a + w) (b + w) n (λ i k.
+    ∙ ap (λ (l : List A). g b ∷ l) (run-same f g w v (a + w) (b + v) n (λ i k.
     let p : a + w * suc i ≡ a + w + w * i = omega (arith, mul-suc w i) in
-    let q : b + w * suc i ≡ b + w + w * i = omega (arith, mul-suc w i) in
+    let q : b + v * suc i ≡ b + v + v * i = omega (arith, mul-suc v i) in
     rw (p, q) at (h (suc i) (omega arith))))
 
 -- what is left of a run at i, one further
 pub run-next : {A : Type 0} (f : ℕ → A) (w p n i : ℕ) → i < n → runOf f w p (n - i) ≡ f p ∷ runOf f w (p + w) (n - (i + 1))
 unfolding runOf
 run-next f w p n i h = let e : n - i ≡ suc (n - (i + 1)) = omega arith in rw e
+
+pub run-none : {A : Type 0} (f : ℕ → A) (w at n : ℕ) → n ≡ 0 → runOf f w at n ≡ []
+unfolding runOf
+run-none f w at n e = rw e
 
 pub run-over : {A : Type 0} (f : ℕ → A) (w at n i : ℕ) → n ≤ i → runOf f w at (n - i) ≡ []
 unfolding runOf

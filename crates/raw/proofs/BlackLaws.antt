@@ -60,7 +60,7 @@ module _ (f : List ℕ) (o : Order) (k : FractionKind) (size n p : ℕ) (sized :
   -- a tag's values are the same in its bytes and in the file
   same-run : runOf (blackAt k o (part f p (size * n))) size 0 n ≡ runOf (blackAt k o f) size p n
   unfolding blackAt
-  same-run = run-same (blackAt k o (part f p (size * n))) (blackAt k o f) size 0 p n
+  same-run = run-same (blackAt k o (part f p (size * n))) (blackAt k o f) size size 0 p n
       (λ i h.
       let e : size ≡ widthOf k = sized (omega arith) in
       let b : 0 + size * i + widthOf k ≤ size * n = omega (arith, within size n i h) in

@@ -4,3 +4,6 @@ pub mod RepeatLaws
 pub mod Depth
 pub mod BlackLaws
 pub mod Ranges
+pub mod StoredLaws
+pub mod TagFacts
+pub mod SpanLaws

@@ -1,4 +1,6 @@
 -- The frame: 256, 257, 262, 277.
+use mathlib.Core.Path.{_≡_}
+use mathlib.Core.Logic.{_⊎_}
 use Prim.Native.Nat.{ℕ, _≤_}
 use lib.Dec.{eqb}
 use Rattle.reading.specs.Reading.{Reading, Reading.answer, pick}
@@ -6,6 +8,8 @@ use Rattle.directory.specs.Out.{Out, Out.refused, Out.is, bind}
 use Rattle.directory.specs.Widths.{Widths}
 use Rattle.directory.specs.Tag.{oneReading, required, optional, range}
 use Rattle.directory.specs.declared.Ifd.{Ifd}
+use Rattle.directory.specs.declared.Number.{Number}
+use Rattle.directory.specs.declared.Number.the-variants as number
 use Rattle.directory.specs.declared.tag.Kinds.the-variants as kinds
 use Rattle.directory.specs.declared.tag.Range.{Range}
 use Rattle.raw.specs.declared.frame.Frame.{Frame}
@@ -27,8 +31,10 @@ dimensionReading w d tag = oneReading w d (required tag kinds.ShortOrLong 1) 0 d
 unfoldable pub samplesOf : ℕ → ℕ
 samplesOf p = pick (eqb p 32803) 1 (pick (eqb p 34892) 3 0)
 
-abbrev pub planesRange : Range
-planesRange = range 0 1 3
+-- one plane or three
+abbrev pub PlanesIn : Number → Type 0
+PlanesIn (number.Refused n d) = Unit {0}
+PlanesIn (number.Is v) = (v ≡ 1) ⊎ (v ≡ 3)
 
 -- 262: "SHORT 1, required; 32803 or 34892 carried". 277: "SHORT 1, default 1; 1 for 32803, 3 for 34892, else not carried"
 unfoldable pub planesReading : Widths → Ifd → Reading (Out ℕ)
@@ -51,6 +57,7 @@ pub record Framed-in (v : Frame) : Type 0 where
   pub rows : v .length ≤ 16384
   pub some-samples : 1 ≤ v .samples
   pub samples : v .samples ≤ 3
+  pub planes : (v .samples ≡ 1) ⊎ (v .samples ≡ 3)
 
 abbrev pub FrameIn : Framed → Type 0
 FrameIn (framed.Refused n d) = Unit {0}

@@ -8,3 +8,6 @@ pub mod White
 pub mod LevelTags
 pub mod Lists
 pub mod Raw
+pub mod Stored
+pub mod Spans
+pub mod Sample

@@ -1,12 +1,12 @@
 // The frame: 256, 257, 262, 277.
 ghost use mathlib.Core.Path.{_≡_};
-ghost use Prim.Native.Nat.{_≤_};
+ghost use mathlib.Core.Logic.{_⊎_};
 ghost use Rattle.reading.specs.Reading.{run};
 ghost use Rattle.directory.specs.Out.{numberOut};
 ghost use Rattle.directory.specs.Widths.{classic};
 ghost use Rattle.directory.specs.Shape.{Tested};
 ghost use Rattle.directory.specs.Tag.{NumberIn};
-ghost use Rattle.raw.specs.Frame.{frameOut, FrameIn, samplesOf, planesReading, planesRange, dimensionReading, dimensionRange, frameReading};
+ghost use Rattle.raw.specs.Frame.{frameOut, FrameIn, samplesOf, planesReading, PlanesIn, dimensionReading, dimensionRange, frameReading};
 use directory::Ifd;
 use directory::Number;
 use directory::tag;
@@ -28,7 +28,7 @@ pub enum Framed {
 
 // The samples per pixel of a mosaic and of LinearRaw; 0 of anything else.
 fn samples_of(photometric: usize) -> usize
-    ensures { λ r. ⌜ (r ≡ samplesOf photometric) × (r ≤ 3) ⌝ }
+    ensures { λ r. ⌜ (r ≡ samplesOf photometric) × ((r ≡ 0) ⊎ ((r ≡ 1) ⊎ (r ≡ 3))) ⌝ }
 {
     if photometric == 32803 {
         return 1;
@@ -39,7 +39,7 @@ fn samples_of(photometric: usize) -> usize
 // 262 and 277.
 fn planes(file: &[u8], ifd: Ifd) -> Number
     requires { ⌜ Tested (now file) ifd ⌝ }
-    ensures { λ r. ⌜ (numberOut r ≡ run (now (file .entry)) (planesReading classic ifd)) × NumberIn planesRange r ⌝ }
+    ensures { λ r. ⌜ (numberOut r ≡ run (now (file .entry)) (planesReading classic ifd)) × PlanesIn r ⌝ }
 {
     let photometric = Rule {
         tag: 262,

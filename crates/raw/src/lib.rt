@@ -24,6 +24,8 @@ pub mod layout;
 pub mod level_tags;
 pub mod lists;
 pub mod repeat;
+pub mod sample;
+pub mod spans;
 pub mod strips;
 pub mod white;
 

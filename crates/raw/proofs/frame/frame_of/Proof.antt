@@ -6,8 +6,9 @@ use lib.ListN.{length}
 use Rattle.directory.specs.Out.{numberOut}
 use Rattle.directory.proofs.Outs.{bind-refused, bind-is}
 use Rattle.reading.proofs.Reading.{run-answer}
+use mathlib.Core.Logic.{⊎-elim}
 use Rattle.directory.specs.Tag.{NumberIn}
-use Rattle.raw.specs.Frame.{dimensionRange, planesRange, frameReading}
+use Rattle.raw.specs.Frame.{dimensionRange, PlanesIn, frameReading}
 use borrow.Author.Needs.{needs}
 use Rattle.raw.proofs.frame.frame_of.Statement.{statement}
 use Rattle.raw.proofs.frame.frame_of.Tie as tie
@@ -56,9 +57,9 @@ unfolding frameReading
 returns-4 c =
     let w = subst (NumberIn dimensionRange) (c .before .before .before .before .before .before .before .before .before .v .given .1) (c .before .before .before .before .before .before .before .before .before .before .before .dimension .ensures .1) in
     let l = subst (NumberIn dimensionRange) (c .before .before .before .before .before .v2 .given .1) (c .before .before .before .before .before .before .before .dimension2 .ensures .1) in
-    let s = subst (NumberIn planesRange) (c .before .v3 .given .1) (c .before .before .before .planes .ensures .1) in (
+    let s = subst PlanesIn (c .before .v3 .given .1) (c .before .before .before .planes .ensures .1) in (
       sym (bind-is _ _ _ _ (ap numberOut (sym (c .before .before .before .before .before .before .before .before .before .v .given .1)) ∙ c .before .before .before .before .before .before .before .before .before .before .before .dimension .ensures .0) ∙ bind-is _ _ _ _ (ap numberOut (sym (c .before .before .before .before .before .v2 .given .1)) ∙ c .before .before .before .before .before .before .before .dimension2 .ensures .0) ∙ bind-is _ _ _ _ (ap numberOut (sym (c .before .v3 .given .1)) ∙ c .before .before .before .planes .ensures .0) ∙ run-answer _ _),
-      record { some-columns = w .legal; columns = w .to; some-rows = l .legal; rows = l .to; some-samples = s .from; samples = s .to },
+      record { some-columns = w .legal; columns = w .to; some-rows = l .legal; rows = l .to; some-samples = ⊎-elim (λ e. omega arith) (λ e. omega arith) s; samples = ⊎-elim (λ e. omega arith) (λ e. omega arith) s; planes = s },
     )
 
 pub frame-of-spec : {M : Type 1} → statement M

@@ -7,12 +7,20 @@ use Rattle.directory.specs.Out.{numberOut}
 use Rattle.directory.proofs.Outs.{bind-refused, bind-is}
 use Rattle.reading.proofs.Reading.{running, pick-no}
 use borrow.Author.Tests.{eq-eqb, ne-eqb}
-use Rattle.directory.specs.Tag.{range}
-use Rattle.directory.proofs.Tags.{widen}
-use Rattle.raw.specs.Frame.{samplesOf, planesRange, planesReading}
+use mathlib.Core.Logic.{_⊎_, inl, inr, ⊎-elim}
+use Rattle.directory.specs.Tag.{NumberIn, range}
+use Rattle.directory.specs.declared.Number.{Number}
+use Rattle.directory.specs.declared.Number.the-variants as number
+use Rattle.raw.specs.Frame.{samplesOf, PlanesIn, planesReading}
 use borrow.Author.Needs.{needs}
 use Rattle.raw.proofs.frame.planes.Statement.{statement}
 use Rattle.raw.proofs.frame.planes.Tie as tie
+
+one-or-three : (s : ℕ) → (s ≡ 0 → ⊥) → (s ≡ 0) ⊎ ((s ≡ 1) ⊎ (s ≡ 3)) → (n : Number) → NumberIn (range 0 s s) n → PlanesIn n
+one-or-three s z h (number.Refused n d) i = tt
+one-or-three s z h (number.Is v) i =
+    let e : v ≡ s = omega (arith, i .from, i .to) in
+    ⊎-elim (λ q. absurd (z q)) (λ q. ⊎-elim (λ k. inl (e ∙ k)) (λ k. inr (e ∙ k)) q) h
 
 one-requires : tie.Need-one-requires
 one-requires c κs = search needs
@@ -46,7 +54,7 @@ returns-3 c =
     let z : samplesOf (c .before .before .before .before .v .given .0 .0) ≡ 0 → ⊥ = λ h. c .before .if1 .left (s .ensures .0 ∙ h) in
     let e = bind-is _ _ _ _ (ap numberOut (sym (c .before .before .before .before .v .given .1)) ∙ c .before .before .before .before .before .before .one .ensures .0) in (
       sym (e ∙ simp (ne-eqb _ _ z, pick-no, ← s .ensures .0) (sym (c .one2 .ensures .0))),
-      widen (range 0 (s .result) (s .result)) planesRange (λ v i. record { legal = omega arith; from = omega arith; to = omega arith }) (c .one2 .result) (c .one2 .ensures .1),
+      one-or-three (s .result) (c .before .if1 .left) (s .ensures .1) (c .one2 .result) (c .one2 .ensures .1),
     )
 
 pub planes-spec : {M : Type 1} → statement M

@@ -1,0 +1,121 @@
+-- What the accepted tags say of sizes and counts, as the functions over their values ask it.
+-- Assumes nothing.
+use mathlib.Core.Path.{_≡_, refl, sym, ap, subst, _∙_}
+use mathlib.Core.List.{List}
+use mathlib.Core.Logic.{_⊎_, ⊎-elim}
+use Prim.Native.Nat.{ℕ, _+_, _-_, _*_, _/_, _%_, _≤_, _<_, min}
+use native.Mathlib.Nat.{mul-add, mul-assoc, mul-comm, mul-suc, mul-le-mul, mul-le-mul-left, mul-le-mul-right, add-mul, mul-one, one-mul, div-add-mod', mod-lt, div-lt-iff-lt-mul, le-div-iff-mul-le, div-mul-le-self}
+use native.Mathlib.Omega.{arith}
+use lib.ListN.{length}
+use Rattle.reading.specs.Bytes.{part}
+use Rattle.reading.specs.Fraction.{widthOf}
+use Rattle.reading.specs.Number.{numberOf}
+use Rattle.reading.specs.declared.number.Order.{Order}
+use Rattle.directory.specs.Tag.{SizeIn, Wide, Placed-values}
+use Rattle.directory.specs.declared.tag.Kinds.the-variants as kinds
+use Rattle.directory.specs.declared.tag.Values.{Values}
+use Rattle.directory.proofs.Tags.{counted, exactly}
+use Rattle.raw.specs.Black.{kindFor}
+use Rattle.raw.specs.Raw.{Tags-in}
+use Rattle.raw.specs.Strips.{stripCount, rowBytes}
+use Rattle.raw.specs.Sample.{stripOf, withinStrip}
+use Rattle.raw.specs.declared.Tags.{Tags}
+use Rattle.raw.proofs.BlackLaws.{width-for, within}
+use Rattle.raw.proofs.Strip.{some-strips}
+use Rattle.raw.proofs.StoredLaws.{cell-index, cell-place}
+
+-- ---- the black levels
+pub record Cells-in (f : List ℕ) (t : Tags) : Type 0 where
+  pub small : t .levels .black .size ≤ 8
+  pub sized : t .levels .black .size ≡ widthOf (kindFor (t .levels .black .size))
+  pub count : t .levels .black .count ≡ t .levels .repeat .rows * t .levels .repeat .columns * t .frame .samples
+  pub inside : t .levels .black .place + t .levels .black .size * (t .levels .repeat .rows * t .levels .repeat .columns * t .frame .samples) ≤ length f
+
+three-small : (s : ℕ) → SizeIn kinds.ShortLongOrRational s → s ≤ 8
+three-small s h = ⊎-elim (λ e. omega arith) (λ q. ⊎-elim (λ e. omega arith) (λ e. omega arith) q) h
+
+pub cells-in : (f : List ℕ) (o : Order) (t : Tags) → Tags-in f o t → (t .levels .black .count ≡ 0 → ⊥) → Cells-in f t
+cells-in f o t h e =
+    let q = h .levels .black .placed in
+    let z : 0 < t .levels .black .count = omega arith in
+    let k = counted 50714 kinds.ShortLongOrRational _ q e in
+    record {
+      small = three-small (t .levels .black .size) (k .1);
+      sized = width-for (t .levels .black .size) (k .1);
+      count = omega (arith, q .enough z, q .within);
+      inside = k .0;
+    }
+
+-- the i-th cell of plane p lies in the file
+pub cell-inside : (len at size p s i m : ℕ) → p < s → i < m → at + size * (m * s) ≤ len → at + size * p + size * s * i + size ≤ len
+cell-inside len at size p s i m h k l = omega (arith, cell-place at size p s i, within size (m * s) (p + s * i) (cell-index p s i m h k))
+
+-- ---- the white levels
+pub record Whites-at (f : List ℕ) (t : Tags) : Type 0 where
+  pub wide : Wide (t .levels .white .size)
+  pub count : t .levels .white .count ≡ t .frame .samples
+  pub inside : t .levels .white .place + t .levels .white .size * t .frame .samples ≤ length f
+
+pub whites-at : (f : List ℕ) (o : Order) (t : Tags) → Tags-in f o t → (t .levels .white .count ≡ 0 → ⊥) → Whites-at f t
+whites-at f o t h e =
+    let q = h .levels .white .placed in
+    let z : 0 < t .levels .white .count = omega arith in
+    let k = counted 50717 kinds.ShortOrLong _ q e in
+    record { wide = k .1; count = omega (arith, q .enough z, q .within); inside = k .0 }
+
+pub wide-most : (s : ℕ) → Wide s → s ≤ 4
+wide-most s h = ⊎-elim (λ e. omega arith) (λ e. omega arith) h
+
+-- ---- a stored sample
+-- the strip of a stored row is one of the strips
+pub strip-below : (r rows length : ℕ) → r < length → 1 ≤ rows → r / rows < (length + rows - 1) / rows
+strip-below r rows length h k =
+    le-div-iff-mul-le k .1 (omega (arith, div-mul-le-self r rows, add-mul (r / rows) 1 rows, one-mul rows))
+
+-- and its row there is one of the strip's rows
+pub line-below : (r rows length : ℕ) → r < length → 1 ≤ rows → r % rows + 1 ≤ min rows (length - rows * (r / rows))
+line-below r rows length h k = omega (arith, mod-lt r k, div-add-mod' r rows, mul-comm rows (r / rows))
+
+-- a sample's bytes lie in its strip
+pub sample-below : (line lines width c samples p bytes : ℕ) → line + 1 ≤ lines → c < width → p < samples →
+    ((line * width + c) * samples + p) * bytes + bytes ≤ lines * (width * samples * bytes)
+sample-below line lines width c samples p bytes h k l =
+    let a : line * width + c + 1 ≤ lines * width = omega (arith, mul-le-mul-right width h, add-mul line 1 width, one-mul width) in
+    let b : (line * width + c) * samples + p + 1 ≤ lines * width * samples = omega (arith, mul-le-mul-right samples a, add-mul (line * width + c) 1 samples, one-mul samples) in
+    omega (arith, mul-le-mul-right bytes b, add-mul ((line * width + c) * samples + p) 1 bytes, one-mul bytes, mul-assoc lines width samples, mul-assoc lines (width * samples) bytes, ap (λ (n : ℕ). n * bytes) (mul-assoc lines width samples))
+
+-- nothing overflows on the way to a sample
+pub sample-fits : (line width c samples p bytes : ℕ) → line < 16384 → width ≤ 16384 → c < width → samples ≤ 3 → p < samples → bytes ≤ 2 →
+    (line * width ≤ 268435456) × ((line * width + c) * samples ≤ 805355520) × (((line * width + c) * samples + p) * bytes ≤ 1610711046)
+sample-fits line width c samples p bytes h w k s l b =
+    let h′ : line ≤ 16384 = omega arith in
+    let a : line * width ≤ 268435456 = mul-le-mul h′ w in
+    let a′ : line * width + c ≤ 268451840 = omega arith in
+    let d : (line * width + c) * samples ≤ 805355520 = mul-le-mul a′ s in
+    let d′ : (line * width + c) * samples + p ≤ 805355523 = omega arith in
+    (a, d, mul-le-mul d′ b)
+
+pub mod-below : (r rows : ℕ) → r < 16384 → r % rows < 16384
+mod-below r rows h = omega (arith, div-add-mod' r rows)
+
+-- the strips' offsets
+pub record Strips-at (f : List ℕ) (t : Tags) : Type 0 where
+  pub wide : Wide (t .strips .size)
+  pub count : t .strips .count ≡ stripCount (t .frame) (t .layout)
+  pub inside : t .strips .place + t .strips .size * stripCount (t .frame) (t .layout) ≤ length f
+
+pub strips-at : (f : List ℕ) (o : Order) (t : Tags) → Tags-in f o t → Strips-at f t
+strips-at f o t h =
+    let q = h .strips .placed in
+    let z = some-strips (t .frame .length) (t .layout .rows) (h .frame .some-rows) (h .layout .some-rows) in
+    let k = exactly 273 kinds.ShortOrLong _ q z in
+    record { wide = k .1; count = omega (arith, q .present refl, q .within); inside = k .0 }
+
+-- a stored sample lies in the file
+pub sample-inside : (f : List ℕ) (o : Order) (t : Tags) → Tags-in f o t → (r c p : ℕ) → r < t .frame .length → c < t .frame .width → p < t .frame .samples →
+    numberOf o (part f (t .strips .place + t .strips .size * stripOf t r) (t .strips .size)) + withinStrip t r c p + t .layout .bytes ≤ length f
+sample-inside f o t h r c p hr hc hp =
+    let rows = t .layout .rows in
+    let s = h .strips .inside (stripOf t r) (strip-below r rows (t .frame .length) hr (h .layout .some-rows)) in
+    let l = line-below r rows (t .frame .length) hr (h .layout .some-rows) in
+    omega (arith, s, sample-below (r % rows) _ (t .frame .width) c (t .frame .samples) p (t .layout .bytes) l hc hp)
