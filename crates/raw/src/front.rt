@@ -1,0 +1,71 @@
+// From a file's bytes to its raw directory: refusals 1 to 9.
+ghost use mathlib.Core.Path.{_≡_};
+ghost use lib.ListN.{length};
+ghost use Rattle.reading.specs.Reading.{run, runWhole};
+ghost use Rattle.directory.specs.Widths.{classic};
+ghost use Rattle.directory.specs.Shape.{Tested};
+ghost use Rattle.raw.specs.Front.{rawOut, RawIn, rawReading, frontOut, FrontIn, frontReading};
+use crate::Tagged;
+use crate::Tags;
+use crate::spans;
+use crate::spans::Spanned;
+use crate::spans::Spans;
+use directory::Ifd;
+use directory::tree;
+use directory::tree::Tree;
+use reading::number::Order;
+
+// The raw directory's tags, and S of each plane.
+pub struct Raw {
+    pub tags: Tags,
+    pub spans: Spans,
+}
+
+pub enum Read {
+    Refused { number: usize, detail: usize },
+    Is(Raw),
+}
+
+// IFD 0, the byte order, and what the raw directory says.
+pub struct Picture {
+    pub first: Ifd,
+    pub order: Order,
+    pub raw: Raw,
+}
+
+pub enum Front {
+    Refused { number: usize, detail: usize },
+    Is(Picture),
+}
+
+// The raw tags, then refusal 9.
+fn raw_of(file: &[u8], ifd: Ifd) -> Read
+    requires { ⌜ Tested (now file) ifd ⌝ }
+    ensures { λ r. ⌜ (rawOut r ≡ run (now (file .entry)) (rawReading classic (length (now (file .entry))) ifd)) × RawIn (now (file .entry)) (ifd .order) r ⌝ }
+{
+    let order = ifd.order;
+    let tags = match crate::tags_of(file, ifd) {
+        Tagged::Refused { number, detail } => return Read::Refused { number, detail },
+        Tagged::Is(v) => v,
+    };
+    match spans::spans_of(file, order, tags) {
+        Spanned::Refused { number, detail } => Read::Refused { number, detail },
+        Spanned::Is(spans) => Read::Is(Raw { tags, spans }),
+    }
+}
+
+pub fn open(file: &[u8]) -> Front
+    ensures { λ r. ⌜ (frontOut r ≡ runWhole (now (file .entry)) frontReading) × FrontIn (now (file .entry)) r ⌝ }
+{
+    let roots = match tree::open(file) {
+        Tree::Refused { number, detail } => return Front::Refused { number, detail },
+        Tree::Is(v) => v,
+    };
+    let first = roots.first;
+    let ifd = roots.raw;
+    let order = ifd.order;
+    match raw_of(file, ifd) {
+        Read::Refused { number, detail } => Front::Refused { number, detail },
+        Read::Is(raw) => Front::Is(Picture { first, order, raw }),
+    }
+}
