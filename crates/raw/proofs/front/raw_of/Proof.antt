@@ -41,9 +41,9 @@ returns-2 c = (bind-refused _ _ _ _ _ (ap spansOut (sym (c .before .number2 .giv
 returns-3 : tie.Need-returns-3
 unfolding rawReading
 returns-3 c = (
-      sym (bind-is _ _ _ _ (ap tagsOut (sym (c .before .before .before .before .before .v .given .1)) ∙ c .before .before .before .before .before .before .before .tags-of .ensures .0) ∙ bind-is _ _ _ _ (ap spansOut (sym (c .before .spans .given .1)) ∙ c .before .before .before .spans-of .ensures .0 ∙ sym (run-then (now (c .before .before .before .before .before .before .before .before .before .args .file)) (levelsReading (c .before .before .before .before .before .before .before .before .before .args .ifd .order) (c .before .before .before .before .before .v .given .0 .0)) (λ l. answer (spannedOf l)) _ refl ∙ run-answer _ _)) ∙ run-answer _ _),
-      record { tags = subst (TagsIn (now (c .before .before .before .before .before .before .before .before .before .args .file)) (c .before .before .before .before .before .before .before .before .before .args .ifd .order)) (c .before .before .before .before .before .v .given .1) (c .before .before .before .before .before .before .before .tags-of .ensures .1); spans = subst SpansIn (c .before .spans .given .1) (c .before .before .before .spans-of .ensures .1) },
-    )
+  sym (bind-is _ _ _ _ (ap tagsOut (sym (c .before .before .before .before .before .v .given .1)) ∙ c .before .before .before .before .before .before .before .tags-of .ensures .0) ∙ bind-is _ _ _ _ (ap spansOut (sym (c .before .spans .given .1)) ∙ c .before .before .before .spans-of .ensures .0 ∙ sym (run-then (now (c .before .before .before .before .before .before .before .before .before .args .file)) (levelsReading (c .before .before .before .before .before .before .before .before .before .args .ifd .order) (c .before .before .before .before .before .v .given .0 .0)) (λ l. answer (spannedOf l)) _ refl ∙ run-answer _ _)) ∙ run-answer _ _),
+  record { tags = subst (TagsIn (now (c .before .before .before .before .before .before .before .before .before .args .file)) (c .before .before .before .before .before .before .before .before .before .args .ifd .order)) (c .before .before .before .before .before .v .given .1) (c .before .before .before .before .before .before .before .tags-of .ensures .1); spans = subst SpansIn (c .before .spans .given .1) (c .before .before .before .spans-of .ensures .1) },
+)
 
 pub raw-of-spec : {M : Type 1} → statement M
 raw-of-spec = tie.close (tie.spec tags-of-requires enum-known-number returns enum-known-v spans-of-requires enum-known-number-2 enum-known-spans returns-2 returns-3)

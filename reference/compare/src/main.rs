@@ -1,0 +1,106 @@
+//! `compare SEED COUNT`: so many generated files through the core and through
+//! the independent program. Every answer must be the same, and every refusal
+//! that the front end knows must have been met.
+
+mod core;
+
+use std::collections::BTreeMap;
+use std::process::ExitCode;
+
+use reference::generate::{generate, generate_valid};
+use reference::{card, Card};
+
+/// What the front end must have answered, with its detail where it is a tag.
+const PLAIN: [u32; 6] = [1, 2, 3, 6, 7, 9];
+const WRONG: [u32; 25] = [
+    254, 330, 50706, 50707, 256, 257, 262, 277, 258, 259, 284, 339, 50975, 52547, 278, 273, 279, 50829,
+    50712, 50713, 50714, 50715, 50716, 50717, 51009,
+];
+const ABSENT: [u32; 7] = [50706, 256, 257, 262, 258, 273, 279];
+const NOT_CARRIED: [u32; 17] = [
+    256, 257, 262, 277, 258, 259, 284, 339, 50975, 52547, 50713, 50714, 50715, 50716, 50717, 51008, 51022,
+];
+
+const GREATEST_FILE: usize = 67_108_864;
+
+#[derive(Default)]
+struct Tally {
+    met: BTreeMap<(u32, u32), u64>,
+    files: u64,
+    differences: u64,
+}
+
+impl Tally {
+    fn check(&mut self, label: &str, file: &[u8]) {
+        let expected = card(file);
+        let front = core::front(file);
+        self.files += 1;
+        *self.met.entry((front.number, front.detail)).or_default() += 1;
+        if !agrees(&front, &expected) {
+            self.differences += 1;
+            println!("{label}: core {front:?}, reference {expected:?}");
+        }
+    }
+
+    fn missing(&self) -> Vec<(u32, u32)> {
+        let plain = PLAIN.iter().map(|number| (*number, 0));
+        let tags = [(4, &WRONG[..]), (5, &ABSENT[..]), (8, &NOT_CARRIED[..])];
+        let with_tag = tags.into_iter().flat_map(|(number, tags)| tags.iter().map(move |tag| (number, *tag)));
+        plain.chain(with_tag).filter(|answer| !self.met.contains_key(answer)).collect()
+    }
+}
+
+/// The front end stops before the opcode list, so refusals 10 to 12 are none
+/// of its own.
+fn agrees(front: &core::Front, expected: &Card) -> bool {
+    let refused = core::Front { number: expected.number, detail: expected.detail, ..core::Front::default() };
+    match expected.number {
+        0 => {
+            let size = (front.rows, front.columns, front.samples);
+            (front.number, front.detail) == (0, 0) && size == (expected.rows, expected.columns, expected.samples)
+        }
+        1..=9 => *front == refused,
+        _ => (front.number, front.detail) == (0, 0) && front.rows > 0 && front.columns > 0 && front.samples > 0,
+    }
+}
+
+/// Files of every length up to 8, and at and past the greatest length.
+fn check_lengths(tally: &mut Tally, seed: u64) {
+    let mut file = generate_valid(seed, 0);
+    for length in 0..=8 {
+        tally.check("short", &file[..length]);
+    }
+    file.resize(GREATEST_FILE, 0);
+    tally.check("longest", &file);
+    file.push(0);
+    tally.check("too long", &file);
+}
+
+fn main() -> ExitCode {
+    let mut words = std::env::args().skip(1).map(|word| word.parse::<u64>());
+    let (Some(Ok(seed)), Some(Ok(count)), None) = (words.next(), words.next(), words.next()) else {
+        eprintln!("usage: compare SEED COUNT");
+        return ExitCode::FAILURE;
+    };
+    let mut tally = Tally::default();
+    for index in 0..count {
+        let case = generate(seed, index);
+        tally.check(&format!("case {seed} {index} ({})", case.label), &case.file);
+    }
+    check_lengths(&mut tally, seed);
+    let missing = tally.missing();
+    let accepted = tally.met.get(&(0, 0)).copied().unwrap_or(0);
+    println!(
+        "compared {} files: {} accepted, {} kinds of refusal, {} not met {missing:?}, {} differences",
+        tally.files,
+        accepted,
+        tally.met.len() - 1,
+        missing.len(),
+        tally.differences
+    );
+    if tally.differences == 0 && missing.is_empty() {
+        ExitCode::SUCCESS
+    } else {
+        ExitCode::FAILURE
+    }
+}
