@@ -6,11 +6,24 @@ use mathlib.Core.Logic.{_⊎_, ⊎-elim}
 use Prim.Native.Nat.{ℕ, _+_, _-_, _*_, _/_, _%_, _≤_, _<_, min}
 use native.Mathlib.Nat.{mul-add, mul-assoc, mul-comm, mul-suc, mul-le-mul, mul-le-mul-left, mul-le-mul-right, add-mul, mul-one, one-mul, div-add-mod', mod-lt, div-lt-iff-lt-mul, le-div-iff-mul-le, div-mul-le-self}
 use native.Mathlib.Omega.{arith}
-use lib.ListN.{length}
+use mathlib.Core.Bool.{Bool, true, false}
+use lib.Dec.{eqb}
+use lib.IntN.{ℤ, pos, _+ℤ_}
+use lib.ListN.{length, getD}
+use borrow.Author.Tests.{eqb-true, eqb-false}
+use Rattle.reading.specs.Reading.{run}
+use Rattle.levels.specs.Level as Level
+use Rattle.levels.specs.Level.{differenceOf, levelOf}
+use Rattle.levels.specs.Levels.{Levels, blackFor, spanOf, levelAt}
+use Rattle.levels.specs.Table.{tableOf, throughOf}
+use Rattle.levels.proofs.Runs.{run-same}
+use Rattle.raw.specs.Stored.{Stored, numbersReading, blacksReading, levelsReading, storedReading}
 use Rattle.reading.specs.Bytes.{part}
 use Rattle.reading.specs.Fraction.{widthOf}
 use Rattle.reading.specs.Number.{numberOf}
 use Rattle.reading.specs.declared.number.Order.{Order}
+use Rattle.reading.specs.declared.fraction.FractionKind.the-variants as kind
+use Rattle.reading.proofs.Reading.{running}
 use Rattle.directory.specs.Tag.{SizeIn, Wide, Placed-values}
 use Rattle.directory.specs.declared.tag.Kinds.the-variants as kinds
 use Rattle.directory.specs.declared.tag.Values.{Values}
@@ -18,11 +31,14 @@ use Rattle.directory.proofs.Tags.{counted, exactly}
 use Rattle.raw.specs.Black.{kindFor}
 use Rattle.raw.specs.Raw.{Tags-in}
 use Rattle.raw.specs.Strips.{stripCount, rowBytes}
-use Rattle.raw.specs.Sample.{stripOf, withinStrip}
+use Rattle.raw.specs.Sample.{stripOf, withinStrip, placeOf, cellIndex, storedAt, spanAt, scaledOf}
+use Rattle.raw.specs.Front.{Raw-in}
+use Rattle.raw.specs.declared.front.Raw.{Raw}
 use Rattle.raw.specs.declared.Tags.{Tags}
 use Rattle.raw.proofs.BlackLaws.{width-for, within}
 use Rattle.raw.proofs.Strip.{some-strips}
-use Rattle.raw.proofs.StoredLaws.{cell-index, cell-place}
+use Rattle.raw.proofs.StoredLaws.{cell-index, cell-place, levels-run, numbers-run, samples-are}
+use Rattle.raw.proofs.SpanLaws.{span-of-plane}
 
 -- ---- the black levels
 pub record Cells-in (f : List ℕ) (t : Tags) : Type 0 where
@@ -119,3 +135,68 @@ sample-inside f o t h r c p hr hc hp =
     let s = h .strips .inside (stripOf t r) (strip-below r rows (t .frame .length) hr (h .layout .some-rows)) in
     let l = line-below r rows (t .frame .length) hr (h .layout .some-rows) in
     omega (arith, s, sample-below (r % rows) _ (t .frame .width) c (t .frame .samples) p (t .layout .bytes) l hc hp)
+
+-- a cell is one of the cells
+pub cell-below : (down rows across columns samples p : ℕ) → down < rows → across < columns → p < samples → (down * columns + across) * samples + p < rows * columns * samples
+cell-below down rows across columns samples p h k l =
+    let a : down * columns + across + 1 ≤ rows * columns = omega (arith, mul-le-mul-right columns h, add-mul down 1 columns, one-mul columns) in
+    omega (arith, mul-le-mul-right samples a, add-mul (down * columns + across) 1 samples, one-mul samples)
+
+pub cell-fits : (rows columns samples n : ℕ) → rows ≤ 8 → columns ≤ 8 → samples ≤ 3 → n ≤ rows * columns * samples → n ≤ 192
+cell-fits rows columns samples n a b d h = omega (arith, mul-le-mul (mul-le-mul a b) d)
+
+-- the linearization table as the code reads it
+pub table-is : (f : List ℕ) (o : Order) (t : Tags) → Tags-in f o t → run f (levelsReading o t) .table ≡ tableOf o f (t .levels .table .place) (t .levels .table .count)
+table-is f o t h =
+    ap (λ (l : Levels). l .table) (levels-run f o t) ∙ numbers-run f o v
+    ∙ run-same (λ (p : ℕ). numberOf o (part f p (v .size))) (λ (p : ℕ). numberOf o (part f p 2)) (v .size) 2 (v .place) (v .place) (v .count)
+    (λ i k. let e : v .size ≡ 2 = h .levels .table .sized (omega arith) in rw e)
+  where
+    v : Values
+    v = t .levels .table
+
+pub table-inside : (f : List ℕ) (o : Order) (t : Tags) → Tags-in f o t → t .levels .table .place + 2 * t .levels .table .count ≤ length f
+table-inside f o t h = go (eqb (t .levels .table .count) 0) refl
+  where
+    go : (b : Bool) → eqb (t .levels .table .count) 0 ≡ b → t .levels .table .place + 2 * t .levels .table .count ≤ length f
+    go true e = let z : t .levels .table .count ≡ 0 = eqb-true _ _ e in omega (arith, h .levels .table .inside, ap (λ (n : ℕ). t .levels .table .size * n) z)
+    go false e =
+        let z : t .levels .table .count ≡ 0 → ⊥ = eqb-false _ _ e in
+        let s : 0 < t .levels .table .count = omega arith in
+        let q : t .levels .table .size ≡ 2 = h .levels .table .sized s in
+        rw q at (h .levels .table .inside)
+
+-- ---- B and the scaled value of an active sample
+module _ (f : List ℕ) (o : Order) (t : Tags) (r c p : ℕ) where
+  pub black-for : blackFor (run f (levelsReading o t)) r c p
+      ≡ getD (run f (levelsReading o t) .cells) (cellIndex t r c p) (pos 0)
+      +ℤ getD (run f (blacksReading o kind.SignedRational (t .levels .«column_deltas»))) c (pos 0)
+      +ℤ getD (run f (blacksReading o kind.SignedRational (t .levels .«row_deltas»))) r (pos 0)
+  unfolding blackFor
+  black-for =
+      ap (λ (l : Levels). blackFor l r c p) (levels-run f o t)
+      ∙ sym (ap (λ (l : Levels). getD (l .cells) (cellIndex t r c p) (pos 0)
+      +ℤ getD (run f (blacksReading o kind.SignedRational (t .levels .«column_deltas»))) c (pos 0)
+      +ℤ getD (run f (blacksReading o kind.SignedRational (t .levels .«row_deltas»))) r (pos 0)) (levels-run f o t))
+
+  stored-run : run f (storedReading o t) ≡ record { offsets = run f (numbersReading o (t .strips)); levels = run f (levelsReading o t) }
+  unfolding storedReading
+  stored-run = simp running
+
+  pub scaled-is : Tags-in f o t → (st v : ℕ) (b s : ℤ) → st ≡ storedAt f o t (run f (numbersReading o (t .strips))) r c p →
+      v ≡ throughOf (tableOf o f (t .levels .table .place) (t .levels .table .count)) st → b ≡ blackFor (run f (levelsReading o t)) r c p → s ≡ spanOf (run f (levelsReading o t)) p →
+      Level.scaledOf (levelOf (differenceOf v b) s) ≡ scaledOf f o t (run f (storedReading o t)) r c p
+  unfolding scaledOf levelAt
+  scaled-is h st v b s est ev eb es =
+      ap Level.scaledOf (rw (ev, eb, es, est) (rw (← table-is f o t h)))
+      ∙ sym (ap (λ (x : Stored). scaledOf f o t x r c p) stored-run)
+
+  pub stored-is : (offsets : List ℕ) (place row column : ℕ) → place ≡ placeOf t offsets row column p → row ≡ t .area .top + r → column ≡ t .area .left + c →
+      numberOf o (part f place (t .layout .bytes)) ≡ storedAt f o t offsets r c p
+  stored-is offsets place row column e er ec = ap (λ (n : ℕ). numberOf o (part f n (t .layout .bytes))) (e ∙ ap (λ (n : ℕ). placeOf t offsets n column p) er ∙ ap (λ (n : ℕ). placeOf t offsets (t .area .top + r) n p) ec)
+
+-- S of a plane
+pub span-in : (f : List ℕ) (o : Order) (r : Raw) → Raw-in f o r → (p : ℕ) → p < r .tags .frame .samples → spanAt (r .spans) p ≡ spanOf (run f (levelsReading o (r .tags))) p
+span-in f o r h p k =
+    let e = samples-are f o (r .tags) in
+    span-of-plane (run f (levelsReading o (r .tags))) (r .spans) (h .spanned) (rw e (h .tags .frame .planes)) p (rw e k)

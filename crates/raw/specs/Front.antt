@@ -1,8 +1,9 @@
 -- From a file's bytes to its raw directory: refusals 1 to 9.
+use mathlib.Core.Path.{_≡_}
 use mathlib.Core.List.{List}
 use Prim.Native.Nat.{ℕ, _≤_}
 use lib.ListN.{length}
-use Rattle.reading.specs.Reading.{Reading, Reading.answer, andThen}
+use Rattle.reading.specs.Reading.{Reading, Reading.answer, andThen, run}
 use Rattle.reading.specs.declared.number.Order.{Order}
 use Rattle.directory.specs.Out.{Out, Out.refused, Out.is, bind}
 use Rattle.directory.specs.Widths.{Widths, classic}
@@ -50,6 +51,7 @@ frontReading size =
 pub record Raw-in (f : List ℕ) (o : Order) (r : Raw) : Type 0 where
   pub tags : Tags-in f o (r .tags)
   pub spans : Spans-in (r .spans)
+  pub spanned : is (r .spans) ≡ spannedOf (run f (levelsReading o (r .tags)))
 
 abbrev pub RawIn : List ℕ → Order → Read → Type 0
 RawIn f o (read.Refused n d) = Unit {0}

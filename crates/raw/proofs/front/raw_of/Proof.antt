@@ -42,7 +42,7 @@ returns-3 : tie.Need-returns-3
 unfolding rawReading
 returns-3 c = (
   sym (bind-is _ _ _ _ (ap tagsOut (sym (c .before .before .before .before .before .v .given .1)) ∙ c .before .before .before .before .before .before .before .tags-of .ensures .0) ∙ bind-is _ _ _ _ (ap spansOut (sym (c .before .spans .given .1)) ∙ c .before .before .before .spans-of .ensures .0 ∙ sym (run-then (now (c .before .before .before .before .before .before .before .before .before .args .file)) (levelsReading (c .before .before .before .before .before .before .before .before .before .args .ifd .order) (c .before .before .before .before .before .v .given .0 .0)) (λ l. answer (spannedOf l)) _ refl ∙ run-answer _ _)) ∙ run-answer _ _),
-  record { tags = subst (TagsIn (now (c .before .before .before .before .before .before .before .before .before .args .file)) (c .before .before .before .before .before .before .before .before .before .args .ifd .order)) (c .before .before .before .before .before .v .given .1) (c .before .before .before .before .before .before .before .tags-of .ensures .1); spans = subst SpansIn (c .before .spans .given .1) (c .before .before .before .spans-of .ensures .1) },
+  record { tags = subst (TagsIn (now (c .before .before .before .before .before .before .before .before .before .args .file)) (c .before .before .before .before .before .before .before .before .before .args .ifd .order)) (c .before .before .before .before .before .v .given .1) (c .before .before .before .before .before .before .before .tags-of .ensures .1); spans = subst SpansIn (c .before .spans .given .1) (c .before .before .before .spans-of .ensures .1); spanned = ap spansOut (sym (c .before .spans .given .1)) ∙ c .before .before .before .spans-of .ensures .0 },
 )
 
 pub raw-of-spec : {M : Type 1} → statement M
