@@ -4,7 +4,7 @@ use mathlib.Core.List.{List, [], _∷_}
 use Prim.Native.Nat.{ℕ}
 use Rattle.reading.specs.Number.{numberOf, littleOf, bigOf}
 use Rattle.reading.specs.Reading.{run, trace, andThen, pick, numberAt, runWhole, traceWhole}
-use Rattle.reading.specs.declared.number.Order.the-variants.{Little, Big}
+use Rattle.reading.specs.declared.number.Order.the-variants.{Little}
 use Rattle.reading.proofs.Reading.{stretch}
 use Rattle.directory.specs.Out.{Out.refused, Out.is, bind}
 use Rattle.directory.specs.Entry.{kindOf, sizeOf, headerOf}

@@ -4,7 +4,7 @@ use mathlib.Core.Path.{_≡_, refl, sym, _∙_}
 use mathlib.Core.List.{List}
 use Prim.Native.Nat.{ℕ}
 use native.Mathlib.Omega.{arith}
-use Rattle.reading.specs.Reading.{Reading, Reading.answer, run}
+use Rattle.reading.specs.Reading.{Reading, run}
 use Rattle.reading.proofs.Reading.{run-answer, run-then}
 use Rattle.directory.specs.Out.{Out, Out.refused, Out.is, onward, bind}
 

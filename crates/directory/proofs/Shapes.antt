@@ -2,7 +2,7 @@
 -- Assumes nothing.
 use mathlib.Core.Path.{_≡_, sym, _∙_}
 use mathlib.Core.List.{List}
-use Prim.Native.Nat.{ℕ, suc, _+_, _*_, _≤_, _<_}
+use Prim.Native.Nat.{ℕ, _+_, _*_, _≤_, _<_}
 use native.Mathlib.Numerals.{add-one}
 use borrow.Author.Tests.{lt-ltb, le-ltb, le-leb, lt-leb}
 use Rattle.reading.specs.Bytes.{part}
@@ -10,7 +10,7 @@ use Rattle.reading.specs.Number.{numberOf}
 use Rattle.reading.specs.Reading.{run}
 use Rattle.reading.specs.declared.number.Order.{Order}
 use Rattle.reading.proofs.Reading.{running, run-answer, pick-yes, pick-no}
-use Rattle.directory.specs.Out.{Out, Out.refused, Out.is}
+use Rattle.directory.specs.Out.{Out.refused, Out.is}
 use Rattle.directory.specs.Widths.{Widths, headWidth, entryWidth}
 use Rattle.directory.specs.Entry.{bytesOf, headerOf}
 use Rattle.directory.specs.Shape.{placeTest, entryReading, orderTest, shapeFrom, ifd, ifdReading}

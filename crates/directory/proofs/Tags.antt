@@ -5,23 +5,22 @@ use mathlib.Core.Bool.{Bool, true, false, _||_}
 use mathlib.Core.List.{List, [], _∷_}
 use mathlib.Core.Logic.{_⊎_, inl, inr, ⊎-elim}
 use Prim.Native.Nat.{ℕ, zero, suc, _+_, _*_, _≤_, _<_}
-use native.Mathlib.Nat.{mul-one}
 use native.Mathlib.Numerals.{add-one}
 use native.Mathlib.Omega.{arith}
 use lib.Dec.{eqb, leb, ltb}
 use lib.ListN.{length, getD}
 use mir.Val.{hasKey}
-use borrow.Author.Tests.{eqb-true, eqb-false, leb-true, leb-false, ltb-true, ltb-false, lt-ltb, le-ltb, le-leb, lt-leb, eq-eqb, ne-eqb}
+use borrow.Author.Tests.{eqb-true, eqb-false, leb-true, leb-false, ltb-true, ltb-false, le-leb, lt-leb, eq-eqb, ne-eqb}
 use Rattle.reading.specs.Bytes.{part}
 use Rattle.reading.specs.Number.{numberOf}
-use Rattle.reading.specs.Reading.{Reading, Reading.answer, andThen, run, numberAt}
+use Rattle.reading.specs.Reading.{Reading.answer, andThen, run, numberAt}
 use Rattle.reading.specs.declared.number.Order.{Order}
-use Rattle.reading.proofs.Reading.{running, run-answer, run-ask, run-then, run-number, pick-yes, pick-no}
+use Rattle.reading.proofs.Reading.{running, run-answer, run-ask, run-then, pick-yes, pick-no}
 use Rattle.directory.specs.Out.{Out, Out.refused, Out.is}
 use Rattle.directory.specs.Widths.{Widths, headWidth, entryWidth}
 use Rattle.directory.specs.Entry.{codeOf, sizes, sizeOf, bytesOf, headerOf}
 use Rattle.directory.specs.Shape.{entryReading, shapeFrom}
-use Rattle.directory.specs.Tag.{findFrom, foundReading, codesOf, allowsOf, valuesAt, noValues, wholeReading, valueReading, testedReading, valuesFound, valuesReading, Placed, Wide, SizeIn, Numeric, Placed-values, required, optional, faultOf, judgedOf, firstReading, oneReading, eachReading, InRange, NumberIn}
+use Rattle.directory.specs.Tag.{findFrom, foundReading, allowsOf, valuesAt, noValues, wholeReading, valueReading, testedReading, valuesFound, valuesReading, Placed, Wide, SizeIn, Numeric, Placed-values, required, optional, faultOf, judgedOf, firstReading, eachReading, InRange, NumberIn}
 use Rattle.directory.specs.declared.Ifd.{Ifd}
 use Rattle.directory.specs.declared.Number.{Number}
 use Rattle.directory.specs.declared.Number.the-variants as number

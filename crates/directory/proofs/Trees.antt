@@ -1,9 +1,9 @@
 -- Laws of the tree, each by the code's tests.
 -- Assumes nothing.
-use mathlib.Core.Path.{_≡_, refl, sym, ap, _∙_}
-use mathlib.Core.Bool.{Bool, true, false, _&&_}
+use mathlib.Core.Path.{_≡_, refl, sym, _∙_}
+use mathlib.Core.Bool.{true, false, _&&_}
 use mathlib.Core.List.{List, [], _∷_}
-use Prim.Native.Nat.{ℕ, zero, suc, _+_, _*_, _-_, _≤_, _<_}
+use Prim.Native.Nat.{ℕ, _+_, _*_, _≤_, _<_}
 use native.Mathlib.Numerals.{add-one}
 use native.Mathlib.Omega.{arith}
 use lib.Dec.{eqb}
@@ -15,11 +15,11 @@ use Rattle.reading.specs.Reading.{run}
 use Rattle.reading.specs.declared.number.Order.{Order}
 use Rattle.reading.specs.declared.number.Order.the-variants.{Little, Big}
 use Rattle.reading.proofs.Reading.{running, run-answer, run-then, pick-yes, pick-no}
-use Rattle.directory.specs.Out.{Out, Out.refused, Out.is}
+use Rattle.directory.specs.Out.{Out.refused, Out.is}
 use Rattle.directory.specs.Widths.{Widths, classic}
 use Rattle.directory.specs.Shape.{ifdReading}
 use Rattle.directory.specs.Tag.{valuesReading, oneReading, optional, range}
-use Rattle.directory.specs.Tree.{Seen, raw-one, parent, childrenRule, lookReading, versionRule, backwardRule, backwardReading, versionReading, Walked, raw, left, afterLook, afterChild, childrenReading, visitReading, listVisit, afterWalk, roots, walkReading, rootReading, sameBytes, littleMark, bigMark, treeReading}
+use Rattle.directory.specs.Tree.{Seen, raw-one, parent, childrenRule, lookReading, versionRule, backwardRule, backwardReading, versionReading, Walked, left, afterLook, afterChild, childrenReading, visitReading, listVisit, rootReading, sameBytes, littleMark, bigMark, treeReading}
 use Rattle.directory.specs.declared.Ifd.{Ifd}
 use Rattle.directory.specs.declared.tag.Kinds.the-variants as kinds
 use Rattle.directory.specs.declared.tag.Values.{Values}

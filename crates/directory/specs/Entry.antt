@@ -1,5 +1,5 @@
 -- An entry of a directory: tag, type, count.
-use Prim.Native.Nat.{ℕ, _+_, _*_}
+use Prim.Native.Nat.{ℕ, _*_}
 use mathlib.Core.List.{List, [], _∷_}
 use lib.ListN.{getD}
 use Rattle.reading.specs.Bytes.{part}

@@ -1,5 +1,4 @@
 -- The directory tree: refusals 1, 2, 6, 7, and the raw directory.
-use mathlib.Core.Path.{_≡_}
 use mathlib.Core.List.{List, [], _∷_}
 use mathlib.Core.Bool.{Bool, true, false, _&&_}
 use Prim.Native.Nat.{ℕ, zero, suc, _+_, _*_, _≤_}

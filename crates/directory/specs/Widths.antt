@@ -1,5 +1,5 @@
 -- How wide the fields of a directory are.
-use Prim.Native.Nat.{ℕ, _+_, _*_}
+use Prim.Native.Nat.{ℕ, _+_}
 
 pub record Widths : Type 0 where
   pub entries : ℕ  -- the count of a directory's entries

@@ -1,17 +1,17 @@
 -- Laws of `runOf`, and of the table and the greatest black, which are read of a run.
 -- Assumes nothing.
-use mathlib.Core.Path.{_≡_, refl, sym, ap, _∙_}
+use mathlib.Core.Path.{_≡_, refl, ap, _∙_}
 use mathlib.Core.List.{List, [], _∷_}
 use Prim.Native.Nat.{ℕ, zero, suc, _+_, _-_, _*_, _≤_, _<_, min}
 use native.Mathlib.Nat.{mul-suc, mul-zero, not-suc-le-zero, le-of-suc-le-suc, min-eq-left, min-eq-right}
 use native.Mathlib.Omega.{arith}
-use lib.IntN.{ℤ, pos}
+use lib.IntN.{pos}
 use lib.ListN.{length, getD}
 use Rattle.levels.specs.Run.{runOf}
 use Rattle.levels.specs.Table.{throughOf}
 use Rattle.levels.specs.Black.{greatestFrom, greatestOf, largerOf}
 use Rattle.levels.specs.declared.black.Black.{Black}
-use Rattle.levels.specs.declared.black.Black.the-variants.{Parts, Illegal, NotCarried}
+use Rattle.levels.specs.declared.black.Black.the-variants.{Parts}
 
 pub length-run : {A : Type 0} (f : ℕ → A) (w at n : ℕ) → length (runOf f w at n) ≡ n
 unfolding runOf

@@ -1,9 +1,9 @@
 -- The tests of the black levels and the white levels.
 -- Assumes nothing.
-use mathlib.Core.Path.{_≡_, refl, sym, ap, subst, _∙_}
+use mathlib.Core.Path.{_≡_, sym, ap, subst, _∙_}
 use mathlib.Core.List.{List}
 use mathlib.Core.Logic.{⊎-elim}
-use Prim.Native.Nat.{ℕ, suc, _+_, _*_, _-_, _≤_, _<_}
+use Prim.Native.Nat.{ℕ, _+_, _*_, _≤_, _<_}
 use native.Mathlib.Nat.{mul-le-mul, mul-le-mul-left, mul-suc}
 use native.Mathlib.Omega.{arith}
 use lib.ListN.{length}
@@ -16,7 +16,7 @@ use Rattle.reading.specs.declared.fraction.FractionKind.{FractionKind}
 use Rattle.reading.specs.declared.fraction.FractionKind.the-variants as kind
 use Rattle.reading.proofs.Bytes.{part-part}
 use Rattle.reading.proofs.Reading.{running, run-answer}
-use Rattle.directory.specs.Out.{Out, Out.refused, Out.is}
+use Rattle.directory.specs.Out.{Out.is}
 use Rattle.directory.specs.Widths.{Widths}
 use Rattle.directory.specs.Tag.{SizeIn, valuesOut, ValuesIn, range, allReading}
 use Rattle.directory.specs.declared.Ifd.{Ifd}
@@ -26,7 +26,7 @@ use Rattle.directory.specs.declared.tag.Given.{Given}
 use Rattle.directory.specs.declared.tag.Given.the-variants as given
 use Rattle.directory.proofs.Outs.{bind-inverse}
 use Rattle.levels.specs.Run.{runOf}
-use Rattle.levels.specs.Black.{blackOf, blackAt, partsOf, greatestOf}
+use Rattle.levels.specs.Black.{blackOf, blackAt, greatestOf}
 use Rattle.levels.specs.declared.black.Black.{Black}
 use Rattle.levels.specs.declared.black.Black.the-variants.{Parts, Illegal}
 use Rattle.levels.proofs.Runs.{run-same, run-at, length-run}

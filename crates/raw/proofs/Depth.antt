@@ -7,8 +7,8 @@ use borrow.Author.Tests.{eq-eqb, ne-eqb}
 use Rattle.reading.specs.Bytes.{part}
 use Rattle.reading.specs.Number.{numberOf}
 use Rattle.reading.specs.Reading.{run}
-use Rattle.reading.proofs.Reading.{running, run-answer, pick-yes, pick-no}
-use Rattle.directory.specs.Out.{Out, Out.refused, Out.is}
+use Rattle.reading.proofs.Reading.{running, run-answer, pick-no}
+use Rattle.directory.specs.Out.{Out.refused, Out.is}
 use Rattle.directory.specs.Widths.{Widths}
 use Rattle.directory.specs.Tag.{valuesReading, eachReading, required, range}
 use Rattle.directory.specs.declared.Ifd.{Ifd}

@@ -1,22 +1,20 @@
 -- What the tests of a tag's numbers say of each of them.
 -- Assumes nothing.
-use mathlib.Core.Path.{_≡_, refl, sym, ap, _∙_}
+use mathlib.Core.Path.{_≡_, refl, sym, _∙_}
 use mathlib.Core.Bool.{Bool, true, false}
 use mathlib.Core.List.{List}
 use Prim.Native.Nat.{ℕ, zero, suc, _+_, _*_, _≤_, _<_}
 use native.Mathlib.Nat.{mul-suc, mul-zero}
 use native.Mathlib.Omega.{arith}
 use lib.Dec.{eqb, ltb}
-use borrow.Author.Tests.{eqb-true, eqb-false, ltb-true, ltb-false, lt-ltb, le-ltb, ne-eqb}
+use borrow.Author.Tests.{eqb-true, eqb-false, ltb-false}
 use Rattle.reading.specs.Bytes.{part}
 use Rattle.reading.specs.Number.{numberOf}
 use Rattle.reading.specs.Reading.{pick, run}
 use Rattle.reading.specs.declared.number.Order.{Order}
-use Rattle.reading.proofs.Reading.{pick-yes, pick-no, run-answer}
-use Rattle.directory.specs.Out.{Out, Out.refused, Out.is}
-use Rattle.directory.specs.Tag.{faultOf, judgedOf, eachReading}
+use Rattle.directory.specs.Out.{Out.refused, Out.is}
+use Rattle.directory.specs.Tag.{faultOf, eachReading}
 use Rattle.directory.specs.declared.tag.Range.{Range}
-use Rattle.directory.proofs.Outs.{bind-is}
 use Rattle.directory.proofs.Tags.{judged-is, judged-bad, each-bad, each-next}
 
 not-refused : {A : Type 0} (a : A) (k d : ℕ) → is a ≡ refused k d → ⊥

@@ -12,7 +12,7 @@ use lib.Signed.{leZ}
 use borrow.Author.Tests.{eq-eqb, ne-eqb, eqb-true, eqb-false}
 use Rattle.reading.specs.Reading.{pick}
 use Rattle.reading.proofs.Reading.{pick-yes, pick-no}
-use Rattle.directory.specs.Out.{Out, Out.refused, Out.is}
+use Rattle.directory.specs.Out.{Out.refused, Out.is}
 use Rattle.levels.specs.Level.{differenceOf}
 use Rattle.levels.specs.Levels.{Levels, maxOf, planeCells, greatestBlack, spanOf}
 use Rattle.raw.specs.Sample.{spanAt}

@@ -1,8 +1,8 @@
 -- What the definitions ask for at a tag's place is what the code reads there.
 -- Assumes nothing.
-use mathlib.Core.Path.{_≡_, refl, sym, ap, subst, _∙_}
-use mathlib.Core.List.{List, [], _∷_}
-use Prim.Native.Nat.{ℕ, _+_, _-_, _*_, _≤_, _<_}
+use mathlib.Core.Path.{_≡_, sym, ap, subst, _∙_}
+use mathlib.Core.List.{List}
+use Prim.Native.Nat.{ℕ, _+_, _*_, _≤_, _<_}
 use native.Mathlib.Nat.{mul-assoc, mul-add, mul-comm, mul-suc, mul-le-mul-left}
 use native.Mathlib.Omega.{arith}
 use lib.IntN.{ℤ, pos}
@@ -25,7 +25,7 @@ use Rattle.levels.specs.declared.black.Black.the-variants.{Parts}
 use Rattle.levels.proofs.Runs.{run-same, run-at, run-none}
 use Rattle.levels.proofs.Greatest.{greatest-run, max-zero}
 use Rattle.raw.specs.Black.{kindFor, CarriedRun}
-use Rattle.raw.specs.Stored.{numbersIn, numbersReading, blacksIn, blacksReading, defaultWhite, whitesReading, levelsReading}
+use Rattle.raw.specs.Stored.{numbersReading, blacksReading, defaultWhite, whitesReading, levelsReading}
 use Rattle.raw.specs.declared.Tags.{Tags}
 use Rattle.raw.proofs.BlackLaws.{within}
 

@@ -14,7 +14,7 @@ use Rattle.reading.specs.Number.{numberOf}
 use Rattle.reading.specs.Reading.{run}
 use Rattle.reading.specs.declared.number.Order.{Order}
 use Rattle.reading.proofs.Reading.{running, run-answer}
-use Rattle.directory.specs.Out.{Out, Out.refused, Out.is}
+use Rattle.directory.specs.Out.{Out.refused, Out.is}
 use Rattle.raw.specs.Strips.{stripFrom}
 
 pub strip-bytes-fit : (here row : ℕ) → here ≤ 16384 → row ≤ 98304 → here * row ≤ 1610612736

@@ -1,10 +1,10 @@
 -- What the accepted tags say of sizes and counts, as the functions over their values ask it.
 -- Assumes nothing.
-use mathlib.Core.Path.{_≡_, refl, sym, ap, subst, _∙_}
+use mathlib.Core.Path.{_≡_, refl, sym, ap, _∙_}
 use mathlib.Core.List.{List}
-use mathlib.Core.Logic.{_⊎_, ⊎-elim}
+use mathlib.Core.Logic.{⊎-elim}
 use Prim.Native.Nat.{ℕ, _+_, _-_, _*_, _/_, _%_, _≤_, _<_, min}
-use native.Mathlib.Nat.{mul-add, mul-assoc, mul-comm, mul-suc, mul-le-mul, mul-le-mul-left, mul-le-mul-right, add-mul, mul-one, one-mul, div-add-mod', mod-lt, div-lt-iff-lt-mul, le-div-iff-mul-le, div-mul-le-self}
+use native.Mathlib.Nat.{mul-assoc, mul-comm, mul-le-mul, mul-le-mul-right, add-mul, one-mul, div-add-mod', mod-lt, le-div-iff-mul-le, div-mul-le-self}
 use native.Mathlib.Omega.{arith}
 use mathlib.Core.Bool.{Bool, true, false}
 use lib.Dec.{eqb}
@@ -24,13 +24,13 @@ use Rattle.reading.specs.Number.{numberOf}
 use Rattle.reading.specs.declared.number.Order.{Order}
 use Rattle.reading.specs.declared.fraction.FractionKind.the-variants as kind
 use Rattle.reading.proofs.Reading.{running}
-use Rattle.directory.specs.Tag.{SizeIn, Wide, Placed-values}
+use Rattle.directory.specs.Tag.{SizeIn, Wide}
 use Rattle.directory.specs.declared.tag.Kinds.the-variants as kinds
 use Rattle.directory.specs.declared.tag.Values.{Values}
 use Rattle.directory.proofs.Tags.{counted, exactly}
 use Rattle.raw.specs.Black.{kindFor}
 use Rattle.raw.specs.Raw.{Tags-in}
-use Rattle.raw.specs.Strips.{stripCount, rowBytes}
+use Rattle.raw.specs.Strips.{stripCount}
 use Rattle.raw.specs.Sample.{stripOf, withinStrip, placeOf, cellIndex, storedAt, spanAt, scaledOf}
 use Rattle.raw.specs.Front.{Raw-in}
 use Rattle.raw.specs.declared.front.Raw.{Raw}

@@ -2,7 +2,7 @@
 ghost use mathlib.Core.Path.{_≡_};
 ghost use Prim.Native.Nat.{ℕ, _+_, _*_, _≤_, _<_};
 ghost use lib.ListN.{length, getD};
-ghost use lib.IntN.{natAbs, _+ℤ_};
+ghost use lib.IntN.{natAbs};
 ghost use Rattle.reading.specs.Fraction.{widthOf};
 ghost use Rattle.reading.specs.Reading.{run};
 ghost use Rattle.levels.specs.Run.{runOf};

@@ -1,8 +1,6 @@
-use mathlib.Core.Path.{_≡_, refl, sym, ap, subst, _∙_}
-use Prim.Native.Nat.{ℕ, _+_, _-_, _*_, _≤_, _<_}
+use mathlib.Core.Path.{sym, ap, _∙_}
 use native.Mathlib.Omega.{arith}
 use denote.Ref.{now}
-use lib.ListN.{length}
 use Rattle.directory.specs.Out.{numberOut}
 use Rattle.directory.specs.Widths.{classic}
 use Rattle.directory.proofs.Shapes.{ifd-outside, ifd-empty, ifd-cut, ifd-refused, ifd-is}

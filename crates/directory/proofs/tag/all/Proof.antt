@@ -1,12 +1,10 @@
-use mathlib.Core.Path.{_≡_, refl, sym, ap, subst, _∙_}
-use Prim.Native.Nat.{ℕ, _+_, _-_, _*_, _≤_, _<_}
-use native.Mathlib.Omega.{arith}
+use mathlib.Core.Path.{_≡_, sym, ap, subst, _∙_}
 use denote.Ref.{now}
 use lib.ListN.{length}
 use Rattle.reading.specs.Reading.{run}
 use Rattle.directory.specs.Out.{numberOut, Out.is}
 use Rattle.directory.specs.Widths.{classic}
-use Rattle.directory.specs.Tag.{valuesOut, ValuesIn, Placed-values, valuesReading, Wide, oneReading, allReading}
+use Rattle.directory.specs.Tag.{valuesOut, ValuesIn, Placed-values, valuesReading, allReading}
 use Rattle.directory.proofs.Outs.{bind-refused, bind-is}
 use Rattle.directory.proofs.Tags.{wide}
 use Rattle.reading.proofs.Reading.{run-answer}

@@ -1,4 +1,4 @@
-use mathlib.Core.Path.{_≡_, sym, _∙_}
+use mathlib.Core.Path.{_∙_}
 use mathlib.Core.List.{[], _∷_}
 use borrow.Author.Tests.{eq-eqb}
 use Rattle.directory.proofs.Tags.{key-one, key-here, key-there}

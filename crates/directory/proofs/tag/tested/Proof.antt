@@ -1,8 +1,6 @@
-use mathlib.Core.Path.{_≡_, refl, sym, ap, subst, _∙_}
-use Prim.Native.Nat.{ℕ, _+_, _-_, _*_, _≤_, _<_}
-use native.Mathlib.Omega.{arith}
+use mathlib.Core.Path.{_≡_, sym, ap, subst, _∙_}
+use Prim.Native.Nat.{_≤_, _<_}
 use denote.Ref.{now}
-use lib.ListN.{length}
 use mathlib.Core.Bool.{true}
 use Rattle.directory.specs.Out.{Out.is}
 use Rattle.directory.specs.Widths.{classic}

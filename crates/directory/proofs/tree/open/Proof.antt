@@ -1,8 +1,5 @@
-use mathlib.Core.Path.{_≡_, refl, sym, ap, subst, _∙_}
+use mathlib.Core.Path.{refl, sym, _∙_}
 use native.Mathlib.Omega.{arith}
-use denote.Ref.{now}
-use lib.ListN.{length}
-use Prim.Native.Nat.{ℕ}
 use Rattle.directory.proofs.Trees.{tree-small, tree-large, tree-little, tree-big, tree-neither}
 use borrow.Author.Needs.{needs}
 use Rattle.directory.proofs.tree.open.Statement.{statement}

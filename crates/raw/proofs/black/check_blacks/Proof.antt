@@ -1,8 +1,7 @@
-use mathlib.Core.Path.{_≡_, refl, sym, ap, subst, _∙_}
-use Prim.Native.Nat.{ℕ, _+_, _-_, _*_, _≤_, _<_}
+use mathlib.Core.Path.{sym, _∙_}
+use Prim.Native.Nat.{_<_}
 use native.Mathlib.Omega.{arith}
 use denote.Ref.{now}
-use lib.ListN.{length}
 use Rattle.levels.specs.declared.black.Black.the-variants.{Parts, Illegal, NotCarried}
 use Rattle.raw.proofs.BlackLaws.{within, width-most, blacks-test, run-carried}
 use borrow.Author.Needs.{needs}

@@ -1,8 +1,4 @@
-use mathlib.Core.Path.{_≡_, refl, sym, ap, subst, _∙_}
-use Prim.Native.Nat.{ℕ, _+_, _-_, _*_, _≤_, _<_}
-use native.Mathlib.Omega.{arith}
-use denote.Ref.{now}
-use lib.ListN.{length}
+use mathlib.Core.Path.{sym, ap, subst, _∙_}
 use Rattle.directory.specs.Out.{numberOut}
 use Rattle.directory.proofs.Outs.{bind-refused, bind-is}
 use Rattle.reading.proofs.Reading.{run-answer}
