@@ -1,0 +1,5 @@
+pub mod Pad
+pub mod Polynomial
+pub mod Floor
+pub mod Whole
+pub mod Tables

@@ -1,0 +1,49 @@
+use mathlib.Core.Path.{_≡_, sym, ap, _∙_}
+use mathlib.Core.List.{List}
+use Prim.Native.Nat.{ℕ}
+use native.Mathlib.Omega.{arith}
+use denote.Ref.{now}
+use lib.ListN.{List·getD-eq-default}
+use lib.Ieee.{Float, binary64, ofBits, neg}
+use Rattle.reading.specs.Bytes.{part}
+use Rattle.reading.specs.Number.{numberOf}
+use Rattle.reading.specs.Real.{realOf}
+use Rattle.reading.specs.declared.number.Order.the-variants.{Big}
+use Rattle.levels.proofs.Runs.{run-at, length-run}
+use Rattle.opcodes.specs.Step.{valueOf, minusZero, coefficientsOf}
+use borrow.Author.Needs.{needs}
+use Rattle.opcodes.proofs.step.coefficient.Statement.{statement}
+use Rattle.opcodes.proofs.step.coefficient.Tie as tie
+
+abbrev number : List ℕ → ℕ → Float
+number f p = valueOf (realOf binary64 (numberOf Big (part f p 8)))
+
+mul-double-at : tie.Need-mul-double-at
+mul-double-at c = omega (arith, c .before .before .pre .0)
+
+add-double-at : tie.Need-add-double-at
+add-double-at c = omega (arith, c .before .before .pre .1, c .if1 .taken)
+
+double-at-requires : tie.Need-double-at-requires
+double-at-requires c κs = omega (arith, c .before .before .pre .1, c .if1 .taken)
+
+enum-known-x : tie.Need-enum-known-x
+enum-known-x c = search needs
+
+enum-told : tie.Need-enum-told
+enum-told c = search needs
+
+returns : tie.Need-returns
+unfolding ofBits neg
+returns c = ap valueOf (sym (c .before .x .given .1) ∙ c .before .before .before .double-at .ensures) ∙ sym (run-at (number (now (c .before .before .before .before .before .before .args .file))) 8 (c .before .before .before .before .before .before .args .at) (c .before .before .before .before .before .before .args .n) (c .before .before .before .before .before .before .args .k) minusZero (c .before .before .before .before .if1 .taken))
+
+returns-2 : tie.Need-returns-2
+unfolding ofBits neg
+returns-2 c = ap valueOf (sym (c .enum-told .given .1) ∙ c .before .before .double-at .ensures) ∙ sym (run-at (number (now (c .before .before .before .before .before .args .file))) 8 (c .before .before .before .before .before .args .at) (c .before .before .before .before .before .args .n) (c .before .before .before .before .before .args .k) minusZero (c .before .before .before .if1 .taken))
+
+returns-3 : tie.Need-returns-3
+unfolding ofBits neg
+returns-3 c = sym (List·getD-eq-default (coefficientsOf (now (c .before .before .args .file)) (c .before .before .args .at) (c .before .before .args .n)) minusZero (rw (length-run (number (now (c .before .before .args .file))) 8 (c .before .before .args .at) (c .before .before .args .n)) (c .if1 .left)))
+
+pub coefficient-spec : {M : Type 1} → statement M
+coefficient-spec = tie.close (tie.spec mul-double-at add-double-at double-at-requires enum-known-x enum-told returns returns-2 returns-3)

@@ -1,0 +1,45 @@
+use mathlib.Core.Path.{_≡_, ap, _∙_}
+use mathlib.Core.List.{List}
+use Prim.Native.Nat.{ℕ, _+_, _≤_, min}
+use native.Mathlib.Omega.{arith}
+use denote.Ref.{now}
+use lib.Ieee.{Float}
+use Rattle.reading.specs.Bytes.{part}
+use Rattle.reading.specs.Number.{numberOf}
+use Rattle.reading.specs.declared.number.Order.the-variants.{Big}
+use Rattle.levels.specs.Level.{scaledOf}
+use Rattle.levels.specs.Table.{tableOf, throughOf}
+use Rattle.opcodes.specs.Step.{indexOf, sizeAt, tableAt, TableIn}
+use Rattle.opcodes.proofs.Tables.{through-capped}
+use borrow.Author.Needs.{needs}
+use Rattle.opcodes.proofs.step.mapped.Statement.{statement}
+use Rattle.opcodes.proofs.step.mapped.Tie as tie
+
+through-is : (f : List ℕ) (at : ℕ) (x : Float) (n k : ℕ) → n ≡ sizeAt f at → k ≡ min (indexOf x) 65535 → TableIn f at → throughOf (tableOf Big f (at + 4) n) k ≡ throughOf (tableAt f at) (indexOf x)
+through-is f at x n k e h t = rw (e, h) (through-capped (λ (p : ℕ). numberOf Big (part f p 2)) 2 (at + 4) (sizeAt f at) (indexOf x) (t .some) (t .most))
+
+long-requires : tie.Need-long-requires
+long-requires c κs = omega (arith, c .before .pre .inside)
+
+cast-size : tie.Need-cast-size
+cast-size c = search needs
+
+add-through : tie.Need-add-through
+add-through c = omega (arith, c .before .before .pre .inside)
+
+index-requires : tie.Need-index-requires
+index-requires c κs = search needs
+
+through-requires : tie.Need-through-requires
+through-requires c κs = omega (arith, c .before .before .before .pre .inside, c .before .long .ensures)
+
+scaled-requires : tie.Need-scaled-requires
+scaled-requires c κs = search needs
+
+returns : tie.Need-returns
+returns c =
+    let f = now (c .before .before .before .before .before .args .file) in
+    c .scaled .ensures ∙ ap scaledOf (c .before .through .ensures ∙ through-is f (c .before .before .before .before .before .args .at) (c .before .before .before .before .before .args .x) _ _ (c .before .before .before .long .ensures) (c .before .before .index .ensures) (c .before .before .before .before .before .pre))
+
+pub mapped-spec : {M : Type 1} → statement M
+mapped-spec = tie.close (tie.spec long-requires cast-size add-through index-requires through-requires scaled-requires returns)

@@ -1,0 +1,2 @@
+// OpcodeList2: what an opcode does at one sample.
+pub mod step;

@@ -1,0 +1,103 @@
+// An opcode at one sample.
+ghost use mathlib.Core.Path.{_≡_};
+ghost use Prim.Native.Nat.{_+_, _*_, _≤_, _<_, min};
+ghost use lib.ListN.{getD, length};
+ghost use Rattle.levels.specs.Clip.{clipOf};
+ghost use Rattle.opcodes.specs.Step.{minusZero, indexOf, mappedOf, tableAt, TableIn, StepIn, appliedOf, coefficientsOf, polynomialOf};
+use levels::table;
+use reading::number;
+use reading::number::Order;
+use reading::real;
+use reading::real::Real;
+
+// An added number, a factor, nine coefficients with the constant first, or the place of a table: its
+// size and then its entries.
+pub enum Step {
+    Add(f64),
+    Scale(f64),
+    Polynomial(f64, f64, f64, f64, f64, f64, f64, f64, f64),
+    Table(usize),
+}
+
+fn clip(x: f64) -> f64
+    ensures { λ r. ⌜ r ≡ clipOf x ⌝ }
+{
+    if 0.0 < x {
+        if x < 1.0 {
+            return x;
+        }
+    }
+    if 1.0 <= x { 1.0 } else { 0.0 }
+}
+
+// The index into a table, or 65535 where it is above.
+fn index(x: f64) -> u16
+    ensures { λ r. ⌜ r ≡ min (indexOf x) 65535 ⌝ }
+{
+    let v = x * 65535.0 + 0.5;
+    if v > -1.0 {
+        if v < 65536.0 {
+            return std::num::truncating_f64_to_u64(v) as u16;
+        }
+        return 65535;
+    }
+    0
+}
+
+// x through the table at a place.
+fn mapped(file: &[u8], at: usize, x: f64) -> f64
+    requires { ⌜ TableIn (now file) at ⌝ }
+    ensures { λ r. ⌜ r ≡ mappedOf (tableAt (now (file .entry)) at) x ⌝ }
+{
+    let size = number::long(file, Order::Big, at) as usize;
+    levels::scaled(table::through(file, Order::Big, at + 4, size, index(x)))
+}
+
+pub fn apply(step: Step, file: &[u8], x: f64) -> f64
+    requires { ⌜ StepIn (now file) step ⌝ }
+    ensures { λ r. ⌜ r ≡ appliedOf step (now (file .entry)) x ⌝ }
+{
+    match step {
+        Step::Add(d) => clip(x + d),
+        Step::Scale(f) => clip(x * f),
+        Step::Polynomial(a0, a1, a2, a3, a4, a5, a6, a7, a8) => {
+            let p = ((((((((a8 * x + a7) * x + a6) * x + a5) * x + a4) * x + a3) * x + a2) * x + a1)
+                * x
+                + a0);
+            clip(p)
+        }
+        Step::Table(at) => clip(mapped(file, at, x)),
+    }
+}
+
+// The k-th of n coefficients, or -0.0 past the highest.
+fn coefficient(file: &[u8], at: usize, n: usize, k: usize) -> f64
+    requires { ⌜ (k < 9) × (at + 8 * n ≤ length (now file)) ⌝ }
+    ensures { λ r. ⌜ r ≡ getD (coefficientsOf (now (file .entry)) at n) k minusZero ⌝ }
+{
+    if k < n {
+        match real::double_at(file, at + 8 * k) {
+            Real::Value(x) => x,
+            Real::Refused => 0.0,
+        }
+    } else {
+        -0.0
+    }
+}
+
+// The step of a polynomial whose n coefficients stand at a place.
+pub fn polynomial_at(file: &[u8], at: usize, n: usize) -> Step
+    requires { ⌜ at + 8 * n ≤ length (now file) ⌝ }
+    ensures { λ r. ⌜ r ≡ polynomialOf (coefficientsOf (now (file .entry)) at n) ⌝ }
+{
+    let a0 = coefficient(file, at, n, 0);
+    let a1 = coefficient(file, at, n, 1);
+    let a2 = coefficient(file, at, n, 2);
+    let a3 = coefficient(file, at, n, 3);
+    let a4 = coefficient(file, at, n, 4);
+    let a5 = coefficient(file, at, n, 5);
+    let a6 = coefficient(file, at, n, 6);
+    let a7 = coefficient(file, at, n, 7);
+    let a8 = coefficient(file, at, n, 8);
+    Step::Polynomial(a0, a1, a2, a3, a4, a5, a6, a7, a8)
+}
