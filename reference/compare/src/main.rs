@@ -1,13 +1,15 @@
 //! `compare SEED COUNT`: so many generated files through the core and through
 //! the independent program. Every answer must be the same, and every refusal
-//! that the front end knows must have been met.
+//! that the front end knows must have been met; then the same of the files at
+//! the limits, whose answers are stated.
 
 mod core;
+mod limits;
 
 use std::collections::BTreeMap;
 use std::process::ExitCode;
 
-use reference::generate::{generate, generate_valid};
+use reference::generate::generate;
 use reference::{card, Card};
 
 /// What the front end must have answered, with its detail where it is a tag.
@@ -17,11 +19,8 @@ const WRONG: [u32; 25] = [
     50712, 50713, 50714, 50715, 50716, 50717, 51009,
 ];
 const ABSENT: [u32; 7] = [50706, 256, 257, 262, 258, 273, 279];
-const NOT_CARRIED: [u32; 17] = [
-    256, 257, 262, 277, 258, 259, 284, 339, 50975, 52547, 50713, 50714, 50715, 50716, 50717, 51008, 51022,
-];
-
-const GREATEST_FILE: usize = 67_108_864;
+const NOT_CARRIED: [u32; 17] =
+    [256, 257, 262, 277, 258, 259, 284, 339, 50975, 52547, 50713, 50714, 50715, 50716, 50717, 51008, 51022];
 
 #[derive(Default)]
 struct Tally {
@@ -31,14 +30,16 @@ struct Tally {
 }
 
 impl Tally {
-    fn check(&mut self, label: &str, file: &[u8]) {
+    /// Where the document's answer is stated, both programs must give that.
+    fn check(&mut self, label: &str, file: &[u8], stated: Option<(u32, u32)>) {
         let expected = card(file);
         let front = core::front(file);
         self.files += 1;
         *self.met.entry((front.number, front.detail)).or_default() += 1;
-        if !agrees(&front, &expected) {
+        let as_stated = stated.is_none_or(|answer| answer == (expected.number, expected.detail));
+        if !as_stated || !agrees(&front, &expected) {
             self.differences += 1;
-            println!("{label}: core {front:?}, reference {expected:?}");
+            println!("{label}: core {front:?}, reference {expected:?}, stated {stated:?}");
         }
     }
 
@@ -57,23 +58,14 @@ fn agrees(front: &core::Front, expected: &Card) -> bool {
     match expected.number {
         0 => {
             let size = (front.rows, front.columns, front.samples);
-            (front.number, front.detail) == (0, 0) && size == (expected.rows, expected.columns, expected.samples)
+            (front.number, front.detail) == (0, 0)
+                && size == (expected.rows, expected.columns, expected.samples)
         }
         1..=9 => *front == refused,
-        _ => (front.number, front.detail) == (0, 0) && front.rows > 0 && front.columns > 0 && front.samples > 0,
+        _ => {
+            (front.number, front.detail) == (0, 0) && front.rows > 0 && front.columns > 0 && front.samples > 0
+        }
     }
-}
-
-/// Files of every length up to 8, and at and past the greatest length.
-fn check_lengths(tally: &mut Tally, seed: u64) {
-    let mut file = generate_valid(seed, 0);
-    for length in 0..=8 {
-        tally.check("short", &file[..length]);
-    }
-    file.resize(GREATEST_FILE, 0);
-    tally.check("longest", &file);
-    file.push(0);
-    tally.check("too long", &file);
 }
 
 fn main() -> ExitCode {
@@ -82,23 +74,30 @@ fn main() -> ExitCode {
         eprintln!("usage: compare SEED COUNT");
         return ExitCode::FAILURE;
     };
-    let mut tally = Tally::default();
+    let mut generated = Tally::default();
     for index in 0..count {
         let case = generate(seed, index);
-        tally.check(&format!("case {seed} {index} ({})", case.label), &case.file);
+        generated.check(&format!("case {seed} {index} ({})", case.label), &case.file, None);
     }
-    check_lengths(&mut tally, seed);
-    let missing = tally.missing();
-    let accepted = tally.met.get(&(0, 0)).copied().unwrap_or(0);
+    let mut limits = Tally::default();
+    limits::check(&mut limits);
+    let (missing, unmet) = (generated.missing(), limits.missing());
     println!(
         "compared {} files: {} accepted, {} kinds of refusal, {} not met {missing:?}, {} differences",
-        tally.files,
-        accepted,
-        tally.met.len() - 1,
+        generated.files,
+        generated.met.get(&(0, 0)).copied().unwrap_or(0),
+        generated.met.keys().filter(|(number, _)| *number != 0).count(),
         missing.len(),
-        tally.differences
+        generated.differences
     );
-    if tally.differences == 0 && missing.is_empty() {
+    println!(
+        "limits: {} cases, {} not met {unmet:?}, {} differences",
+        limits.files,
+        unmet.len(),
+        limits.differences
+    );
+    let differences = generated.differences + limits.differences;
+    if differences == 0 && missing.is_empty() && unmet.is_empty() {
         ExitCode::SUCCESS
     } else {
         ExitCode::FAILURE

@@ -1,0 +1,395 @@
+//! The tags of document 01: types, counts, values, and the order of test.
+
+use reference::builder::{Data, Dng, Picture, Tag};
+use reference::bytes::ByteOrder;
+use reference::tag_test::{BYTE, LONG, RATIONAL, SHORT, SRATIONAL, UNDEFINED};
+
+use super::{answer, at_depths, both, entry, every_type, plain, DONE, LINEAR, MAX, MOSAIC, SHAPE};
+use crate::Tally;
+
+const WHOLE: &[u16] = &[SHORT, LONG];
+
+/// A tag, its types, carried values in each base file, and the number that
+/// answers its absence there.
+type Rule = (u16, &'static [u16], [&'static [u32]; 2], [u32; 2]);
+
+/// In order of test.
+const RULES: [Rule; 24] = [
+    (50706, &[BYTE], [&[1, 7, 1, 0]; 2], [5; 2]),
+    (50707, &[BYTE], [&[1, 7, 1, 0]; 2], [0; 2]),
+    (254, &[LONG], [&[0]; 2], [0; 2]),
+    (256, WHOLE, [&[3]; 2], [5; 2]),
+    (257, WHOLE, [&[2]; 2], [5; 2]),
+    (262, &[SHORT], [&[32_803], &[34_892]], [5; 2]),
+    (277, &[SHORT], [&[1], &[3]], [0, 8]),
+    (258, &[SHORT], [&[8], &[16; 3]], [5; 2]),
+    (259, &[SHORT], [&[1]; 2], [0; 2]),
+    (284, &[SHORT], [&[1]; 2], [0; 2]),
+    (339, &[SHORT], [&[1], &[1; 3]], [0; 2]),
+    (50975, WHOLE, [&[1]; 2], [0; 2]),
+    (52547, WHOLE, [&[1]; 2], [0; 2]),
+    (278, WHOLE, [&[2]; 2], [0; 2]),
+    (273, WHOLE, [&[8]; 2], [5; 2]),
+    (279, WHOLE, [&[6], &[36]], [5; 2]),
+    (50829, WHOLE, [&[0, 0, 2, 3]; 2], [0; 2]),
+    (50712, &[SHORT], [&[7]; 2], [0; 2]),
+    (50713, &[SHORT], [&[1, 1]; 2], [0; 2]),
+    (50714, &[SHORT, LONG, RATIONAL], [&[0], &[0; 3]], [0; 2]),
+    (50715, &[SRATIONAL], [&[0; 3]; 2], [0; 2]),
+    (50716, &[SRATIONAL], [&[0; 2]; 2], [0; 2]),
+    (50717, WHOLE, [&[255], &[65_535; 3]], [0; 2]),
+    (51009, &[UNDEFINED], [&[0; 4]; 2], [0; 2]),
+];
+
+/// Not carried if present with any type; tested before 51009.
+const FORBIDDEN: [u16; 2] = [51008, 51022];
+
+/// Tags of one value, their type, and values in the mosaic: carried, illegal
+/// (4), legal but not carried (8).
+const SINGLE: &[(&[u16], u16, [&[u32]; 3])] = &[
+    (&[256, 257], SHORT, [&[], &[0], &[16_385, 65_535]]),
+    (&[256, 257], LONG, [&[], &[0], &[16_385, 65_536, 65_539, MAX]]),
+    (&[262], SHORT, [&[32_803], &[], &[0, 32_802, 32_804, 34_891, 34_893, 65_535]]),
+    (&[277], SHORT, [&[1], &[], &[0, 2, 3, 65_535]]),
+    (&[258], SHORT, [&[8], &[], &[0, 7, 9, 10, 12, 14, 15, 17, 32, 65_535]]),
+    (&[259, 284, 339], SHORT, [&[1], &[], &[0, 2, 65_535]]),
+    (&[50975, 52547], SHORT, [&[1], &[0], &[2, 65_535]]),
+    (&[50975, 52547], LONG, [&[1], &[0], &[2, 65_536, 65_537, MAX]]),
+    (&[278], SHORT, [&[2, 3, 65_535], &[0], &[]]),
+    (&[278], LONG, [&[2, 3, 65_536, MAX - 1, MAX], &[0], &[]]),
+    (&[279], SHORT, [&[6], &[0, 5, 7, 65_535], &[]]),
+    (&[279], LONG, [&[6], &[0, 5, 7, 65_542, MAX], &[]]),
+    (&[50712], SHORT, [&[0, 1, 65_535], &[], &[]]),
+    (&[50714], SHORT, [&[0, 1, 254], &[], &[]]),
+    (&[50714], LONG, [&[0, 1, 254], &[], &[65_536, MAX]]),
+    (&[50717], SHORT, [&[1, 65_534, 65_535], &[], &[]]),
+    (&[50717], LONG, [&[1, 65_534, 65_535], &[], &[65_536, 65_537, MAX]]),
+];
+
+/// A base file, a tag with its type, and lists of values with one number.
+const SEVERAL: &[(usize, u16, u16, &[&[u32]], u32)] = &[
+    (MOSAIC, 50707, BYTE, &[&[1, 7, 1, 0], &[1, 7, 0, 255], &[1, 6, 255, 255], &[0, 255, 255, 255]], 0),
+    (MOSAIC, 50707, BYTE, &[&[1, 7, 1, 1], &[1, 7, 2, 0], &[1, 8, 0, 0], &[2, 0, 0, 0], &[255; 4]], 7),
+    (MOSAIC, 50706, BYTE, &[&[1, 7, 1, 1], &[1, 7, 255, 255], &[1, 6, 255, 255], &[0, 255, 0, 0]], 0),
+    (MOSAIC, 50706, BYTE, &[&[1, 8, 0, 0], &[2, 0, 0, 0], &[255; 4]], 7),
+    (MOSAIC, 254, LONG, &[&[1], &[2], &[65_536], &[1 << 24], &[MAX]], 6),
+    (LINEAR, 262, SHORT, &[&[34_891], &[34_893]], 8),
+    (LINEAR, 277, SHORT, &[&[0], &[1], &[2], &[4]], 8),
+    (LINEAR, 258, SHORT, &[&[8, 16, 16], &[16, 8, 16], &[16, 16, 8], &[16, 16, 17], &[15; 3]], 8),
+    (LINEAR, 339, SHORT, &[&[2, 1, 1], &[1, 2, 1], &[1, 1, 2], &[1, 1, 0]], 8),
+    (LINEAR, 279, LONG, &[&[0], &[18], &[35], &[37]], 4),
+    (MOSAIC, 50829, LONG, &[&[0, 0, 1, 3], &[1, 0, 2, 3], &[0, 0, 2, 1], &[0, 2, 2, 3], &[1, 2, 2, 3]], 0),
+    (MOSAIC, 50829, LONG, &[&[0, 0, 3, 3], &[0, 0, 2, 4], &[2, 0, 2, 3], &[0, 3, 2, 3], &[2, 0, 1, 3]], 4),
+    (MOSAIC, 50829, LONG, &[&[0, 0, 0, 3], &[0, 0, 2, 0], &[0, 3, 2, 2], &[0, 0, MAX, 3]], 4),
+    (MOSAIC, 50829, LONG, &[&[0, 0, 65_538, 3], &[0, 0, 2, 65_539], &[MAX, 0, 2, 3], &[0, MAX, 2, 3]], 4),
+    (MOSAIC, 50829, SHORT, &[&[0, 0, 3, 3], &[0, 0, 2, 4], &[2, 0, 2, 3], &[0, 3, 2, 3]], 4),
+    (MOSAIC, 50713, SHORT, &[&[2, 1], &[1, 2], &[7, 8], &[8, 7], &[8, 8]], 0),
+    (MOSAIC, 50713, SHORT, &[&[0, 1], &[1, 0], &[0, 9], &[0, 0], &[8, 0]], 4),
+    (MOSAIC, 50713, SHORT, &[&[9, 1], &[1, 9], &[9, 0], &[8, 9], &[9, 8], &[65_535, 1]], 8),
+    (MOSAIC, 50714, SHORT, &[&[255], &[256], &[65_535]], 9),
+    (MOSAIC, 50714, LONG, &[&[255], &[256], &[65_535]], 9),
+    (LINEAR, 50714, LONG, &[&[65_534; 3]], 0),
+    (LINEAR, 50714, LONG, &[&[65_535, 0, 0], &[0, 65_535, 0], &[0, 0, 65_535]], 9),
+    (MOSAIC, 50717, SHORT, &[&[0]], 9),
+    (LINEAR, 50717, LONG, &[&[65_536, 1, 1], &[1, 65_536, 1], &[1, 1, 65_536], &[0, 0, 65_536]], 8),
+    (LINEAR, 50717, LONG, &[&[0, 1, 1], &[1, 0, 1], &[1, 1, 0]], 9),
+];
+
+const CARRIED_DENOMINATORS: [i64; 9] = [1, 2, 4, 8, 16, 32, 64, 128, 256];
+const OTHER_DENOMINATORS: [i64; 21] =
+    [3, 5, 6, 7, 9, 15, 17, 31, 33, 63, 65, 127, 129, 255, 257, 512, 65_536, -1, -2, -4, -256];
+/// The ends of signed and unsigned numbers of 32 bits.
+const ENDS: [i64; 4] = [-1 << 31, (1 << 31) - 1, 1 << 31, (1 << 32) - 1];
+
+/// 65,535 in 256ths.
+const FULL: i64 = 65_535 * 256;
+
+/// A white level; in 256ths, the greatest column delta, the greatest row delta
+/// and the black level that add up to just as much.
+const LEVEL: [(u32, &[[i64; 3]]); 4] = [
+    (0, &[[-1, 0, 1], [0, -1, 1], [1, -2, 1], [-FULL, FULL - 1, 1]]),
+    (1, &[[0, 0, 256], [255, 0, 1], [0, 255, 1], [100, 56, 100], [-1, 0, 257], [0, -1, 257]]),
+    (1, &[[-1, -1, 258], [FULL, -FULL, 256], [-FULL, FULL, 256]]),
+    (65_535, &[[1, 0, FULL - 1], [0, 1, FULL - 1], [FULL - 1, 0, 1], [1 - FULL, FULL, FULL - 1]]),
+];
+
+/// Every case of a tag.
+pub fn check(tally: &mut Tally) {
+    types_and_counts(tally);
+    values(tally);
+    sides(tally);
+    strips(tally);
+    counts_of_strips(tally);
+    counts_of_levels(tally);
+    fractions(tally);
+    levels(tally);
+    cells(tally);
+    order_of_tests(tally);
+}
+
+/// A base file with every tag.
+fn full(base: usize) -> Dng {
+    RULES.iter().fold(plain(base), |dng, rule| dng.with(entry(rule.0, rule.1[0], rule.2[base])))
+}
+
+/// Every type of every tag, its count one less and one more, and its absence.
+fn types_and_counts(tally: &mut Tally) {
+    for (i, base) in (0..RULES.len()).flat_map(|i| [(i, MOSAIC), (i, LINEAR)]) {
+        let (tag, kinds, values, absent) = RULES[i];
+        let values = values[base];
+        let mut case = |label: &str, dng: Dng, number| {
+            at_depths(tally, &format!("{tag} {label}, base {base}"), &dng, answer(number, tag));
+        };
+        case("absent", full(base).without(tag), absent[base]);
+        for kind in every_type() {
+            let number = if kinds.contains(&kind) { 0 } else { 4 };
+            case(&format!("type {kind}"), full(base).with(entry(tag, kind, values)), number);
+        }
+        let one_more = match tag {
+            50712 => 0,
+            51009 => 10,
+            _ => 4,
+        };
+        for kind in kinds {
+            let longer = [values, &values[..1]].concat();
+            for (values, number) in [(&[][..], 4), (&values[1..], 4), (&longer, one_more)] {
+                let label = format!("type {kind}, {} values", values.len());
+                case(&label, full(base).with(entry(tag, *kind, values)), number);
+            }
+        }
+    }
+    for (tag, kind) in FORBIDDEN.into_iter().flat_map(|tag| every_type().map(move |kind| (tag, kind))) {
+        for count in [0, 1, 4] {
+            let dng = full(MOSAIC).with(entry(tag, kind, &vec![0; count]));
+            at_depths(tally, &format!("{tag} type {kind}, {count} values"), &dng, (8, tag.into()));
+        }
+    }
+}
+
+fn values(tally: &mut Tally) {
+    let mut case = |base, tag, kind, values: &[u32], number| {
+        let dng = plain(base).with(entry(tag, kind, values));
+        at_depths(tally, &format!("{tag} = {values:?}, type {kind}, base {base}"), &dng, answer(number, tag));
+    };
+    for (tags, kind, lists) in SINGLE {
+        for (values, number) in lists.iter().zip([0, 4, 8]) {
+            for (tag, value) in tags.iter().flat_map(|tag| values.iter().map(move |value| (tag, value))) {
+                case(MOSAIC, *tag, *kind, &[*value], number);
+            }
+        }
+    }
+    for (base, tag, kind, lists, number) in SEVERAL {
+        lists.iter().for_each(|values| case(*base, *tag, *kind, values, *number));
+    }
+}
+
+/// Width, length and both at their greatest; the linearization table's count.
+fn sides(tally: &mut Tally) {
+    for (size, number) in [(1, 0), (2, 0), (16_383, 0), (16_384, 0), (16_385, 8)] {
+        for (tag, width, length, rows) in [(256, size, 1, 1), (257, 1, size, size), (257, 1, size, 1)] {
+            let picture = Picture { rows_per_strip: rows, ..Picture::counting(width, length, 1, 8) };
+            let dng = Dng::new(ByteOrder::Little, &picture);
+            let label = format!("{width} by {length}, {rows} rows per strip");
+            both(tally, &label, &dng, answer(number, tag));
+            both(tally, &label, &dng.with(entry(tag, SHORT, &[size])), answer(number, tag));
+        }
+    }
+    let mut greatest = plain(LINEAR).with(Tag::longs(256, &[16_384])).with(Tag::longs(257, &[16_384]));
+    greatest.blocks[0].resize(98_304, 0);
+    for (rows, byte_count, answer) in [
+        (1, 98_304, DONE),
+        (16_384, 1_610_612_735, (4, 279)),
+        (16_384, 1_610_612_736, (4, 273)),
+        (16_384, 1_610_612_737, (4, 279)),
+    ] {
+        let count = 16_384 / rows as usize;
+        let dng = greatest.clone().with(Tag::longs(278, &[rows])).with(Tag::longs(273, &vec![8; count]));
+        let dng = dng.with(Tag::longs(279, &vec![byte_count; count]));
+        both(tally, &format!("greatest frame, strips of {byte_count} bytes"), &dng, answer);
+    }
+    for (count, answer) in [(1, DONE), (65_535, DONE), (65_536, DONE), (65_537, (4, 50712))] {
+        let dng = plain(MOSAIC).with(Tag::shorts(50712, &vec![0; count]));
+        both(tally, &format!("table of {count}"), &dng, answer);
+    }
+}
+
+/// Five rows of three bytes in strips of two rows: strip by strip, both sides
+/// of its byte count and of the file's end.
+fn strips(tally: &mut Tally) {
+    let picture = Picture { rows_per_strip: 2, ..Picture::counting(3, 5, 1, 8) };
+    for depth in [0, 1] {
+        let dng = Dng::new(ByteOrder::Little, &picture).nested(depth);
+        let end = dng.file().len() as u32;
+        let mut case = |places: [u32; 3], byte_counts: [u32; 3], number, tag| {
+            let dng = dng.clone().with(Tag::longs(273, &places)).with(Tag::longs(279, &byte_counts));
+            let label = format!("strips at {places:?} of {byte_counts:?} bytes, end {end}");
+            both(tally, &label, &dng, answer(number, tag));
+        };
+        let (places, byte_counts) = ([8, 14, 20], [6, 6, 3]);
+        for (strip, length) in byte_counts.into_iter().enumerate() {
+            let (mut moved, mut counted) = (places, byte_counts);
+            for place in [0, 1, end - length] {
+                moved[strip] = place;
+                case(moved, byte_counts, 0, 273);
+            }
+            for place in [end - length + 1, end, MAX - length + 1, MAX] {
+                moved[strip] = place;
+                case(moved, byte_counts, 4, 273);
+                case(moved, [6, 6, 4], 4, [273, 273, 279][strip]);
+            }
+            for byte_count in [0, length - 1, length + 1, length + 65_536, MAX] {
+                counted[strip] = byte_count;
+                case(places, counted, 4, 279);
+                case([MAX, 14, 20], counted, 4, [279, 273, 273][strip]);
+            }
+        }
+        case([8; 3], byte_counts, 0, 273);
+        case(places, [6; 3], 4, 279);
+    }
+}
+
+/// The counts of black levels by the repeat, of deltas by the active area.
+fn counts_of_levels(tally: &mut Tally) {
+    let mut case = |dng: &Dng, tag, kind, count: usize| {
+        for (count, number) in [(count - 1, 4), (count, 0), (count + 1, 4)] {
+            let dng = dng.clone().with(entry(tag, kind, &vec![3; count]));
+            at_depths(tally, &format!("{count} values of {tag}, type {kind}"), &dng, answer(number, tag));
+        }
+    };
+    for (base, repeat, count) in
+        [(MOSAIC, [2, 3], 6), (MOSAIC, [8, 8], 64), (LINEAR, [2, 1], 6), (LINEAR, [8, 8], 192)]
+    {
+        let dng = plain(base).with(Tag::shorts(50713, &repeat));
+        [SHORT, LONG, RATIONAL].into_iter().for_each(|kind| case(&dng, 50714, kind, count));
+    }
+    for (area, rows, columns) in [([0, 0, 2, 3], 2, 3), ([1, 0, 2, 2], 1, 2), ([0, 2, 1, 3], 1, 1)] {
+        let dng = plain(LINEAR).with(Tag::longs(50829, &area));
+        case(&dng, 50715, SRATIONAL, columns);
+        case(&dng, 50716, SRATIONAL, rows);
+    }
+}
+
+/// The count of strips of five rows, by rows per strip.
+fn counts_of_strips(tally: &mut Tally) {
+    for (rows, count) in [(1, 5), (2, 3), (3, 2), (4, 2), (5, 1), (6, 1), (MAX, 1)] {
+        let picture = Picture { rows_per_strip: rows, ..Picture::counting(3, 5, 1, 8) };
+        let dng = Dng::new(ByteOrder::Little, &picture);
+        at_depths(tally, &format!("{rows} rows per strip"), &dng, DONE);
+        for (tag, count) in [273, 279].into_iter().flat_map(|tag| [(tag, count - 1), (tag, count + 1)]) {
+            let dng = dng.clone().with(Tag::longs(tag, &vec![3; count]));
+            at_depths(tally, &format!("{rows} rows per strip, {count} of {tag}"), &dng, (4, tag.into()));
+        }
+    }
+}
+
+/// Numerator, denominator and number.
+fn fraction_rows() -> Vec<(i64, i64, u32)> {
+    let mut rows: Vec<(i64, i64, u32)> = [0, 1, -1].into_iter().chain(ENDS).map(|n| (n, 0, 4)).collect();
+    for d in CARRIED_DENOMINATORS {
+        let greatest = 65_535 * d;
+        rows.extend([0, 1, -1, greatest - 1, greatest, -greatest].map(|n| (n, d, 0)));
+        rows.extend([greatest + 1, -greatest - 1].into_iter().chain(ENDS).map(|n| (n, d, 8)));
+    }
+    for d in OTHER_DENOMINATORS.into_iter().chain(ENDS) {
+        rows.extend([(0, d, 8), (1, d, 8), (-1, d, 8)]);
+    }
+    rows
+}
+
+/// Each fraction as the first and as the last value of 50714, 50715, 50716;
+/// another delta keeps the white level above it.
+fn fractions(tally: &mut Tally) {
+    let base = plain(MOSAIC).with(Tag::shorts(50717, &[65_535])).with(Tag::shorts(50713, &[1, 2]));
+    for (tag, kind, count) in [(50714, RATIONAL, 2), (50715, SRATIONAL, 3), (50716, SRATIONAL, 2)] {
+        let (other, others) = if tag == 50715 { (50716, 2) } else { (50715, 3) };
+        let base = base.clone().with(Tag::srationals(other, &vec![(-1, 1); others]));
+        let mut case = |first: (i64, i64), last: (i64, i64), number| {
+            let mut values = vec![(0, 1); count];
+            values[0] = (first.0 as u32, first.1 as u32);
+            values[count - 1] = (last.0 as u32, last.1 as u32);
+            let dng = base.clone().with(Tag::new(tag, kind, Data::Rationals(values)));
+            at_depths(tally, &format!("{tag} = {first:?} .. {last:?}"), &dng, answer(number, tag));
+        };
+        let least = if kind == RATIONAL { 0 } else { i64::from(i32::MIN) };
+        let stored = least..least + (1 << 32);
+        for (n, d, number) in fraction_rows() {
+            if stored.contains(&n) && stored.contains(&d) {
+                case((n, d), (0, 1), number);
+                case((0, 1), (n, d), number);
+            }
+        }
+        case((1, 3), (1, 0), 8);
+        case((1, 0), (1, 3), 4);
+        case((65_536, 1), (1, 0), 8);
+        case((1, 0), (65_536, 1), 4);
+    }
+}
+
+/// Refusal 9: S = 1, 0 and -1, with the greatest deltas at every place.
+fn levels(tally: &mut Tally) {
+    let fraction = |n: i64| (n as i32, 256);
+    let rows = LEVEL.iter().flat_map(|(white, rows)| rows.iter().map(move |row| (*white, *row)));
+    for ((white, [column, row, black]), place) in rows.flat_map(|row| [0, 1, 2].map(|place| (row, place))) {
+        let (mut columns, mut rows) = ([fraction(-FULL); 3], [fraction(-FULL); 2]);
+        columns[place] = fraction(column);
+        rows[place % 2] = fraction(row);
+        let dng = plain(MOSAIC)
+            .with(Tag::longs(50717, &[white]))
+            .with(Tag::srationals(50715, &columns))
+            .with(Tag::srationals(50716, &rows));
+        for (black, number) in [(black - 1, 0), (black, 9), (black + 1, 9)] {
+            let dng = dng.clone().with(Tag::rationals(50714, &[(black as u32, 256)]));
+            at_depths(tally, &format!("white {white}, {black} {columns:?} {rows:?}"), &dng, (number, 0));
+        }
+    }
+}
+
+/// Refusal 9 by one cell of 8 x 8, whether an active sample meets it or not,
+/// on the one plane whose white level is lower.
+fn cells(tally: &mut Tally) {
+    for (base, planes) in [(MOSAIC, 1), (LINEAR, 3)] {
+        let cells = 64 * planes;
+        for (cell, plane) in (0..cells).flat_map(|cell| (0..planes).map(move |plane| (cell, plane))) {
+            let mut white = vec![2; planes];
+            white[plane] = 1;
+            let dng = plain(base).with(Tag::shorts(50713, &[8, 8])).with(Tag::shorts(50717, &white));
+            for black in [255, 256, 257] {
+                let mut blacks = vec![(0, 256); cells];
+                blacks[cell] = (black, 256);
+                let number = if cell % planes == plane && black > 255 { 9 } else { 0 };
+                let label = format!("cell {cell} of {cells}, {black}/256, white {white:?}");
+                both(tally, &label, &dng.clone().with(Tag::rationals(50714, &blacks)), (number, 0));
+            }
+        }
+    }
+}
+
+/// Of two faults the first in order of test answers.
+fn order_of_tests(tally: &mut Tally) {
+    let tags = RULES.map(|rule| rule.0);
+    let tags = [&tags[..tags.len() - 1], &FORBIDDEN, &[51009]].concat();
+    for (i, tag) in tags.iter().enumerate() {
+        let dng = full(MOSAIC).with(entry(*tag, 14, &[1]));
+        let answer = answer(if FORBIDDEN.contains(tag) { 8 } else { 4 }, *tag);
+        for later in &tags[i + 1..] {
+            let dng = dng.clone().with(entry(*later, 14, &[1]));
+            at_depths(tally, &format!("{tag} before {later}"), &dng, answer);
+        }
+        let dng = dng.with(Tag::shorts(50714, &[255]));
+        if *tag != 50714 {
+            at_depths(tally, &format!("{tag} before refusal 9"), &dng, answer);
+        }
+    }
+    let black = full(MOSAIC).with(Tag::shorts(50714, &[255])).without(50717);
+    let list = Tag::undefined(51009, &[255; 4]);
+    at_depths(tally, "9 before the list, white by default", &black.with(list.clone()), (9, 0));
+    at_depths(tally, "the list last", &full(MOSAIC).with(list), (11, 32));
+    let version = |bytes: [u8; 4]| full(MOSAIC).with(Tag::bytes(50707, &bytes));
+    both(tally, "50707 decides", &version([1, 4, 0, 0]).with(Tag::bytes(50706, &[255; 4])), DONE);
+    both(tally, "50706 before 50707", &version([2, 0, 0, 0]).without(50706), (5, 50706));
+    both(tally, "7 before 254", &version([2, 0, 0, 0]).with(entry(254, 14, &[0])), (7, 0));
+    let mut dng = full(MOSAIC).nested(1).with_first(entry(330, 14, &[1])).with_first(entry(254, 14, &[1]));
+    both(tally, "254 before 330", &dng, (4, 254));
+    dng.first_ifd().count = Some(0);
+    both(tally, "shape before tags", &dng, SHAPE);
+}
