@@ -1,0 +1,4 @@
+pub mod Magnitudes
+pub mod Legality
+pub mod TagFacts
+pub mod FinitePixel

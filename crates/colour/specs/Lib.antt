@@ -1,1 +1,4 @@
+pub mod Bounds
+pub mod Value
+pub mod Tags
 pub mod Pixel

@@ -1,5 +1,7 @@
-// Colour: the tags of IFD 0, the forward matrix and the neutral among them, and a pixel's XYZ D50 values.
+// Colour: the colour tags of IFD 0, the forward matrix and the neutral among them, and a pixel's XYZ D50 values.
 pub mod pixel;
+pub mod tags;
+pub mod value;
 
 // The forward matrix row by row, and the neutral.
 pub struct Colour {
@@ -15,4 +17,9 @@ pub struct Colour {
     pub neutral0: f64,
     pub neutral1: f64,
     pub neutral2: f64,
+}
+
+pub enum Coloured {
+    Refused { number: usize, detail: usize },
+    Is(Colour),
 }

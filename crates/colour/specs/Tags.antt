@@ -1,0 +1,107 @@
+-- The colour tags of IFD 0, in order of test.
+use mathlib.Core.Bool.{true, false}
+use Prim.Native.Nat.{ℕ, _+_}
+use lib.Dec.{eqb}
+use Rattle.reading.specs.Reading.{Reading, Reading.answer, pick}
+use Rattle.reading.specs.declared.number.Order.{Order}
+use Rattle.reading.specs.declared.fraction.FractionKind.{FractionKind}
+use Rattle.reading.specs.declared.fraction.FractionKind.the-variants as kind
+use Rattle.directory.specs.Out.{Out, Out.refused, Out.is, bind}
+use Rattle.directory.specs.Widths.{Widths}
+use Rattle.directory.specs.Tag.{valuesReading, notCarried, required}
+use Rattle.directory.specs.declared.Ifd.{Ifd}
+use Rattle.directory.specs.declared.tag.Kinds.the-variants as kinds
+use Rattle.directory.specs.declared.tag.Rule.{Rule}
+use Rattle.colour.specs.Bounds.{Within, Beyond, All}
+use Rattle.colour.specs.Value.{tripleReading, TripleFrom}
+use Rattle.colour.specs.declared.Colour.{Colour}
+use Rattle.colour.specs.declared.Coloured.{Coloured}
+use Rattle.colour.specs.declared.Coloured.the-variants as coloured
+use Rattle.colour.specs.declared.value.Triple.{Triple}
+use Rattle.colour.specs.declared.tags.Matrix.{Matrix}
+use Rattle.colour.specs.declared.tags.Forward.{Forward}
+use Rattle.colour.specs.declared.tags.Forward.the-variants as forward
+
+abbrev pub matrixRule : Rule
+matrixRule = required 50964 kinds.SignedRational 9
+
+-- a row of the forward matrix
+abbrev pub rowReading : Order → ℕ → Reading (Out Triple)
+rowReading o at = tripleReading o kind.SignedRational 8 50964 false at
+
+-- 50964: "SRATIONAL 9, required, denominators not 0"
+unfoldable pub matrixReading : Widths → Ifd → Reading (Out Matrix)
+matrixReading w d =
+    bind (valuesReading w d matrixRule) (λ v.
+    bind (rowReading (d .order) (v .place)) (λ x.
+    bind (rowReading (d .order) (v .place + 24)) (λ y.
+    bind (rowReading (d .order) (v .place + 48)) (λ z.
+    answer (is (record { x = x; y = y; z = z }))))))
+
+abbrev pub neutralRule : Rule
+neutralRule = required 50728 kinds.ShortOrRational 3
+
+-- the type of a value of the neutral by its bytes
+unfoldable pub neutralKind : ℕ → FractionKind
+neutralKind s = pick (eqb s 2) kind.Short kind.Rational
+
+-- 50728: "SHORT or RATIONAL 3, required, no numerator or denominator 0"
+unfoldable pub neutralReading : Widths → Ifd → Reading (Out Triple)
+neutralReading w d =
+    bind (valuesReading w d neutralRule) (λ v. tripleReading (d .order) (neutralKind (v .size)) (v .size) 50728 true (v .place))
+
+abbrev pub colourOf : Matrix → Triple → Colour
+colourOf m n =
+    record {
+      x0 = m .x .first;
+      x1 = m .x .second;
+      x2 = m .x .third;
+      y0 = m .y .first;
+      y1 = m .y .second;
+      y2 = m .y .third;
+      z0 = m .z .first;
+      z1 = m .z .second;
+      z2 = m .z .third;
+      neutral0 = n .first;
+      neutral1 = n .second;
+      neutral2 = n .third;
+    }
+
+-- "50723, 50727, 50965 present with any type: not carried"; then 50964 and 50728
+unfoldable pub colourReading : Widths → Ifd → Reading (Out Colour)
+colourReading w d =
+    bind (notCarried w d 50723) (λ _.
+    bind (notCarried w d 50727) (λ _.
+    bind (notCarried w d 50965) (λ _.
+    bind (matrixReading w d) (λ m.
+    bind (neutralReading w d) (λ n.
+    answer (is (colourOf m n)))))))
+
+abbrev pub matrixOut : Forward → Out Matrix
+matrixOut (forward.Refused n d) = refused n d
+matrixOut (forward.Is v) = is v
+
+abbrev pub colourOut : Coloured → Out Colour
+colourOut (coloured.Refused n d) = refused n d
+colourOut (coloured.Is v) = is v
+
+-- ---- what holds of accepted tags
+
+pub record Matrix-in (m : Matrix) : Type 0 where
+  pub x : TripleFrom false (m .x)
+  pub y : TripleFrom false (m .y)
+  pub z : TripleFrom false (m .z)
+
+abbrev pub MatrixIn : Forward → Type 0
+MatrixIn (forward.Refused n d) = Unit {0}
+MatrixIn (forward.Is m) = Matrix-in m
+
+pub record Colour-in (c : Colour) : Type 0 where
+  pub x : All (Within 0x1_0000_0000) (c .x0) (c .x1) (c .x2)
+  pub y : All (Within 0x1_0000_0000) (c .y0) (c .y1) (c .y2)
+  pub z : All (Within 0x1_0000_0000) (c .z0) (c .z1) (c .z2)
+  pub neutral : All (Beyond 0x1_0000_0000) (c .neutral0) (c .neutral1) (c .neutral2)
+
+abbrev pub ColourIn : Coloured → Type 0
+ColourIn (coloured.Refused n d) = Unit {0}
+ColourIn (coloured.Is c) = Colour-in c

@@ -1,0 +1,146 @@
+// The colour tags of IFD 0: 50723, 50727, 50965, 50964 (forward matrix), 50728 (neutral).
+ghost use mathlib.Core.Path.{_≡_};
+ghost use mathlib.Core.Bool.{true};
+ghost use Rattle.reading.specs.Reading.{run};
+ghost use Rattle.directory.specs.Widths.{classic};
+ghost use Rattle.directory.specs.Shape.{Tested};
+ghost use Rattle.colour.specs.Value.{tripleOut, TripleIn};
+ghost use Rattle.colour.specs.Tags.{neutralKind, colourOf, matrixOut, MatrixIn, matrixReading, neutralReading, colourOut, ColourIn, colourReading};
+use crate::Colour;
+use crate::Coloured;
+use crate::value;
+use crate::value::Triple;
+use crate::value::Tripled;
+use directory::Ifd;
+use directory::Number;
+use directory::tag;
+use directory::tag::Given;
+use directory::tag::Kinds;
+use directory::tag::Rule;
+use reading::fraction::FractionKind;
+
+pub struct Matrix {
+    pub x: Triple,
+    pub y: Triple,
+    pub z: Triple,
+}
+
+pub enum Forward {
+    Refused { number: usize, detail: usize },
+    Is(Matrix),
+}
+
+// 50964.
+fn matrix_of(file: &[u8], ifd: Ifd) -> Forward
+    requires { ⌜ Tested (now file) ifd ⌝ }
+    ensures { λ r. ⌜ (matrixOut r ≡ run (now (file .entry)) (matrixReading classic ifd)) × MatrixIn r ⌝ }
+{
+    let rule = Rule {
+        tag: 50964,
+        kinds: Kinds::SignedRational,
+        required: true,
+        least: 9,
+        most: 9,
+    };
+    let v = match tag::look_up(file, ifd, rule) {
+        Given::Refused { number, detail } => return Forward::Refused { number, detail },
+        Given::Is(v) => v,
+    };
+    let place = v.place;
+    let order = ifd.order;
+    let kind = FractionKind::SignedRational;
+    let x = match value::triple_at(file, order, kind, 8, 50964, false, place) {
+        Tripled::Refused { number, detail } => return Forward::Refused { number, detail },
+        Tripled::Is(t) => t,
+    };
+    let y = match value::triple_at(file, order, kind, 8, 50964, false, place + 24) {
+        Tripled::Refused { number, detail } => return Forward::Refused { number, detail },
+        Tripled::Is(t) => t,
+    };
+    let z = match value::triple_at(file, order, kind, 8, 50964, false, place + 48) {
+        Tripled::Refused { number, detail } => return Forward::Refused { number, detail },
+        Tripled::Is(t) => t,
+    };
+    Forward::Is(Matrix { x, y, z })
+}
+
+// The type of a value of the neutral by its bytes.
+fn neutral_kind(size: usize) -> FractionKind
+    ensures { λ r. ⌜ r ≡ neutralKind size ⌝ }
+{
+    if size == 2 {
+        FractionKind::Short
+    } else {
+        FractionKind::Rational
+    }
+}
+
+// 50728.
+fn neutral_of(file: &[u8], ifd: Ifd) -> Tripled
+    requires { ⌜ Tested (now file) ifd ⌝ }
+    ensures { λ r. ⌜ (tripleOut r ≡ run (now (file .entry)) (neutralReading classic ifd)) × TripleIn true r ⌝ }
+{
+    let rule = Rule {
+        tag: 50728,
+        kinds: Kinds::ShortOrRational,
+        required: true,
+        least: 3,
+        most: 3,
+    };
+    let v = match tag::look_up(file, ifd, rule) {
+        Given::Refused { number, detail } => return Tripled::Refused { number, detail },
+        Given::Is(v) => v,
+    };
+    let size = v.size;
+    let place = v.place;
+    let order = ifd.order;
+    let kind = neutral_kind(size);
+    value::triple_at(file, order, kind, size, 50728, true, place)
+}
+
+fn joined(m: Matrix, n: Triple) -> Colour
+    ensures { λ r. ⌜ r ≡ colourOf m n ⌝ }
+{
+    Colour {
+        x0: m.x.first,
+        x1: m.x.second,
+        x2: m.x.third,
+        y0: m.y.first,
+        y1: m.y.second,
+        y2: m.y.third,
+        z0: m.z.first,
+        z1: m.z.second,
+        z2: m.z.third,
+        neutral0: n.first,
+        neutral1: n.second,
+        neutral2: n.third,
+    }
+}
+
+// The colour tags, in order of test.
+pub fn colour_of(file: &[u8], ifd: Ifd) -> Coloured
+    requires { ⌜ Tested (now file) ifd ⌝ }
+    ensures { λ r. ⌜ (colourOut r ≡ run (now (file .entry)) (colourReading classic ifd)) × ColourIn r ⌝ }
+{
+    match tag::not_carried(file, ifd, 50723) {
+        Number::Refused { number, detail } => return Coloured::Refused { number, detail },
+        Number::Is(_) => {}
+    }
+    match tag::not_carried(file, ifd, 50727) {
+        Number::Refused { number, detail } => return Coloured::Refused { number, detail },
+        Number::Is(_) => {}
+    }
+    match tag::not_carried(file, ifd, 50965) {
+        Number::Refused { number, detail } => return Coloured::Refused { number, detail },
+        Number::Is(_) => {}
+    }
+    let matrix = match matrix_of(file, ifd) {
+        Forward::Refused { number, detail } => return Coloured::Refused { number, detail },
+        Forward::Is(m) => m,
+    };
+    let neutral = match neutral_of(file, ifd) {
+        Tripled::Refused { number, detail } => return Coloured::Refused { number, detail },
+        Tripled::Is(n) => n,
+    };
+    Coloured::Is(joined(matrix, neutral))
+}
