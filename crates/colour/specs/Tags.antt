@@ -96,6 +96,7 @@ abbrev pub MatrixIn : Forward → Type 0
 MatrixIn (forward.Refused n d) = Unit {0}
 MatrixIn (forward.Is m) = Matrix-in m
 
+-- a number of the matrix is at most 2 ^ 32 in magnitude, one of the neutral at least 1 / 2 ^ 32
 pub record Colour-in (c : Colour) : Type 0 where
   pub x : All (Within 0x1_0000_0000) (c .x0) (c .x1) (c .x2)
   pub y : All (Within 0x1_0000_0000) (c .y0) (c .y1) (c .y2)
