@@ -3,3 +3,5 @@ pub mod Polynomial
 pub mod Floor
 pub mod Whole
 pub mod Tables
+pub mod Frames
+pub mod OpcodeLists

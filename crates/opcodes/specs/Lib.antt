@@ -1,1 +1,5 @@
+pub mod Grid
 pub mod Step
+pub mod Opcode
+pub mod Frame
+pub mod OpcodeList

@@ -1,2 +1,4 @@
-// OpcodeList2: what an opcode does at one sample.
+// OpcodeList2: the test of the list, and what an opcode does at one sample.
+pub mod grid;
+pub mod list;
 pub mod step;

@@ -1,0 +1,230 @@
+// The test of OpcodeList2: which opcodes are kept and which are skipped, or the refusal.
+ghost use mathlib.Core.Path.{_≡_};
+ghost use mathlib.Core.Bool.{_&&_, _||_};
+ghost use mathlib.Core.Logic.{_⊎_};
+ghost use Prim.Native.Nat.{_+_, _*_, _≤_, _<_};
+ghost use lib.Dec.{eqb, leb};
+ghost use lib.ListN.{length};
+ghost use Rattle.reading.specs.Bytes.{part};
+ghost use Rattle.reading.specs.Reading.{run};
+ghost use Rattle.opcodes.specs.Grid.{longOf, fitsOf};
+ghost use Rattle.opcodes.specs.OpcodeList.{headerOf, listedId, classOf, tableForm, polynomialForm, linesForm, formOf, refusedReal, refusedAt, refusedIn, exactOf, faultOf, listReading, countedOn, testedOut};
+use crate::grid;
+use crate::grid::Grid;
+use crate::grid::Size;
+use reading::number;
+use reading::number::Order;
+use reading::real;
+use reading::real::Real;
+
+pub struct Header {
+    pub id: usize,
+    pub version: usize,
+    pub flags: usize,
+    pub length: usize,
+}
+
+pub enum Class {
+    Carried,
+    Optional,
+    Compulsory,
+}
+
+// What stands behind a grid and its LONG: whether the LONG is legal, how many bytes, and how many of
+// them are FLOATs or DOUBLEs.
+pub struct Form {
+    pub legal: bool,
+    pub bytes: usize,
+    pub width: usize,
+    pub numbers: usize,
+}
+
+// Opcodes kept, and opcodes skipped.
+pub struct Counts {
+    pub kept: usize,
+    pub skipped: usize,
+}
+
+pub enum Tested {
+    Refused { number: usize, detail: usize },
+    Is(Counts),
+}
+
+fn header_at(file: &[u8], at: usize) -> Header
+    requires { ⌜ at + 16 ≤ length (now file) ⌝ }
+    ensures { λ r. ⌜ r ≡ headerOf (part (now (file .entry)) at 16) ⌝ }
+    ensures { λ r. ⌜ r .length < 0x1_0000_0000 ⌝ }
+{
+    Header {
+        id: grid::field(file, at),
+        version: grid::field(file, at + 4),
+        flags: grid::field(file, at + 8),
+        length: grid::field(file, at + 12),
+    }
+}
+
+fn within(low: usize, n: usize, high: usize) -> bool
+    ensures { λ r. ⌜ r ≡ (leb low n && leb n high) ⌝ }
+{
+    low <= n && n <= high
+}
+
+fn listed(id: usize) -> bool
+    ensures { λ r. ⌜ r ≡ listedId id ⌝ }
+{
+    if id == 7 {
+        return true;
+    }
+    if id == 8 {
+        return true;
+    }
+    within(10, id, 13)
+}
+
+fn classify(header: Header) -> Class
+    ensures { λ r. ⌜ r ≡ classOf header ⌝ }
+{
+    if listed(header.id) {
+        if header.version <= 0x0107_0100 {
+            return Class::Carried;
+        }
+    }
+    if header.flags % 2 == 1 {
+        Class::Optional
+    } else {
+        Class::Compulsory
+    }
+}
+
+fn table_form(n: usize) -> Form
+    requires { ⌜ n < 0x1_0000_0000 ⌝ }
+    ensures { λ r. ⌜ r ≡ tableForm n ⌝ }
+{
+    Form {
+        legal: within(1, n, 65536),
+        bytes: 2 * n,
+        width: 2,
+        numbers: 0,
+    }
+}
+
+fn polynomial_form(n: usize) -> Form
+    requires { ⌜ n < 0x1_0000_0000 ⌝ }
+    ensures { λ r. ⌜ r ≡ polynomialForm n ⌝ }
+{
+    Form {
+        legal: n <= 8,
+        bytes: 8 * (n + 1),
+        width: 8,
+        numbers: n + 1,
+    }
+}
+
+fn lines_form(lines: usize, n: usize) -> Form
+    requires { ⌜ n < 0x1_0000_0000 ⌝ }
+    ensures { λ r. ⌜ r ≡ linesForm lines n ⌝ }
+{
+    Form {
+        legal: n == lines,
+        bytes: 4 * n,
+        width: 4,
+        numbers: n,
+    }
+}
+
+fn by_row(id: usize) -> bool
+    ensures { λ r. ⌜ r ≡ (eqb id 10 || eqb id 12) ⌝ }
+{
+    id == 10 || id == 12
+}
+
+fn form_for(grid: Grid, id: usize, n: usize) -> Form
+    requires { ⌜ (grid .top ≤ grid .bottom) × (grid .bottom ≤ 16384) × (1 ≤ grid .«row_pitch») × (grid .«row_pitch» < 0x1_0000_0000) ⌝ }
+    requires { ⌜ (grid .left ≤ grid .right) × (grid .right ≤ 16384) × (1 ≤ grid .«column_pitch») × (grid .«column_pitch» < 0x1_0000_0000) ⌝ }
+    requires { ⌜ n < 0x1_0000_0000 ⌝ }
+    ensures { λ r. ⌜ r ≡ formOf grid id n ⌝ }
+{
+    if id == 7 {
+        return table_form(n);
+    }
+    if id == 8 {
+        return polynomial_form(n);
+    }
+    if by_row(id) {
+        lines_form(grid::lines(grid.top, grid.bottom, grid.row_pitch), n)
+    } else {
+        lines_form(grid::lines(grid.left, grid.right, grid.column_pitch), n)
+    }
+}
+
+fn refused(x: Real) -> bool
+    ensures { λ r. ⌜ r ≡ refusedReal x ⌝ }
+{
+    match x {
+        Real::Refused => true,
+        Real::Value(_) => false,
+    }
+}
+
+// Whether the FLOAT or DOUBLE at a place is refused.
+fn refused_at(file: &[u8], width: usize, at: usize) -> bool
+    requires { ⌜ (at + width ≤ length (now file)) × ((width ≡ 4) ⊎ (width ≡ 8)) ⌝ }
+    ensures { λ r. ⌜ r ≡ refusedAt width (now (file .entry)) at ⌝ }
+{
+    if width == 8 {
+        refused(real::double_at(file, at))
+    } else {
+        refused(real::float_at(file, at))
+    }
+}
+
+fn refused_in(file: &[u8], width: usize, at: usize, n: usize) -> bool
+    requires { ⌜ (at + width * n ≤ length (now file)) × (0 < n → (width ≡ 4) ⊎ (width ≡ 8)) ⌝ }
+    ensures { λ r. ⌜ r ≡ refusedIn width (now (file .entry)) at n ⌝ }
+{
+    let mut left = n;
+    let mut p = at;
+    while 0 < left {
+        if refused_at(file, width, p) {
+            return true;
+        }
+        p += width;
+        left -= 1;
+    }
+    false
+}
+
+fn exact(form: Form, length: usize) -> bool
+    requires { ⌜ form .bytes < 0x1000_0000_0000 ⌝ }
+    ensures { λ r. ⌜ r ≡ exactOf form length ⌝ }
+{
+    let legal = form.legal;
+    if legal {
+        length == 36 + form.bytes
+    } else {
+        false
+    }
+}
+
+// The refusal of an opcode's parameters, or 0.
+fn fault(file: &[u8], size: Size, at: usize, bytes: usize, id: usize) -> usize
+    requires { ⌜ (at + bytes ≤ length (now file)) × (size .rows ≤ 16384) × (size .columns ≤ 16384) ⌝ }
+    ensures { λ r. ⌜ r ≡ faultOf size id (part (now (file .entry)) at bytes) ⌝ }
+{
+    if bytes < 36 {
+        return 10;
+    }
+    let g = grid::grid_at(file, at);
+    if grid::fits(size, g) {
+        let n = grid::field(file, at + 32);
+        let m = form_for(g, id, n);
+        if exact(m, bytes) {
+            return if refused_in(file, m.width, at + 36, m.numbers) {
+                12
+            } else {
+                0
+            };
+        }
+    }
+    10
+}
