@@ -1,19 +1,18 @@
 -- Of a clipped x, `indexOf x` is the greatest whole number not above x * 65535.0 + 0.5, and at most 65535.
 -- Assumes nothing.
 use mathlib.Core.Path.{_≡_, refl, sym, ap, _∙_, subst}
-use mathlib.Core.Bool.{Bool, true, false, not, _&&_, _||_, cond, true≢false}
+use mathlib.Core.Bool.{Bool, true, false, _&&_, _||_, cond}
 use mathlib.Core.Logic.{_⊎_, inl, inr, ⊎-elim}
-use Prim.Native.Nat.{ℕ, zero, suc, _+_, _-_, _*_, _/_, _%_, _^_, _≤_, _<_, min}
-use native.Mathlib.Nat.{mul-one, one-mul, zero-mul, mul-pos, zero-lt-suc, div-mul-le-self, lt-div-mul-add, div-lt-iff-lt-mul, le-of-lt, le-of-eq}
+use Prim.Native.Nat.{ℕ, zero, suc, _+_, _-_, _*_, _/_, _^_, _≤_, _<_, min}
+use native.Mathlib.Nat.{mul-pos, zero-lt-suc, div-mul-le-self, lt-div-mul-add, div-lt-iff-lt-mul, le-of-lt, le-of-eq}
 use native.Mathlib.Omega.{arith}
-use borrow.Author.Tests.{ltb-true}
 use lib.IntN.{ℤ, pos, negsuc}
 use lib.Dec.{T, ltb, eqb, ltb→lt, lt→ltb, eqb→eq}
-use lib.Ieee.{Float, nan, inf, fin, Format, binary64, prec, emax, low, up, down, size, odd, units, nearest, round, sum, lt, le, eq, add, mul, toUnsigned}
-use lib.Ieee.Fits.{up-pos, down-pos, and-l, and-r, core, round-is}
+use lib.Ieee.{Float, nan, inf, fin, Format, binary64, prec, emax, low, up, down, odd, units, round, lt, le, eq, add, mul, toUnsigned}
+use lib.Ieee.Fits.{down-pos, and-l, and-r, round-is}
 use lib.Ieee.Order.{round-mono}
 use lib.Ieee.Positive.{positive, mul-mono, first-pos}
-use Rattle.levels.specs.Clip.{clipOf, plusZero, one}
+use Rattle.levels.specs.Clip.{plusZero, one}
 use Rattle.levels.specs.Level.{most}
 use Rattle.opcodes.specs.Step.{indexOf, half}
 use Rattle.levels.proofs.Unit.{unit, clip-elim}

@@ -9,7 +9,7 @@ use lib.ListN.{getD}
 use lib.Ieee.{Float}
 use Rattle.reading.specs.Reading.{pick}
 use Rattle.reading.proofs.Reading.{pick-no}
-use Rattle.levels.specs.Clip.{clipOf, plusZero}
+use Rattle.levels.specs.Clip.{plusZero}
 use Rattle.levels.specs.Run.{runOf}
 use Rattle.levels.proofs.Runs.{run-at}
 use Rattle.levels.proofs.Unit.{unit, clip-clip}

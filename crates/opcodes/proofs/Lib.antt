@@ -5,3 +5,4 @@ pub mod Whole
 pub mod Tables
 pub mod Frames
 pub mod OpcodeLists
+pub mod Listing

@@ -1,6 +1,6 @@
 -- The list's definitions by the code's tests.
 -- Assumes nothing.
-use mathlib.Core.Path.{_≡_, refl, sym, ap, _∙_}
+use mathlib.Core.Path.{_≡_, refl, sym, ap}
 use mathlib.Core.Bool.{Bool, true, false, _&&_, _||_, true≢false}
 use mathlib.Core.Logic.{_⊎_, inl, inr, ⊎-elim}
 use mathlib.Core.List.{List}
@@ -17,13 +17,11 @@ use Rattle.reading.specs.Number.{numberOf}
 use Rattle.reading.specs.Real.{realOf}
 use Rattle.reading.specs.declared.number.Order.the-variants.{Big}
 use Rattle.reading.proofs.Bytes.{part-part}
-use Rattle.reading.proofs.Reading.{pick-yes, pick-no}
 use Rattle.opcodes.specs.Grid.{gridOf, fitsOf, Fits-in}
 use Rattle.opcodes.specs.OpcodeList.{countOf, exactOf, faultOf, refusedReal, listedId, classOf, rowsOf, columnsOf, tableForm, polynomialForm, linesForm, formOf, refusedAt, refusedIn}
 use Rattle.opcodes.specs.declared.grid.Size.{Size}
 use Rattle.opcodes.specs.declared.grid.Grid.{Grid}
 use Rattle.opcodes.specs.declared.list.Header.{Header}
-use Rattle.opcodes.specs.declared.list.Class.{Class}
 use Rattle.opcodes.specs.declared.list.Form.{Form}
 use Rattle.opcodes.specs.declared.list.Class.the-variants as class
 

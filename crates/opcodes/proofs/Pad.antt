@@ -1,22 +1,22 @@
 -- Horner's rule over coefficients that end in -0.0 is Horner's rule without it, in every bit, at a number that is finite and not negative.
 -- Assumes nothing.
 use mathlib.Core.Path.{_≡_, refl, sym, ap, _∙_, subst}
-use mathlib.Core.Bool.{Bool, true, false, not, _&&_, cond, true≢false}
+use mathlib.Core.Bool.{Bool, true, false, not, _&&_, cond}
 use mathlib.Core.Logic.{_⊎_, inl, inr, ⊎-elim}
 use mathlib.Core.List.{List, [], _∷_, _++_}
-use Prim.Native.Nat.{ℕ, zero, suc, _+_, _-_, _*_, _/_, _%_, _^_, _≤_, _<_, compare, Ordering, Ordering·lt, compare·zero-suc}
-use native.Mathlib.Nat.{zero-mul, mul-zero, mul-one, one-mul, zero-div, zero-mod, lt-irrefl, mul-pos, zero-add, sub-zero, zero-lt-suc, pow-suc, pow-succ', mul-left-comm, mul-assoc, eq-of-mul-eq-mul-right, not-le-of-lt, lt-of-lt-of-le, mul-lt-mul-of-pos-right, sub-add-cancel, eq-or-lt-of-le, le-of-eq, le-of-lt}
+use Prim.Native.Nat.{ℕ, zero, suc, _+_, _-_, _*_, _%_, _^_, _≤_, _<_, compare, Ordering·lt, compare·zero-suc}
+use native.Mathlib.Nat.{zero-mul, mul-one, one-mul, zero-div, zero-mod, lt-irrefl, mul-pos, zero-add, sub-zero, zero-lt-suc, pow-suc, pow-succ', mul-left-comm, mul-assoc, eq-of-mul-eq-mul-right, not-le-of-lt, lt-of-lt-of-le, mul-lt-mul-of-pos-right, sub-add-cancel}
 use native.Mathlib.Omega.{arith}
 use lib.IntN.{ℤ, pos, negsuc}
 use lib.Dec.{T, ltb, leb, eqb, ltb→lt, lt→ltb, leb→le, nleb→lt, eqb→eq}
 use lib.Pow.{pow-pos, pow-add, pow-lt, pow-mono, shl-lt}
-use lib.Ieee.{Float, nan, inf, fin, Format, binary64, up, down, low, prec, size, nearest, units, round, sum, add, mul, fits}
-use lib.Ieee.Fits.{up-pos, down-pos, core, round-is, round-fits, and-l, and-r}
+use lib.Ieee.{Float, nan, inf, fin, binary64, up, down, size, units, round, sum, add, mul, fits}
+use lib.Ieee.Fits.{up-pos, down-pos, round-fits, and-l, and-r}
 use lib.Ieee.Exact.{HasValue, round-exact}
 use lib.ListN.{length, getD, replicate}
 use Rattle.levels.specs.Clip.{clipOf}
 use Rattle.opcodes.specs.Step.{hornerOf, minusZero, appliedOf, resultOf, polynomialOf}
-use Rattle.levels.proofs.Unit.{unit, Plain, unit-plain}
+use Rattle.levels.proofs.Unit.{unit, unit-plain}
 
 above-zero : (u : ℕ) → 0 < u → compare 0 u ≡ Ordering·lt
 above-zero zero h = absurd (lt-irrefl 0 h)

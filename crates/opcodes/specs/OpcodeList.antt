@@ -147,9 +147,18 @@ skippedIn (skipped ∷ os) = suc (skippedIn os)
 skippedIn (kept g k ∷ os) = skippedIn os
 
 -- the counts of an accepted list, on top of counts so far
-abbrev pub countedOn : ℕ → ℕ → Out (List Opcode) → Out Counts
-countedOn a b (refused n d) = refused n d
-countedOn a b (is os) = is (record { kept = a + keptIn os; skipped = b + skippedIn os })
+abbrev pub none : Counts
+none = record { kept = 0; skipped = 0 }
+
+abbrev pub countedOn : Counts → Out (List Opcode) → Out Counts
+countedOn c (refused n d) = refused n d
+countedOn c (is os) = is (record { kept = c .kept + keptIn os; skipped = c .skipped + skippedIn os })
+
+-- and of one opcode
+abbrev pub countedOne : Counts → Out Opcode → Out Counts
+countedOne c (refused n d) = refused n d
+countedOne c (is skipped) = is (record { kept = c .kept; skipped = c .skipped + 1 })
+countedOne c (is (kept g k)) = is (record { kept = c .kept + 1; skipped = c .skipped })
 
 abbrev pub testedOut : Tested → Out Counts
 testedOut (tested.Refused n d) = refused n d

@@ -7,8 +7,7 @@ ghost use lib.Dec.{eqb, leb};
 ghost use lib.ListN.{length};
 ghost use Rattle.reading.specs.Bytes.{part};
 ghost use Rattle.reading.specs.Reading.{run};
-ghost use Rattle.opcodes.specs.Grid.{longOf, fitsOf};
-ghost use Rattle.opcodes.specs.OpcodeList.{headerOf, listedId, classOf, tableForm, polynomialForm, linesForm, formOf, refusedReal, refusedAt, refusedIn, exactOf, faultOf, listReading, countedOn, testedOut};
+ghost use Rattle.opcodes.specs.OpcodeList.{headerOf, listedId, classOf, tableForm, polynomialForm, linesForm, formOf, refusedReal, refusedAt, refusedIn, exactOf, faultOf, opcodeReading, listFrom, listReading, none, countedOne, countedOn, testedOut};
 use crate::grid;
 use crate::grid::Grid;
 use crate::grid::Size;
@@ -227,4 +226,102 @@ fn fault(file: &[u8], size: Size, at: usize, bytes: usize, id: usize) -> usize
         }
     }
     10
+}
+
+// The i-th opcode, whose header stands at a place, counted.
+fn judge(file: &[u8], size: Size, i: usize, at: usize, header: Header, counts: Counts) -> Tested
+    requires { ⌜ (at + 16 + header .length ≤ length (now file)) × (size .rows ≤ 16384) × (size .columns ≤ 16384) ⌝ }
+    requires { ⌜ (counts .kept ≤ 32) × (counts .skipped ≤ 32) ⌝ }
+    ensures { λ r. ⌜ testedOut r ≡ countedOne counts (run (now (file .entry)) (opcodeReading (classOf header) size i at header)) ⌝ }
+{
+    match classify(header) {
+        Class::Carried => {
+            let number = fault(file, size, at + 16, header.length, header.id);
+            if number == 0 {
+                return Tested::Is(Counts {
+                    kept: counts.kept + 1,
+                    skipped: counts.skipped,
+                });
+            }
+            Tested::Refused { number, detail: i }
+        }
+        Class::Optional => {
+            Tested::Is(Counts {
+                kept: counts.kept,
+                skipped: counts.skipped + 1,
+            })
+        }
+        Class::Compulsory => {
+            Tested::Refused {
+                number: 11,
+                detail: i,
+            }
+        }
+    }
+}
+
+// So many opcodes in the bytes from a place on.
+fn test_opcodes(file: &[u8], size: Size, count: usize, at: usize, bytes: usize) -> Tested
+    requires { ⌜ (at + bytes ≤ length (now file)) × (size .rows ≤ 16384) × (size .columns ≤ 16384) × (count ≤ 32) ⌝ }
+    ensures { λ r. ⌜ testedOut r ≡ countedOn none (run (now (file .entry)) (listFrom size count 0 at bytes)) ⌝ }
+{
+    let mut counts = Counts {
+        kept: 0,
+        skipped: 0,
+    };
+    let mut i = 0;
+    let mut p = at;
+    let mut rest = bytes;
+    while i < count {
+        if rest < 16 {
+            return Tested::Refused {
+                number: 10,
+                detail: i,
+            };
+        }
+        let h = header_at(file, p);
+        let whole = 16 + h.length;
+        if rest < whole {
+            return Tested::Refused {
+                number: 10,
+                detail: i,
+            };
+        }
+        counts = match judge(file, size, i, p, h, counts) {
+            Tested::Refused { number, detail } => return Tested::Refused { number, detail },
+            Tested::Is(c) => c,
+        };
+        p += whole;
+        rest -= whole;
+        i += 1;
+    }
+    if rest == 0 {
+        Tested::Is(counts)
+    } else {
+        Tested::Refused {
+            number: 10,
+            detail: i,
+        }
+    }
+}
+
+// The value of 51009: so many bytes from a place on; none of an absent tag.
+pub fn test_list(file: &[u8], size: Size, at: usize, bytes: usize) -> Tested
+    requires { ⌜ (at + bytes ≤ length (now file)) × (size .rows ≤ 16384) × (size .columns ≤ 16384) × (0 < bytes → 4 ≤ bytes) ⌝ }
+    ensures { λ r. ⌜ testedOut r ≡ countedOn none (run (now (file .entry)) (listReading size at bytes)) ⌝ }
+{
+    if bytes == 0 {
+        return Tested::Is(Counts {
+            kept: 0,
+            skipped: 0,
+        });
+    }
+    let count = grid::field(file, at);
+    if 32 < count {
+        return Tested::Refused {
+            number: 11,
+            detail: 32,
+        };
+    }
+    test_opcodes(file, size, count, at + 4, bytes - 4)
 }

@@ -1,4 +1,4 @@
-use borrow.Author.Tests.{lt-ltb, le-ltb, le-leb, lt-leb}
+use borrow.Author.Tests.{lt-ltb, le-ltb}
 use mathlib.Core.Path.{_∙_}
 use Rattle.opcodes.proofs.grid.inside.Statement.{statement}
 use Rattle.opcodes.proofs.grid.inside.Tie as tie

@@ -1,7 +1,6 @@
 use mathlib.Core.Path.{ap}
 use mathlib.Core.Bool.{Bool}
 use Prim.Native.Nat.{_*_}
-use Rattle.opcodes.specs.declared.list.Form.{Form}
 use borrow.Author.Needs.{needs}
 use Rattle.opcodes.proofs.list.table_form.Statement.{statement}
 use Rattle.opcodes.proofs.list.table_form.Tie as tie

@@ -1,0 +1,154 @@
+-- The list by the code's tests, opcode by opcode.
+-- Assumes nothing.
+use mathlib.Core.Path.{_≡_, refl, sym, ap, _∙_}
+use mathlib.Core.List.{List, _∷_}
+use Prim.Native.Nat.{ℕ, zero, suc, _+_, _-_, _≤_, _<_}
+use native.Mathlib.Nat.{add-zero}
+use native.Mathlib.Omega.{arith}
+use borrow.Author.Tests.{le-leb, lt-leb, lt-ltb, le-ltb, eq-eqb, ne-eqb}
+use Rattle.reading.specs.Bytes.{part}
+use Rattle.reading.specs.Number.{numberOf}
+use Rattle.reading.specs.Reading.{Reading, Reading.answer, run, pick}
+use Rattle.reading.specs.declared.number.Order.the-variants.{Big}
+use Rattle.reading.proofs.Reading.{running, run-answer, run-ask, pick-yes, pick-no}
+use Rattle.directory.specs.Out.{Out, Out.refused, Out.is, bind}
+use Rattle.directory.proofs.Outs.{bind-refused, bind-is}
+use Rattle.opcodes.specs.Opcode.{Opcode, skipped, kept}
+use Rattle.opcodes.specs.OpcodeList.{headerOf, classOf, faultOf, parametersOf, opcodeReading, listFrom, listReading, countedOn, countedOne}
+use Rattle.opcodes.specs.declared.grid.Size.{Size}
+use Rattle.opcodes.specs.declared.list.Header.{Header}
+use Rattle.opcodes.specs.declared.list.Class.the-variants as class
+use Rattle.opcodes.specs.declared.list.Counts.{Counts}
+
+-- ---- one opcode
+module _ (z : Size) (i id : ℕ) (ps : List ℕ) (c : Counts) where
+  pub parameters-kept : faultOf z id ps ≡ 0 → is (record { kept = c .kept + 1; skipped = c .skipped }) ≡ countedOne c (parametersOf z i id ps)
+  unfolding parametersOf pick
+  parameters-kept e = rw (eq-eqb _ _ e)
+
+  pub parameters-refused : (faultOf z id ps ≡ 0 → ⊥) → refused (faultOf z id ps) i ≡ countedOne c (parametersOf z i id ps)
+  unfolding parametersOf pick
+  parameters-refused e = rw (ne-eqb _ _ e)
+
+pub carried-run : (f : List ℕ) (z : Size) (i at : ℕ) (h : Header) → run f (opcodeReading class.Carried z i at h) ≡ parametersOf z i (h .id) (part f (at + 16) (h .length))
+carried-run f z i at h = simp running
+
+pub optional-run : (f : List ℕ) (z : Size) (i at : ℕ) (h : Header) → run f (opcodeReading class.Optional z i at h) ≡ is skipped
+optional-run f z i at h = run-answer f (is skipped)
+
+pub compulsory-run : (f : List ℕ) (z : Size) (i at : ℕ) (h : Header) → run f (opcodeReading class.Compulsory z i at h) ≡ refused 11 i
+compulsory-run f z i at h = run-answer f (refused 11 i)
+
+-- ---- the counts
+counts-same : (a b : Counts) → is a ≡ is b → a ≡ b
+counts-same a b e = cc
+
+not-is : (a : Counts) (n d : ℕ) → is a ≡ refused n d → ⊥
+not-is a n d e = let w : _≡_ {A = ℕ} 0 1 = cc in omega arith
+
+counts : {a b a′ b′ : ℕ} → a ≡ a′ → b ≡ b′ → _≡_ {A = Out Counts} (is (record { kept = a; skipped = b })) (is (record { kept = a′; skipped = b′ }))
+counts e h = cc
+
+added : (c c′ : Counts) (o : Opcode) (os : List Opcode) → is c′ ≡ countedOne c (is o) → countedOn c (is (o ∷ os)) ≡ countedOn c′ (is os)
+added c c′ skipped os h =
+    let e = counts-same c′ _ h in
+    let a : c′ .kept ≡ c .kept = ap (λ (x : Counts). x .kept) e in
+    let b : c′ .skipped ≡ c .skipped + 1 = ap (λ (x : Counts). x .skipped) e in
+    counts (omega arith) (omega arith)
+added c c′ (kept g k) os h =
+    let e = counts-same c′ _ h in
+    let a : c′ .kept ≡ c .kept + 1 = ap (λ (x : Counts). x .kept) e in
+    let b : c′ .skipped ≡ c .skipped = ap (λ (x : Counts). x .skipped) e in
+    counts (omega arith) (omega arith)
+
+-- one opcode more
+pub counted-bound : (c c′ : Counts) (x : Out Opcode) → is c′ ≡ countedOne c x → (c′ .kept ≤ c .kept + 1) × (c′ .skipped ≤ c .skipped + 1)
+counted-bound c c′ (refused n d) h = absurd (not-is c′ n d h)
+counted-bound c c′ (is skipped) h =
+    let e = counts-same c′ _ h in
+    let a : c′ .kept ≡ c .kept = ap (λ (x : Counts). x .kept) e in
+    let b : c′ .skipped ≡ c .skipped + 1 = ap (λ (x : Counts). x .skipped) e in
+    (omega arith, omega arith)
+counted-bound c c′ (is (kept g k)) h =
+    let e = counts-same c′ _ h in
+    let a : c′ .kept ≡ c .kept + 1 = ap (λ (x : Counts). x .kept) e in
+    let b : c′ .skipped ≡ c .skipped = ap (λ (x : Counts). x .skipped) e in
+    (omega arith, omega arith)
+
+-- ---- the list
+module _ (f : List ℕ) (z : Size) where
+  abbrev onwards : ℕ → ℕ → ℕ → ℕ → Header → Reading (Out (List Opcode))
+  onwards k i at n h = listFrom z k (i + 1) (at + (16 + h .length)) (n - (16 + h .length))
+
+  abbrev step : ℕ → ℕ → ℕ → ℕ → Header → Reading (Out (List Opcode))
+  step k i at n h = bind (opcodeReading (classOf h) z i at h) (λ (o : Opcode). bind (onwards k i at n h) (λ (os : List Opcode). answer (is (o ∷ os))))
+
+  opened : (k i at n : ℕ) → 16 ≤ n → 16 + headerOf (part f at 16) .length ≤ n → run f (listFrom z (suc k) i at n) ≡ run f (step k i at n (headerOf (part f at 16)))
+  unfolding listFrom
+  opened k i at n h l = simp (le-leb 16 n h, pick-yes, run-ask) (simp (le-leb _ n l, pick-yes))
+
+  module _ (k i at n : ℕ) (c : Counts) where
+    pub list-end : k ≡ 0 → n ≡ 0 → is c ≡ countedOn c (run f (listFrom z k i at n))
+    unfolding listFrom
+    list-end e h = rw (e, h) (simp (run-answer, pick-yes) (counts (sym (add-zero _)) (sym (add-zero _))))
+
+    pub list-left : k ≡ 0 → (n ≡ 0 → ⊥) → refused 10 i ≡ countedOn c (run f (listFrom z k i at n))
+    unfolding listFrom
+    list-left e h = rw e (simp (run-answer, ne-eqb n 0 h, pick-no))
+
+  pub list-short : (k i at n : ℕ) (c : Counts) → 0 < k → n < 16 → refused 10 i ≡ countedOn c (run f (listFrom z k i at n))
+  unfolding listFrom
+  list-short zero i at n c s h = absurd (omega arith)
+  list-short (suc k) i at n c s h = simp (lt-leb 16 n h, pick-no, run-answer)
+
+  pub list-over : (k i at n : ℕ) (c : Counts) → 0 < k → 16 ≤ n → n < 16 + headerOf (part f at 16) .length → refused 10 i ≡ countedOn c (run f (listFrom z k i at n))
+  unfolding listFrom
+  list-over zero i at n c s h l = absurd (omega arith)
+  list-over (suc k) i at n c s h l = simp (le-leb 16 n h, pick-yes, run-ask) (simp (lt-leb _ n l, pick-no, run-answer))
+
+  module _ (i at n : ℕ) (c : Counts) (h : 16 ≤ n) (l : 16 + headerOf (part f at 16) .length ≤ n) where
+    abbrev header : Header
+    header = headerOf (part f at 16)
+
+    pub list-refused : (k : ℕ) → 0 < k → (m d : ℕ) → refused m d ≡ countedOne c (run f (opcodeReading (classOf header) z i at header)) → refused m d ≡ countedOn c (run f (listFrom z k i at n))
+    list-refused zero s m d e = absurd (omega arith)
+    list-refused (suc k) s m d e = ap (countedOn c) (bind-refused f (opcodeReading (classOf header) z i at header) _ m d (out _ e)) ∙ ap (countedOn c) (sym (opened k i at n h l))
+      where
+        out : (x : Out Opcode) → refused m d ≡ countedOne c x → refused m d ≡ x
+        out (refused a b) e = cc
+        out (is skipped) e = absurd (not-is _ m d (sym e))
+        out (is (kept g o)) e = absurd (not-is _ m d (sym e))
+
+    pub list-next :
+        (k : ℕ) → 0 < k → (c′ : Counts) → is c′ ≡ countedOne c (run f (opcodeReading (classOf header) z i at header)) →
+        countedOn c (run f (listFrom z k i at n)) ≡ countedOn c′ (run f (onwards (k - 1) i at n header))
+    list-next zero s c′ e = absurd (omega arith)
+    list-next (suc k) s c′ e =
+        let q : k ≡ suc k - 1 = omega arith in
+        ap (countedOn c) (opened k i at n h l) ∙ go (run f (opcodeReading (classOf header) z i at header)) refl e
+        ∙ ap (λ (j : ℕ). countedOn c′ (run f (onwards j i at n header))) q
+      where
+        after : (o : Opcode) → is c′ ≡ countedOne c (is o) → (y : Out (List Opcode)) → y ≡ run f (onwards k i at n header) →
+            countedOn c (run f (bind (onwards k i at n header) (λ (os : List Opcode). answer (is (o ∷ os))))) ≡ countedOn c′ (run f (onwards k i at n header))
+        after o g (refused m d) w = ap (countedOn c) (sym (bind-refused f (onwards k i at n header) _ m d w)) ∙ ap (countedOn c′) w
+        after o g (is os) w = ap (countedOn c) (bind-is f (onwards k i at n header) _ os w ∙ run-answer f (is (o ∷ os))) ∙ added c c′ o os g ∙ ap (countedOn c′) w
+
+        go : (x : Out Opcode) → x ≡ run f (opcodeReading (classOf header) z i at header) → is c′ ≡ countedOne c x →
+            countedOn c (run f (step k i at n header)) ≡ countedOn c′ (run f (onwards k i at n header))
+        go (refused m d) w g = absurd (not-is c′ m d g)
+        go (is o) w g = ap (countedOn c) (bind-is f (opcodeReading (classOf header) z i at header) _ o w) ∙ after o g (run f (onwards k i at n header)) refl
+
+  -- ---- the value of 51009
+  module _ (at n : ℕ) (c : Counts) where
+    pub list-absent : n ≡ 0 → is c ≡ countedOn c (run f (listReading z at n))
+    unfolding listReading
+    list-absent e = simp (eq-eqb n 0 e, pick-yes, run-answer) (counts (sym (add-zero _)) (sym (add-zero _)))
+
+    module _ (s : n ≡ 0 → ⊥) (m : ℕ) (e : m ≡ numberOf Big (part f at 4)) where
+      pub list-many : 32 < m → refused 11 32 ≡ countedOn c (run f (listReading z at n))
+      unfolding listReading
+      list-many h = simp (ne-eqb n 0 s, pick-no, run-ask) (rw (← e) (simp (lt-ltb 32 m h, pick-yes, run-answer)))
+
+      pub list-some : m ≤ 32 → countedOn c (run f (listFrom z m 0 (at + 4) (n - 4))) ≡ countedOn c (run f (listReading z at n))
+      unfolding listReading
+      list-some h = simp (ne-eqb n 0 s, pick-no, run-ask) (rw (← e) (simp (le-ltb 32 m h, pick-no)))
