@@ -1,7 +1,6 @@
 // The calls. So far: card.
 ghost use mathlib.Core.Path.{_≡_};
 ghost use Prim.Native.Nat.{_≤_};
-ghost use lib.ListN.{length};
 ghost use Rattle.reading.specs.Reading.{run, runWhole};
 ghost use Rattle.raw.specs.Front.{Picture-in};
 ghost use Rattle.opcodes.specs.OpcodeList.{listReading, countedOn, none, testedOut};

@@ -6,3 +6,4 @@ pub mod Tables
 pub mod Frames
 pub mod OpcodeLists
 pub mod Listing
+pub mod Unread

@@ -5,7 +5,7 @@ use mathlib.Core.Bool.{Bool, true, false, _&&_, _||_, true≢false}
 use mathlib.Core.Logic.{_⊎_, inl, inr, ⊎-elim}
 use mathlib.Core.List.{List}
 use Prim.Native.Nat.{ℕ, zero, suc, _+_, _*_, _-_, _%_, _≤_, _<_}
-use native.Mathlib.Nat.{mul-suc, mul-le-mul-left}
+use native.Mathlib.Nat.{mul-suc}
 use native.Mathlib.Omega.{arith}
 use lib.Dec.{eqb, leb}
 use lib.Ieee.{binary32, binary64}
@@ -73,13 +73,10 @@ module _ (w : ℕ) (ps : List ℕ) where
   refused-there p zero h e = absurd (omega arith)
   refused-there p (suc n) h e = let q : n ≡ suc n - 1 = omega arith in rw e (ap (refusedIn w ps (p + w)) q)
 
--- n values of a width: all but one of them, and the one at a place
+-- n values of a width: one, and all the others
 pub one-less : (w n : ℕ) → 0 < n → w * n ≡ w + w * (n - 1)
 one-less w zero h = absurd (omega arith)
 one-less w (suc n) h = let q : suc n - 1 ≡ n = omega arith in rw q (omega (arith, mul-suc w n))
-
-pub within : (w n i : ℕ) → i < n → w * i + w ≤ w * n
-within w n i h = omega (arith, mul-le-mul-left w h, mul-suc w i)
 
 -- ---- an opcode's parameters
 module _ (z : Size) (id : ℕ) (ps : List ℕ) where

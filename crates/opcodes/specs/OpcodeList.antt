@@ -163,3 +163,8 @@ countedOne c (is (kept g k)) = is (record { kept = c .kept + 1; skipped = c .ski
 abbrev pub testedOut : Tested → Out Counts
 testedOut (tested.Refused n d) = refused n d
 testedOut (tested.Is c) = is c
+
+-- where the m-th opcode of a list stands, whose first one stands at a place
+abbrev pub startOf : List ℕ → ℕ → ℕ → ℕ
+startOf f at zero = at
+startOf f at (suc m) = startOf f (at + (16 + headerOf (part f at 16) .length)) m

@@ -4,9 +4,10 @@ use mathlib.Core.Path.{_≡_, sym, ap, subst, _∙_}
 use mathlib.Core.List.{List}
 use mathlib.Core.Logic.{⊎-elim}
 use Prim.Native.Nat.{ℕ, _+_, _*_, _≤_, _<_}
-use native.Mathlib.Nat.{mul-le-mul, mul-le-mul-left, mul-suc}
+use native.Mathlib.Nat.{mul-le-mul}
 use native.Mathlib.Omega.{arith}
 use lib.ListN.{length}
+use Rattle.levels.proofs.Runs.{within}
 use Rattle.reading.specs.Bytes.{part}
 use Rattle.reading.specs.Fraction.{widthOf, fractionOf}
 use Rattle.reading.specs.Number.{numberOf}
@@ -51,10 +52,6 @@ cells-fit r c s a b d = mul-le-mul (mul-le-mul a b) d
 
 pub pair-fits : (r c : ℕ) → r ≤ 8 → c ≤ 8 → r * c ≤ 64
 pair-fits r c a b = mul-le-mul a b
-
--- the i-th of n values of a size
-pub within : (size n i : ℕ) → i < n → size * i + size ≤ size * n
-within size n i h = omega (arith, mul-suc size i, mul-le-mul-left size h)
 
 module _ (f : List ℕ) (o : Order) (k : FractionKind) (size n p : ℕ) (sized : 0 < n → size ≡ widthOf k) where
   -- a tag's values are the same in its bytes and in the file

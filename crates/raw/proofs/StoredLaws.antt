@@ -27,7 +27,7 @@ use Rattle.levels.proofs.Greatest.{greatest-run, max-zero}
 use Rattle.raw.specs.Black.{kindFor, CarriedRun}
 use Rattle.raw.specs.Stored.{numbersReading, blacksReading, defaultWhite, whitesReading, levelsReading}
 use Rattle.raw.specs.declared.Tags.{Tags}
-use Rattle.raw.proofs.BlackLaws.{within}
+use Rattle.levels.proofs.Runs.{within}
 
 -- ---- one tag
 pub numbers-run : (f : List ℕ) (o : Order) (v : Values) → run f (numbersReading o v) ≡ runOf (λ (p : ℕ). numberOf o (part f p (v .size))) (v .size) (v .place) (v .count)

@@ -35,7 +35,8 @@ use Rattle.raw.specs.Sample.{stripOf, withinStrip, placeOf, cellIndex, s
 use Rattle.raw.specs.Front.{Raw-in}
 use Rattle.raw.specs.declared.front.Raw.{Raw}
 use Rattle.raw.specs.declared.Tags.{Tags}
-use Rattle.raw.proofs.BlackLaws.{width-for, within}
+use Rattle.levels.proofs.Runs.{within}
+use Rattle.raw.proofs.BlackLaws.{width-for}
 use Rattle.raw.proofs.Strip.{some-strips}
 use Rattle.raw.proofs.StoredLaws.{cell-index, cell-place, levels-run, numbers-run, samples-are}
 use Rattle.raw.proofs.SpanLaws.{span-of-plane}

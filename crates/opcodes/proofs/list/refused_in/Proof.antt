@@ -3,7 +3,8 @@ use Prim.Native.Nat.{_+_, _*_, _≤_, _<_}
 use native.Mathlib.Omega.{arith}
 use lib.ListN.{length}
 use Rattle.opcodes.specs.OpcodeList.{refusedIn}
-use Rattle.opcodes.proofs.OpcodeLists.{refused-none, refused-here, refused-there, within, one-less}
+use Rattle.opcodes.proofs.OpcodeLists.{refused-none, refused-here, refused-there, one-less}
+use Rattle.levels.proofs.Runs.{within}
 use Rattle.opcodes.proofs.list.refused_in.Statement.{statement}
 use Rattle.opcodes.proofs.list.refused_in.Tie as tie
 

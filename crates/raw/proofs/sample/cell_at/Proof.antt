@@ -20,7 +20,8 @@ use Rattle.raw.specs.Black.{kindFor}
 use Rattle.raw.specs.Stored.{blacksReading, levelsReading}
 use Rattle.raw.specs.Sample.{cellIndex}
 use Rattle.raw.specs.declared.Tags.{Tags}
-use Rattle.raw.proofs.BlackLaws.{width-for, within}
+use Rattle.levels.proofs.Runs.{within}
+use Rattle.raw.proofs.BlackLaws.{width-for}
 use Rattle.raw.proofs.StoredLaws.{levels-run, black-in, black-none}
 use Rattle.raw.proofs.TagFacts.{cells-in, cell-below, cell-fits}
 use borrow.Author.Needs.{needs}

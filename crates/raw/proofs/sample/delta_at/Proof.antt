@@ -6,7 +6,7 @@ use mir.Syntax.{w64}
 use mir.Val.{SFits}
 use mir.Facts.{toZ-ofZ}
 use Rattle.reading.specs.declared.fraction.FractionKind.the-variants as kind
-use Rattle.raw.proofs.BlackLaws.{within}
+use Rattle.levels.proofs.Runs.{within}
 use Rattle.raw.proofs.StoredLaws.{black-in, black-none}
 use borrow.Author.Needs.{needs}
 use Rattle.raw.proofs.sample.delta_at.Statement.{statement}

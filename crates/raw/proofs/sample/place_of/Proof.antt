@@ -4,7 +4,7 @@ use native.Mathlib.Omega.{arith}
 use denote.Ref.{now}
 use lib.ListN.{length}
 use Rattle.raw.specs.Strips.{stripCount}
-use Rattle.raw.proofs.BlackLaws.{within}
+use Rattle.levels.proofs.Runs.{within}
 use Rattle.raw.proofs.StoredLaws.{number-in}
 use Rattle.raw.proofs.TagFacts.{strips-at, strip-below, sample-inside}
 use Rattle.raw.proofs.sample.place_of.Statement.{statement}

@@ -4,7 +4,7 @@ use native.Mathlib.Omega.{arith}
 use denote.Ref.{now}
 use native.Mathlib.Nat.{mul-le-mul}
 use Rattle.raw.specs.Stored.{defaultWhite}
-use Rattle.raw.proofs.BlackLaws.{within}
+use Rattle.levels.proofs.Runs.{within}
 use Rattle.raw.proofs.StoredLaws.{white-default, white-given}
 use Rattle.raw.proofs.TagFacts.{whites-at, wide-most}
 use Rattle.raw.proofs.spans.white_at.Statement.{statement}
