@@ -7,3 +7,4 @@ pub mod Frames
 pub mod OpcodeLists
 pub mod Listing
 pub mod Unread
+pub mod StepLaws

@@ -99,6 +99,10 @@ module _ (z : Size) (id : ℕ) (ps : List ℕ) where
       unfolding faultOf pick
       fault-numbers b r e = rw (le-leb 36 (length ps) h, a, b, e)
 
+pub and-true : (a b : Bool) → (a && b) ≡ true → (a ≡ true) × (b ≡ true)
+and-true true b h = (refl, h)
+and-true false b h = absurd (true≢false (sym h))
+
 pub fits-in : (z : Size) (g : Grid) → fitsOf z g ≡ true → Fits-in z g
 unfolding fitsOf
 fits-in z g e =
@@ -119,10 +123,6 @@ fits-in z g e =
       row-pitch = leb-true _ _ (s .0);
       column-pitch = leb-true _ _ (s .1);
     }
-  where
-    and-true : (a b : Bool) → (a && b) ≡ true → (a ≡ true) × (b ≡ true)
-    and-true true b h = (refl, h)
-    and-true false b h = absurd (true≢false (sym h))
 
 -- the numbers of an opcode's own bytes, as they stand in the file
 module _ (f : List ℕ) (at len : ℕ) where

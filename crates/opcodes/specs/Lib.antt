@@ -3,3 +3,4 @@ pub mod Step
 pub mod Opcode
 pub mod Frame
 pub mod OpcodeList
+pub mod StepAt

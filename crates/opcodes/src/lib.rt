@@ -2,3 +2,4 @@
 pub mod grid;
 pub mod list;
 pub mod step;
+pub mod step_at;

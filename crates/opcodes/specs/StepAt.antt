@@ -1,0 +1,35 @@
+-- The step of an opcode at the i-th row and the j-th column of its grid, from its parameters at a place of the file.
+use Prim.Native.Nat.{ℕ, _+_, _*_, _≤_}
+use mathlib.Core.List.{List}
+use mathlib.Core.Path.{_≡_}
+use mathlib.Core.Logic.{_⊎_}
+use lib.Dec.{eqb}
+use lib.Ieee.{Float, binary32}
+use lib.ListN.{length}
+use Rattle.reading.specs.Bytes.{part}
+use Rattle.reading.specs.Number.{numberOf}
+use Rattle.reading.specs.Reading.{pick}
+use Rattle.reading.specs.Real.{realOf}
+use Rattle.reading.specs.declared.number.Order.the-variants.{Big}
+use Rattle.opcodes.specs.Grid.{longOf}
+use Rattle.opcodes.specs.Step.{valueOf, coefficientsOf, polynomialOf}
+use Rattle.opcodes.specs.declared.step.Step.{Step}
+use Rattle.opcodes.specs.declared.step.Step.the-variants.{Add, Scale, Table}
+
+-- the k-th of the FLOATs behind the LONG
+abbrev pub floatAt : List ℕ → ℕ → ℕ → Float
+floatAt f at k = valueOf (realOf binary32 (numberOf Big (part f (at + 36 + 4 * k) 4)))
+
+unfoldable pub stepOf : List ℕ → ℕ → ℕ → ℕ → ℕ → Step
+stepOf f at id i j =
+    pick (eqb id 7) (Table (at + 32))
+    (pick (eqb id 8) (polynomialOf (coefficientsOf f (at + 36) (longOf f (at + 32) + 1)))
+    (pick (eqb id 10) (Add (floatAt f at i))
+    (pick (eqb id 11) (Add (floatAt f at j)) (pick (eqb id 12) (Scale (floatAt f at i)) (Scale (floatAt f at j))))))
+
+-- what the step reads lies in the file
+pub record StepAt-in (f : List ℕ) (at id i j : ℕ) : Type 0 where
+  pub inside : at + 36 ≤ length f
+  pub coefficients : id ≡ 8 → at + 36 + 8 * (longOf f (at + 32) + 1) ≤ length f
+  pub rows : (id ≡ 10) ⊎ (id ≡ 12) → at + 36 + 4 * i + 4 ≤ length f
+  pub columns : (id ≡ 11) ⊎ (id ≡ 13) → at + 36 + 4 * j + 4 ≤ length f
