@@ -8,7 +8,6 @@ ghost use Rattle.develop.specs.Calls.{sizeOf, cardOut, cardReading};
 use opcodes::grid::Size;
 use opcodes::list;
 use opcodes::list::Tested;
-use raw::Tags;
 use raw::front;
 use raw::front::Front;
 use raw::front::Picture;

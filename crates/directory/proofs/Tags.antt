@@ -13,9 +13,9 @@ use mir.Val.{hasKey}
 use borrow.Author.Tests.{eqb-true, eqb-false, leb-true, leb-false, ltb-true, ltb-false, le-leb, lt-leb, eq-eqb, ne-eqb}
 use Rattle.reading.specs.Bytes.{part}
 use Rattle.reading.specs.Number.{numberOf}
-use Rattle.reading.specs.Reading.{Reading.answer, andThen, run, numberAt}
+use Rattle.reading.specs.Reading.{Reading.answer, Reading.ask, andThen, run, trace, pick, numberAt}
 use Rattle.reading.specs.declared.number.Order.{Order}
-use Rattle.reading.proofs.Reading.{running, run-answer, run-ask, run-then, pick-yes, pick-no}
+use Rattle.reading.proofs.Reading.{running, run-answer, run-ask, run-then, pick-yes, pick-no, trace-answer}
 use Rattle.directory.specs.Out.{Out, Out.refused, Out.is}
 use Rattle.directory.specs.Widths.{Widths, headWidth, entryWidth}
 use Rattle.directory.specs.Entry.{codeOf, sizes, sizeOf, bytesOf, headerOf}
@@ -149,6 +149,19 @@ size-in kinds.ShortLongOrRational k e =
 size-in kinds.SignedRational k e = sized k 10 (one-key 10 _ e)
 size-in kinds.Undefined k e = sized k 7 (one-key 7 _ e)
 
+run-whole : (f : List ℕ) (p : ℕ) (e : Entry) → run f (wholeReading p e) ≡ is (valuesAt p e)
+unfolding wholeReading pick
+run-whole f p e = go (eqb (codeOf (e .kind)) 7)
+  where
+    go : (b : Bool) → run f (pick b (answer (is (valuesAt p e))) (ask p (bytesOf e) (λ _. answer (is (valuesAt p e))))) ≡ is (valuesAt p e)
+    go true = simp running
+    go false = simp running
+
+-- no byte of an opcode list is read for its tag's test
+pub list-unread : (f : List ℕ) (p : ℕ) (e : Entry) → codeOf (e .kind) ≡ 7 → trace f (wholeReading p e) ≡ []
+unfolding wholeReading pick
+list-unread f p e h = rw (eq-eqb _ _ h) (trace-answer f (is (valuesAt p e)))
+
 -- an entry of a tag
 module _ (w : Widths) (f : List ℕ) (o : Order) (r : Rule) (p : ℕ) (e : Entry) where
   pub kind-wrong : allowsOf (r .kinds) (e .kind) ≡ false → refused 4 (r .tag) ≡ run f (testedReading w o r p e)
@@ -167,12 +180,12 @@ module _ (w : Widths) (f : List ℕ) (o : Order) (r : Rule) (p : ℕ) (e : Entry
 
       module _ (m : e .count ≤ r .most) where
         pub in-entry : bytesOf e ≤ w .word → is (valuesAt p e) ≡ run f (testedReading w o r p e)
-        unfolding testedReading valueReading wholeReading
-        in-entry b = simp (running, k, le-leb _ _ l, le-leb _ _ m, le-leb _ _ b)
+        unfolding testedReading valueReading
+        in-entry b = simp (running, run-whole, k, le-leb _ _ l, le-leb _ _ m, le-leb _ _ b)
 
         pub elsewhere : w .word < bytesOf e → (v : ℕ) → v ≡ numberOf o (part f p (w .word)) → is (valuesAt v e) ≡ run f (testedReading w o r p e)
-        unfolding testedReading valueReading wholeReading
-        elsewhere b v q = simp (running, k, le-leb _ _ l, le-leb _ _ m, lt-leb _ _ b, ← q)
+        unfolding testedReading valueReading
+        elsewhere b v q = simp (running, run-whole, k, le-leb _ _ l, le-leb _ _ m, lt-leb _ _ b, ← q)
 
         values-in : (size v : ℕ) → v + bytesOf e ≤ size → Placed-values size r (valuesAt v e)
         values-in size v h = record { inside = h; sized = λ _. size-in (r .kinds) (e .kind) k; enough = λ _. l; within = m; present = λ _. l }

@@ -69,9 +69,10 @@ abbrev pub valuesOut : Given → Out Values
 valuesOut (given.Refused n d) = refused n d
 valuesOut (given.Is v) = is v
 
--- the value of a tag that is tested is read, whole
+-- the value of a tag that is tested is read, whole; but an opcode list (UNDEFINED) is read where its opcodes are tested,
+-- and not all of it: "a skipped correction's parameters"
 unfoldable pub wholeReading : ℕ → Entry → Reading (Out Values)
-wholeReading p e = ask p (bytesOf e) (λ _. answer (is (valuesAt p e)))
+wholeReading p e = pick (eqb (codeOf (e .kind)) 7) (answer (is (valuesAt p e))) (ask p (bytesOf e) (λ _. answer (is (valuesAt p e))))
 
 -- a value that fits stands in the entry, any other where the offset says
 unfoldable pub valueReading : Widths → Order → ℕ → Entry → Reading (Out Values)

@@ -11,11 +11,10 @@ ghost use Rattle.opcodes.specs.OpcodeList.{headerOf, listedId, classOf, 
 use crate::grid;
 use crate::grid::Grid;
 use crate::grid::Size;
-use reading::number;
-use reading::number::Order;
 use reading::real;
 use reading::real::Real;
 
+// An opcode's header; `length` is that of its parameters, in bytes.
 pub struct Header {
     pub id: usize,
     pub version: usize,
@@ -23,6 +22,7 @@ pub struct Header {
     pub length: usize,
 }
 
+// Carried; if not, skipped (Optional) or refused by 11 (Compulsory).
 pub enum Class {
     Carried,
     Optional,
