@@ -13,7 +13,7 @@ use Rattle.reading.proofs.Reading.{run-answer}
 use Rattle.directory.specs.Out.{Out, Out.refused, Out.is, bind}
 use Rattle.directory.specs.Tag.{Placed-values}
 use Rattle.directory.specs.declared.tag.Values.{Values}
-use Rattle.directory.proofs.Outs.{bind-refused, bind-is}
+use Rattle.directory.proofs.Outs.{bind-refused, bind-is, not-refused}
 use Rattle.raw.specs.Lists.{listRule}
 use Rattle.raw.specs.declared.front.Picture.{Picture}
 use Rattle.opcodes.specs.Opcode.{Opcode}
@@ -21,9 +21,6 @@ use Rattle.opcodes.specs.OpcodeList.{keptIn, skippedIn, none, countedOn}
 use Rattle.opcodes.specs.declared.list.Counts.{Counts}
 use Rattle.develop.specs.Calls.{sizeOf, opcodesOf, cardWith}
 use Rattle.develop.specs.declared.CardNumbers.{CardNumbers}
-
-not-is : (c : Counts) (n d : ℕ) → is c ≡ refused n d → ⊥
-not-is c n d e = let w : _≡_ {A = ℕ} 0 1 = cc in omega arith
 
 abbrev pub counted : Picture → Counts → CardNumbers
 counted p c = record { rows = sizeOf p .rows; columns = sizeOf p .columns; samples = sizeOf p .samples; kept = c .kept; skipped = c .skipped }
@@ -37,7 +34,7 @@ module _ (f : List ℕ) (p : Picture) where
     where
       out : (x : Out (List Opcode)) → refused n d ≡ countedOn none x → refused n d ≡ x
       out (refused a b) e = cc
-      out (is os) e = absurd (not-is _ n d (sym e))
+      out (is os) e = absurd (not-refused _ n d (sym e))
 
   pub card-is : (c : Counts) → is c ≡ countedOn none (run f (opcodesOf p)) → is (counted p c) ≡ run f rest
   card-is c e = go (run f (opcodesOf p)) refl e
@@ -48,7 +45,7 @@ module _ (f : List ℕ) (p : Picture) where
           rw q (rw (zero-add (keptIn os), zero-add (skippedIn os)) refl)
 
       go : (x : Out (List Opcode)) → x ≡ run f (opcodesOf p) → is c ≡ countedOn none x → is (counted p c) ≡ run f rest
-      go (refused n d) w h = absurd (not-is c n d h)
+      go (refused n d) w h = absurd (not-refused c n d h)
       go (is os) w h = same os h ∙ sym (bind-is f (opcodesOf p) _ os w ∙ run-answer f (is (cardWith p os)))
 
 -- the list's bytes lie in the file

@@ -21,11 +21,17 @@ module _ {A B : Type 0} (f : List ℕ) (p : Reading (Out A)) (k : A → Reading 
   pub bind-last : (a : A) (b : Out B) → is a ≡ run f p → b ≡ run f (k a) → b ≡ run f (bind p k)
   bind-last a b e h = h ∙ sym (bind-is a e)
 
+pub not-refused : {A : Type 0} (a : A) (k d : ℕ) → is a ≡ refused k d → ⊥
+not-refused a k d e = let z : _≡_ {A = ℕ} 0 1 = cc in omega arith
+
+pub same-value : {A : Type 0} (a b : A) → is a ≡ is b → a ≡ b
+same-value a b e = cc
+
 -- a value came from a value
 pub bind-inverse : {A B : Type 0} (f : List ℕ) (p : Reading (Out A)) (k : A → Reading (Out B)) (b : B) → is b ≡ run f (bind p k) →
     (a : A) × (is a ≡ run f p) × (is b ≡ run f (k a))
 bind-inverse {A} {B} f p k b e = go (run f p) refl
   where
     go : (r : Out A) → r ≡ run f p → (a : A) × (is a ≡ run f p) × (is b ≡ run f (k a))
-    go (refused n d) q = absurd (let c : is b ≡ refused n d = e ∙ sym (bind-refused f p k n d q) in let z : _≡_ {A = ℕ} 0 1 = cc in omega arith)
+    go (refused n d) q = absurd (not-refused b n d (e ∙ sym (bind-refused f p k n d q)))
     go (is a) q = (a, q, e ∙ bind-is f p k a q)

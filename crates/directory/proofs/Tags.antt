@@ -33,7 +33,7 @@ use Rattle.directory.specs.declared.tag.Kinds.the-variants as kinds
 use Rattle.directory.specs.declared.tag.Rule.{Rule}
 use Rattle.directory.specs.declared.tag.Range.{Range}
 use Rattle.directory.specs.declared.tag.Values.{Values}
-use Rattle.directory.proofs.Outs.{bind-refused, bind-is}
+use Rattle.directory.proofs.Outs.{bind-refused, bind-is, not-refused}
 use Rattle.directory.proofs.Shapes.{entry-outside, shape-refused, shape-order, shape-next}
 
 -- ---- finding a tag
@@ -55,9 +55,6 @@ module _ (w : Widths) (f : List ℕ) (o : Order) (at tag : ℕ) where
 unfoldable pub PlacedIn : Widths → List ℕ → Order → Found → Type 0
 PlacedIn w f o found.Absent = Unit {0}
 PlacedIn w f o (found.At p e) = Placed w f o p e
-
-not-refused : {A : Type 0} (a : A) (k d : ℕ) → is a ≡ refused k d → ⊥
-not-refused a k d e = let z : _≡_ {A = ℕ} 0 1 = cc in omega arith
 
 module _ (w : Widths) (f : List ℕ) (o : Order) where
   entry-placed : (at t : ℕ) → is t ≡ run f (entryReading w (length f) o at) → Placed w f o (at + headWidth w) (headerOf w o (part f at (headWidth w)))

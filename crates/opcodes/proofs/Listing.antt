@@ -12,7 +12,7 @@ use Rattle.reading.specs.Reading.{Reading, Reading.answer, run, pick}
 use Rattle.reading.specs.declared.number.Order.the-variants.{Big}
 use Rattle.reading.proofs.Reading.{running, run-answer, run-ask, pick-yes, pick-no}
 use Rattle.directory.specs.Out.{Out, Out.refused, Out.is, bind}
-use Rattle.directory.proofs.Outs.{bind-refused, bind-is}
+use Rattle.directory.proofs.Outs.{bind-refused, bind-is, not-refused, same-value}
 use Rattle.opcodes.specs.Opcode.{Opcode, skipped, kept}
 use Rattle.opcodes.specs.OpcodeList.{headerOf, classOf, faultOf, parametersOf, opcodeReading, listFrom, listReading, countedOn, countedOne}
 use Rattle.opcodes.specs.declared.grid.Size.{Size}
@@ -40,37 +40,31 @@ pub compulsory-run : (f : List ℕ) (z : Size) (i at : ℕ) (h : Header) → run
 compulsory-run f z i at h = run-answer f (refused 11 i)
 
 -- ---- the counts
-counts-same : (a b : Counts) → is a ≡ is b → a ≡ b
-counts-same a b e = cc
-
-not-is : (a : Counts) (n d : ℕ) → is a ≡ refused n d → ⊥
-not-is a n d e = let w : _≡_ {A = ℕ} 0 1 = cc in omega arith
-
 counts : {a b a′ b′ : ℕ} → a ≡ a′ → b ≡ b′ → _≡_ {A = Out Counts} (is (record { kept = a; skipped = b })) (is (record { kept = a′; skipped = b′ }))
 counts e h = cc
 
 added : (c c′ : Counts) (o : Opcode) (os : List Opcode) → is c′ ≡ countedOne c (is o) → countedOn c (is (o ∷ os)) ≡ countedOn c′ (is os)
 added c c′ skipped os h =
-    let e = counts-same c′ _ h in
+    let e = same-value c′ _ h in
     let a : c′ .kept ≡ c .kept = ap (λ (x : Counts). x .kept) e in
     let b : c′ .skipped ≡ c .skipped + 1 = ap (λ (x : Counts). x .skipped) e in
     counts (omega arith) (omega arith)
 added c c′ (kept g k) os h =
-    let e = counts-same c′ _ h in
+    let e = same-value c′ _ h in
     let a : c′ .kept ≡ c .kept + 1 = ap (λ (x : Counts). x .kept) e in
     let b : c′ .skipped ≡ c .skipped = ap (λ (x : Counts). x .skipped) e in
     counts (omega arith) (omega arith)
 
 -- one opcode more
 pub counted-bound : (c c′ : Counts) (x : Out Opcode) → is c′ ≡ countedOne c x → (c′ .kept ≤ c .kept + 1) × (c′ .skipped ≤ c .skipped + 1)
-counted-bound c c′ (refused n d) h = absurd (not-is c′ n d h)
+counted-bound c c′ (refused n d) h = absurd (not-refused c′ n d h)
 counted-bound c c′ (is skipped) h =
-    let e = counts-same c′ _ h in
+    let e = same-value c′ _ h in
     let a : c′ .kept ≡ c .kept = ap (λ (x : Counts). x .kept) e in
     let b : c′ .skipped ≡ c .skipped + 1 = ap (λ (x : Counts). x .skipped) e in
     (omega arith, omega arith)
 counted-bound c c′ (is (kept g k)) h =
-    let e = counts-same c′ _ h in
+    let e = same-value c′ _ h in
     let a : c′ .kept ≡ c .kept + 1 = ap (λ (x : Counts). x .kept) e in
     let b : c′ .skipped ≡ c .skipped = ap (λ (x : Counts). x .skipped) e in
     (omega arith, omega arith)
@@ -116,8 +110,8 @@ module _ (f : List ℕ) (z : Size) where
       where
         out : (x : Out Opcode) → refused m d ≡ countedOne c x → refused m d ≡ x
         out (refused a b) e = cc
-        out (is skipped) e = absurd (not-is _ m d (sym e))
-        out (is (kept g o)) e = absurd (not-is _ m d (sym e))
+        out (is skipped) e = absurd (not-refused _ m d (sym e))
+        out (is (kept g o)) e = absurd (not-refused _ m d (sym e))
 
     pub list-next :
         (k : ℕ) → 0 < k → (c′ : Counts) → is c′ ≡ countedOne c (run f (opcodeReading (classOf header) z i at header)) →
@@ -135,7 +129,7 @@ module _ (f : List ℕ) (z : Size) where
 
         go : (x : Out Opcode) → x ≡ run f (opcodeReading (classOf header) z i at header) → is c′ ≡ countedOne c x →
             countedOn c (run f (step k i at n header)) ≡ countedOn c′ (run f (onwards k i at n header))
-        go (refused m d) w g = absurd (not-is c′ m d g)
+        go (refused m d) w g = absurd (not-refused c′ m d g)
         go (is o) w g = ap (countedOn c) (bind-is f (opcodeReading (classOf header) z i at header) _ o w) ∙ after o g (run f (onwards k i at n header)) refl
 
   -- ---- the value of 51009

@@ -17,7 +17,7 @@ use Rattle.reading.specs.Number.{numberOf}
 use Rattle.reading.specs.Real.{realOf}
 use Rattle.reading.specs.declared.number.Order.the-variants.{Big}
 use Rattle.reading.proofs.Bytes.{part-part}
-use Rattle.opcodes.specs.Grid.{gridOf, fitsOf, Fits-in}
+use Rattle.opcodes.specs.Grid.{longOf, gridOf, fitsOf, Fits-in}
 use Rattle.opcodes.specs.OpcodeList.{countOf, exactOf, faultOf, refusedReal, listedId, classOf, rowsOf, columnsOf, tableForm, polynomialForm, linesForm, formOf, refusedAt, refusedIn}
 use Rattle.opcodes.specs.declared.grid.Size.{Size}
 use Rattle.opcodes.specs.declared.grid.Grid.{Grid}
@@ -125,6 +125,9 @@ fits-in z g e =
     }
 
 -- the numbers of an opcode's own bytes, as they stand in the file
+pub long-part : (f : List ℕ) (at n k : ℕ) → k + 4 ≤ n → longOf f (at + k) ≡ longOf (part f at n) k
+long-part f at n k h = ap (numberOf Big) (sym (part-part f at n k 4 h))
+
 module _ (f : List ℕ) (at len : ℕ) where
   refused-one : (w p : ℕ) → (w ≡ 4) ⊎ (w ≡ 8) → p + w ≤ len → refusedAt w f (at + p) ≡ refusedAt w (part f at len) p
   unfolding pick

@@ -32,7 +32,7 @@ use Rattle.opcodes.specs.declared.list.Form.{Form}
 use Rattle.opcodes.specs.declared.step.Step.{Step}
 use Rattle.opcodes.specs.declared.step.Step.the-variants.{Add, Scale, Table}
 use Rattle.opcodes.proofs.Polynomial.{polynomial-read}
-use Rattle.opcodes.proofs.OpcodeLists.{and-true, fits-in, fault-short, fault-grid, fault-form, form-table, form-polynomial, form-rows, form-columns, exact-bytes}
+use Rattle.opcodes.proofs.OpcodeLists.{long-part, and-true, fits-in, fault-short, fault-grid, fault-form, form-table, form-polynomial, form-rows, form-columns, exact-bytes}
 
 -- the line of a row or column of the grid is one of its lines
 pub line-below : (first end pitch n : ℕ) → 1 ≤ pitch → first ≤ n → n < end → (n - first) / pitch < linesOf first end pitch
@@ -52,7 +52,7 @@ module _ (f : List ℕ) (at n : ℕ) where
       rw q (ap g (sym (part-part f at n (36 + w * i) w l))))
 
   long-own : 36 ≤ n → longOf f (at + 32) ≡ countOf own
-  long-own h = ap (numberOf Big) (sym (part-part f at n 32 4 (omega arith)))
+  long-own h = long-part f at n 32 (omega arith)
 
   float-own : (m k : ℕ) → 36 + 4 * m ≤ n → k < m → floatAt f at k ≡ getD (floatsOf own 36 m) k plusZero
   float-own m k h l =

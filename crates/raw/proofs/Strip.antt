@@ -16,6 +16,7 @@ use Rattle.reading.specs.declared.number.Order.{Order}
 use Rattle.reading.proofs.Reading.{running, run-answer}
 use Rattle.directory.specs.Out.{Out.refused, Out.is}
 use Rattle.raw.specs.Strips.{stripFrom}
+use Rattle.directory.proofs.Outs.{not-refused}
 
 pub strip-bytes-fit : (here row : ℕ) → here ≤ 16384 → row ≤ 98304 → here * row ≤ 1610612736
 strip-bytes-fit here row h r = mul-le-mul h r
@@ -48,10 +49,6 @@ module _ (f : List ℕ) (size : ℕ) (o : Order) (wide broad rows row p q rest :
           run f (stripFrom size o wide broad rows row n p q rest) ≡ run f (stripFrom size o wide broad rows row m (p + wide) (q + broad) (rest - h))
       unfolding stripFrom
       strip-next l = rw (s, add-one m) (simp (running, ← eb, ← eh, eq-eqb _ _ e, ← ea, le-leb _ _ l))
-
--- what was found to hold of every strip: it lies in the file
-not-refused : (z k d : ℕ) → is z ≡ refused k d → ⊥
-not-refused z k d e = let n : _≡_ {A = ℕ} 0 1 = cc in omega arith
 
 module _ (f : List ℕ) (size : ℕ) (o : Order) (wide broad rows row z : ℕ) where
   strip-step : (n p q rest : ℕ) → is z ≡ run f (stripFrom size o wide broad rows row (suc n) p q rest) →

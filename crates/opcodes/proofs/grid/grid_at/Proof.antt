@@ -1,21 +1,14 @@
 use mathlib.Core.Path.{_≡_, sym, ap, _∙_}
-use mathlib.Core.List.{List}
-use Prim.Native.Nat.{ℕ, _+_, _≤_}
+use Prim.Native.Nat.{ℕ}
 use native.Mathlib.Nat.{add-zero}
 use native.Mathlib.Omega.{arith}
 use denote.Ref.{now}
-use Rattle.reading.specs.Bytes.{part}
-use Rattle.reading.specs.Number.{numberOf}
-use Rattle.reading.specs.declared.number.Order.the-variants.{Big}
-use Rattle.reading.proofs.Bytes.{part-part}
 use Rattle.opcodes.specs.Grid.{longOf, gridOf}
 use Rattle.opcodes.specs.declared.grid.Grid.{Grid}
 use borrow.Author.Needs.{needs}
 use Rattle.opcodes.proofs.grid.grid_at.Statement.{statement}
 use Rattle.opcodes.proofs.grid.grid_at.Tie as tie
-
-inner : (f : List ℕ) (at n k : ℕ) → k + 4 ≤ n → longOf f (at + k) ≡ longOf (part f at n) k
-inner f at n k h = ap (numberOf Big) (sym (part-part f at n k 4 h))
+use Rattle.opcodes.proofs.OpcodeLists.{long-part}
 
 same : {a b d e i j k l a′ b′ d′ e′ i′ j′ k′ l′ : ℕ} → a ≡ a′ → b ≡ b′ → d ≡ d′ → e ≡ e′ → i ≡ i′ → j ≡ j′ → k ≡ k′ → l ≡ l′ →
     _≡_ {A = Grid} (record { top = a; left = b; bottom = d; right = e; plane = i; planes = j; «row_pitch» = k; «column_pitch» = l })
@@ -72,7 +65,7 @@ unfolding gridOf
 returns c =
     let f = now (c .before .before .before .before .before .before .before .before .before .args .file) in
     let a = c .before .before .before .before .before .before .before .before .before .args .at in
-    (λ n h. same (c .before .before .before .before .before .before .before .field .ensures .0 ∙ ap (longOf f) (sym (add-zero a)) ∙ inner f a n 0 (omega arith)) (c .before .before .before .before .before .before .field2 .ensures .0 ∙ inner f a n 4 (omega arith)) (c .before .before .before .before .before .field3 .ensures .0 ∙ inner f a n 8 (omega arith)) (c .before .before .before .before .field4 .ensures .0 ∙ inner f a n 12 (omega arith)) (c .before .before .before .field5 .ensures .0 ∙ inner f a n 16 (omega arith)) (c .before .before .field6 .ensures .0 ∙ inner f a n 20 (omega arith)) (c .before .field7 .ensures .0 ∙ inner f a n 24 (omega arith)) (c .field8 .ensures .0 ∙ inner f a n 28 (omega arith)), (c .before .before .before .field5 .ensures .1, c .before .before .field6 .ensures .1, c .before .field7 .ensures .1, c .field8 .ensures .1))
+    (λ n h. same (c .before .before .before .before .before .before .before .field .ensures .0 ∙ ap (longOf f) (sym (add-zero a)) ∙ long-part f a n 0 (omega arith)) (c .before .before .before .before .before .before .field2 .ensures .0 ∙ long-part f a n 4 (omega arith)) (c .before .before .before .before .before .field3 .ensures .0 ∙ long-part f a n 8 (omega arith)) (c .before .before .before .before .field4 .ensures .0 ∙ long-part f a n 12 (omega arith)) (c .before .before .before .field5 .ensures .0 ∙ long-part f a n 16 (omega arith)) (c .before .before .field6 .ensures .0 ∙ long-part f a n 20 (omega arith)) (c .before .field7 .ensures .0 ∙ long-part f a n 24 (omega arith)) (c .field8 .ensures .0 ∙ long-part f a n 28 (omega arith)), (c .before .before .before .field5 .ensures .1, c .before .before .field6 .ensures .1, c .before .field7 .ensures .1, c .field8 .ensures .1))
 
 pub grid-at-spec : {M : Type 1} → statement M
 grid-at-spec = tie.close (tie.spec field-requires add-field field-requires-2 add-field-2 field-requires-3 add-field-3 field-requires-4 add-field-4 field-requires-5 add-field-5 field-requires-6 add-field-6 field-requires-7 add-field-7 field-requires-8 returns)

@@ -1,16 +1,14 @@
-use mathlib.Core.Path.{_≡_, refl, sym, ap, _∙_}
+use mathlib.Core.Path.{_≡_, refl, sym, _∙_}
 use mathlib.Core.Bool.{true, false}
 use Prim.Native.Nat.{_+_, _*_, _≤_}
 use native.Mathlib.Omega.{arith}
 use denote.Ref.{now}
 use lib.ListN.{length}
 use Rattle.reading.specs.Bytes.{part}
-use Rattle.reading.specs.Number.{numberOf}
-use Rattle.reading.specs.declared.number.Order.the-variants.{Big}
-use Rattle.reading.proofs.Bytes.{part-part, length-part}
+use Rattle.reading.proofs.Bytes.{length-part}
 use Rattle.opcodes.specs.Grid.{gridOf, fitsOf}
 use Rattle.opcodes.specs.OpcodeList.{countOf, formOf, exactOf}
-use Rattle.opcodes.proofs.OpcodeLists.{fault-short, fault-grid, fault-form, fault-numbers, fits-in, Form-in, form-in, exact-bytes, refused-part}
+use Rattle.opcodes.proofs.OpcodeLists.{long-part, fault-short, fault-grid, fault-form, fault-numbers, fits-in, Form-in, form-in, exact-bytes, refused-part}
 use Rattle.reading.specs.Reading.{pick}
 use Rattle.opcodes.proofs.list.fault.Statement.{statement}
 use Rattle.opcodes.proofs.list.fault.Tie as tie
@@ -65,7 +63,7 @@ refused-in-requires c κs =
     let h : 36 ≤ length ps = rw len some in
     let g : c .before .before .before .before .before .before .grid-at .result ≡ gridOf ps = c .before .before .before .before .before .before .grid-at .ensures .0 n (omega arith) in
     let fit : fitsOf (c .before .before .before .before .before .before .before .before .before .args .size) (gridOf ps) ≡ true = rw (← g) (sym (c .before .before .before .before .before .fits2 .ensures) ∙ c .before .before .before .before .if2 .taken) in
-    let e : c .before .before .before .field .result ≡ countOf ps = c .before .before .before .field .ensures .0 ∙ ap (numberOf Big) (sym (part-part f at n 32 4 (omega arith))) in
+    let e : c .before .before .before .field .result ≡ countOf ps = c .before .before .before .field .ensures .0 ∙ long-part f at n 32 (omega arith) in
     let m : c .before .before .form-for .result ≡ formOf (gridOf ps) (c .before .before .before .before .before .before .before .before .before .args .id) (countOf ps) = c .before .before .form-for .ensures ∙ rw (g, e) refl in
     let x : exactOf (c .before .before .form-for .result) n ≡ true = sym (c .before .exact .ensures) ∙ c .if3 .taken in
     let b : n ≡ 36 + c .before .before .form-for .result .bytes = exact-bytes (c .before .before .form-for .result) n x in
@@ -84,7 +82,7 @@ returns-2 c =
     let h : 36 ≤ length ps = rw len some in
     let g : c .before .before .before .before .before .before .before .before .grid-at .result ≡ gridOf ps = c .before .before .before .before .before .before .before .before .grid-at .ensures .0 n (omega arith) in
     let fit : fitsOf (c .before .before .before .before .before .before .before .before .before .before .before .args .size) (gridOf ps) ≡ true = rw (← g) (sym (c .before .before .before .before .before .before .before .fits2 .ensures) ∙ c .before .before .before .before .before .before .if2 .taken) in
-    let e : c .before .before .before .before .before .field .result ≡ countOf ps = c .before .before .before .before .before .field .ensures .0 ∙ ap (numberOf Big) (sym (part-part f at n 32 4 (omega arith))) in
+    let e : c .before .before .before .before .before .field .result ≡ countOf ps = c .before .before .before .before .before .field .ensures .0 ∙ long-part f at n 32 (omega arith) in
     let m : c .before .before .before .before .form-for .result ≡ formOf (gridOf ps) (c .before .before .before .before .before .before .before .before .before .before .before .args .id) (countOf ps) = c .before .before .before .before .form-for .ensures ∙ rw (g, e) refl in
     let x : exactOf (c .before .before .before .before .form-for .result) n ≡ true = sym (c .before .before .before .exact .ensures) ∙ c .before .before .if3 .taken in
     let b : n ≡ 36 + c .before .before .before .before .form-for .result .bytes = exact-bytes (c .before .before .before .before .form-for .result) n x in
@@ -105,7 +103,7 @@ returns-3 c =
     let h : 36 ≤ length ps = rw len some in
     let g : c .before .before .before .before .before .before .before .before .grid-at .result ≡ gridOf ps = c .before .before .before .before .before .before .before .before .grid-at .ensures .0 n (omega arith) in
     let fit : fitsOf (c .before .before .before .before .before .before .before .before .before .before .before .args .size) (gridOf ps) ≡ true = rw (← g) (sym (c .before .before .before .before .before .before .before .fits2 .ensures) ∙ c .before .before .before .before .before .before .if2 .taken) in
-    let e : c .before .before .before .before .before .field .result ≡ countOf ps = c .before .before .before .before .before .field .ensures .0 ∙ ap (numberOf Big) (sym (part-part f at n 32 4 (omega arith))) in
+    let e : c .before .before .before .before .before .field .result ≡ countOf ps = c .before .before .before .before .before .field .ensures .0 ∙ long-part f at n 32 (omega arith) in
     let m : c .before .before .before .before .form-for .result ≡ formOf (gridOf ps) (c .before .before .before .before .before .before .before .before .before .before .before .args .id) (countOf ps) = c .before .before .before .before .form-for .ensures ∙ rw (g, e) refl in
     let x : exactOf (c .before .before .before .before .form-for .result) n ≡ true = sym (c .before .before .before .exact .ensures) ∙ c .before .before .if3 .taken in
     let b : n ≡ 36 + c .before .before .before .before .form-for .result .bytes = exact-bytes (c .before .before .before .before .form-for .result) n x in
@@ -125,7 +123,7 @@ returns-4 c =
     let h : 36 ≤ length ps = rw len some in
     let g : c .before .before .before .before .before .before .grid-at .result ≡ gridOf ps = c .before .before .before .before .before .before .grid-at .ensures .0 n (omega arith) in
     let fit : fitsOf (c .before .before .before .before .before .before .before .before .before .args .size) (gridOf ps) ≡ true = rw (← g) (sym (c .before .before .before .before .before .fits2 .ensures) ∙ c .before .before .before .before .if2 .taken) in
-    let e : c .before .before .before .field .result ≡ countOf ps = c .before .before .before .field .ensures .0 ∙ ap (numberOf Big) (sym (part-part f at n 32 4 (omega arith))) in
+    let e : c .before .before .before .field .result ≡ countOf ps = c .before .before .before .field .ensures .0 ∙ long-part f at n 32 (omega arith) in
     let m : c .before .before .form-for .result ≡ formOf (gridOf ps) (c .before .before .before .before .before .before .before .before .before .args .id) (countOf ps) = c .before .before .form-for .ensures ∙ rw (g, e) refl in
     fault-form (c .before .before .before .before .before .before .before .before .before .args .size) (c .before .before .before .before .before .before .before .before .before .args .id) ps h fit (rw (← m, len) (sym (c .before .exact .ensures) ∙ c .if3 .left))
 

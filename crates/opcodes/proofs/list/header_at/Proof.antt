@@ -1,22 +1,15 @@
 use mathlib.Core.Path.{_≡_, sym, ap, _∙_}
-use mathlib.Core.List.{List}
-use Prim.Native.Nat.{ℕ, _+_, _≤_}
+use Prim.Native.Nat.{ℕ}
 use native.Mathlib.Nat.{add-zero}
 use native.Mathlib.Omega.{arith}
 use denote.Ref.{now}
-use Rattle.reading.specs.Bytes.{part}
-use Rattle.reading.specs.Number.{numberOf}
-use Rattle.reading.specs.declared.number.Order.the-variants.{Big}
-use Rattle.reading.proofs.Bytes.{part-part}
 use Rattle.opcodes.specs.Grid.{longOf}
 use Rattle.opcodes.specs.OpcodeList.{headerOf}
 use Rattle.opcodes.specs.declared.list.Header.{Header}
 use borrow.Author.Needs.{needs}
 use Rattle.opcodes.proofs.list.header_at.Statement.{statement}
 use Rattle.opcodes.proofs.list.header_at.Tie as tie
-
-inner : (f : List ℕ) (at k : ℕ) → k + 4 ≤ 16 → longOf f (at + k) ≡ longOf (part f at 16) k
-inner f at k h = ap (numberOf Big) (sym (part-part f at 16 k 4 h))
+use Rattle.opcodes.proofs.OpcodeLists.{long-part}
 
 same : {a b d e a′ b′ d′ e′ : ℕ} → a ≡ a′ → b ≡ b′ → d ≡ d′ → e ≡ e′ →
     _≡_ {A = Header} (record { id = a; version = b; flags = d; length = e }) (record { id = a′; version = b′; flags = d′; length = e′ })
@@ -48,7 +41,7 @@ unfolding headerOf
 returns c =
     let f = now (c .before .before .before .before .before .args .file) in
     let a = c .before .before .before .before .before .args .at in
-    (same (c .before .before .before .field .ensures .0 ∙ ap (longOf f) (sym (add-zero a)) ∙ inner f a 0 (omega arith)) (c .before .before .field2 .ensures .0 ∙ inner f a 4 (omega arith)) (c .before .field3 .ensures .0 ∙ inner f a 8 (omega arith)) (c .field4 .ensures .0 ∙ inner f a 12 (omega arith)), c .field4 .ensures .1)
+    (same (c .before .before .before .field .ensures .0 ∙ ap (longOf f) (sym (add-zero a)) ∙ long-part f a 16 0 (omega arith)) (c .before .before .field2 .ensures .0 ∙ long-part f a 16 4 (omega arith)) (c .before .field3 .ensures .0 ∙ long-part f a 16 8 (omega arith)) (c .field4 .ensures .0 ∙ long-part f a 16 12 (omega arith)), c .field4 .ensures .1)
 
 pub header-at-spec : {M : Type 1} → statement M
 header-at-spec = tie.close (tie.spec field-requires add-field field-requires-2 add-field-2 field-requires-3 add-field-3 field-requires-4 returns)
