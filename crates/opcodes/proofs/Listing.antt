@@ -1,18 +1,21 @@
 -- The list by the code's tests, opcode by opcode.
 -- Assumes nothing.
 use mathlib.Core.Path.{_≡_, refl, sym, ap, _∙_}
-use mathlib.Core.List.{List, _∷_}
+use mathlib.Core.Bool.{Bool, true, false}
+use mathlib.Core.List.{List, [], _∷_}
 use Prim.Native.Nat.{ℕ, zero, suc, _+_, _-_, _≤_, _<_}
 use native.Mathlib.Nat.{add-zero}
 use native.Mathlib.Omega.{arith}
-use borrow.Author.Tests.{le-leb, lt-leb, lt-ltb, le-ltb, eq-eqb, ne-eqb}
+use lib.Dec.{leb, eqb}
+use lib.ListN.{length}
+use borrow.Author.Tests.{le-leb, lt-leb, leb-true, leb-false, lt-ltb, le-ltb, eq-eqb, eqb-true, ne-eqb}
 use Rattle.reading.specs.Bytes.{part}
 use Rattle.reading.specs.Number.{numberOf}
 use Rattle.reading.specs.Reading.{Reading, Reading.answer, run, pick}
 use Rattle.reading.specs.declared.number.Order.the-variants.{Big}
 use Rattle.reading.proofs.Reading.{running, run-answer, run-ask, pick-yes, pick-no}
 use Rattle.directory.specs.Out.{Out, Out.refused, Out.is, bind}
-use Rattle.directory.proofs.Outs.{bind-refused, bind-is, not-refused, same-value}
+use Rattle.directory.proofs.Outs.{bind-refused, bind-is, bind-inverse, not-refused, same-value}
 use Rattle.opcodes.specs.Opcode.{Opcode, skipped, kept}
 use Rattle.opcodes.specs.OpcodeList.{headerOf, classOf, faultOf, parametersOf, opcodeReading, listFrom, listReading, countedOn, countedOne}
 use Rattle.opcodes.specs.declared.grid.Size.{Size}
@@ -70,6 +73,13 @@ counted-bound c c′ (is (kept g k)) h =
     (omega arith, omega arith)
 
 -- ---- the list
+-- the header at a place, and how many bytes its opcode has, header with parameters
+abbrev pub headAt : List ℕ → ℕ → Header
+headAt f at = headerOf (part f at 16)
+
+abbrev pub wholeAt : List ℕ → ℕ → ℕ
+wholeAt f at = 16 + headAt f at .length
+
 module _ (f : List ℕ) (z : Size) where
   abbrev onwards : ℕ → ℕ → ℕ → ℕ → Header → Reading (Out (List Opcode))
   onwards k i at n h = listFrom z k (i + 1) (at + (16 + h .length)) (n - (16 + h .length))
@@ -81,6 +91,68 @@ module _ (f : List ℕ) (z : Size) where
   unfolding listFrom
   opened k i at n h l = simp (le-leb 16 n h, pick-yes, run-ask) (simp (le-leb _ n l, pick-yes))
 
+  short : (k i at n : ℕ) → n < 16 → refused 10 i ≡ run f (listFrom z (suc k) i at n)
+  unfolding listFrom
+  short k i at n h = simp (lt-leb 16 n h, pick-no, run-answer)
+
+  over : (k i at n : ℕ) → 16 ≤ n → n < wholeAt f at → refused 10 i ≡ run f (listFrom z (suc k) i at n)
+  unfolding listFrom
+  over k i at n h l = simp (le-leb 16 n h, pick-yes, run-ask) (simp (lt-leb _ n l, pick-no, run-answer))
+
+  -- ---- an accepted list: its first opcode, and the others
+  pub record Accepted (k i at n : ℕ) (os : List Opcode) : Type 0 where
+    pub header-fits : 16 ≤ n
+    pub fits : wholeAt f at ≤ n
+    pub first : Opcode
+    pub others : List Opcode
+    pub first-is : is first ≡ run f (opcodeReading (classOf (headAt f at)) z i at (headAt f at))
+    pub others-are : is others ≡ run f (listFrom z k (i + 1) (at + wholeAt f at) (n - wholeAt f at))
+    pub all : os ≡ first ∷ others
+
+  pub list-inverse : (k i at n : ℕ) (os : List Opcode) → is os ≡ run f (listFrom z (suc k) i at n) → Accepted k i at n os
+  list-inverse k i at n os e = go (leb 16 n) (leb (wholeAt f at) n) refl refl
+    where
+      go : (a b : Bool) → leb 16 n ≡ a → leb (wholeAt f at) n ≡ b → Accepted k i at n os
+      go false b p q = absurd (not-refused os 10 i (e ∙ sym (short k i at n (leb-false 16 n p))))
+      go true false p q = absurd (not-refused os 10 i (e ∙ sym (over k i at n (leb-true 16 n p) (leb-false _ n q))))
+      go true true p q =
+          let a = bind-inverse f (opcodeReading (classOf (headAt f at)) z i at (headAt f at)) _ os (e ∙ opened k i at n (leb-true 16 n p) (leb-true _ n q)) in
+          let b = bind-inverse f (onwards k i at n (headAt f at)) _ os (a .2) in
+          record {
+            header-fits = leb-true 16 n p;
+            fits = leb-true _ n q;
+            first = a .0;
+            others = b .0;
+            first-is = a .1;
+            others-are = b .1;
+            all = same-value os (a .0 ∷ b .0) (b .2 ∙ run-answer f (is (a .0 ∷ b .0)));
+          }
+
+  -- and back
+  pub list-of :
+      (k i at n : ℕ) (o : Opcode) (os : List Opcode) → wholeAt f at ≤ n →
+      is o ≡ run f (opcodeReading (classOf (headAt f at)) z i at (headAt f at)) →
+      is os ≡ run f (listFrom z k (i + 1) (at + wholeAt f at) (n - wholeAt f at)) →
+      is (o ∷ os) ≡ run f (listFrom z (suc k) i at n)
+  list-of k i at n o os l a b =
+      sym (opened k i at n (omega arith) l ∙ bind-is f (opcodeReading (classOf (headAt f at)) z i at (headAt f at)) _ o a
+      ∙ bind-is f (onwards k i at n (headAt f at)) _ os b ∙ run-answer f (is (o ∷ os)))
+
+  pub none-inverse : (i at n : ℕ) (os : List Opcode) → is os ≡ run f (listFrom z 0 i at n) → (n ≡ 0) × (os ≡ [])
+  unfolding listFrom
+  none-inverse i at n os e = go (eqb n 0) refl (e ∙ run-answer f _)
+    where
+      go : (a : Bool) → eqb n 0 ≡ a → is os ≡ pick a (is []) (refused 10 i) → (n ≡ 0) × (os ≡ [])
+      go true p q = (eqb-true n 0 p, same-value os [] (q ∙ pick-yes _ _))
+      go false p q = absurd (not-refused os 10 i (q ∙ pick-no _ _))
+
+  -- as many opcodes as the count says
+  pub list-length : (k i at n : ℕ) (os : List Opcode) → is os ≡ run f (listFrom z k i at n) → length os ≡ k
+  list-length zero i at n os e = ap length (none-inverse i at n os e .1)
+  list-length (suc k) i at n os e =
+      let a = list-inverse k i at n os e in
+      ap length (a .all) ∙ ap suc (list-length k (i + 1) (at + wholeAt f at) (n - wholeAt f at) (a .others) (a .others-are))
+
   module _ (k i at n : ℕ) (c : Counts) where
     pub list-end : k ≡ 0 → n ≡ 0 → is c ≡ countedOn c (run f (listFrom z k i at n))
     unfolding listFrom
@@ -91,14 +163,12 @@ module _ (f : List ℕ) (z : Size) where
     list-left e h = rw e (simp (run-answer, ne-eqb n 0 h, pick-no))
 
   pub list-short : (k i at n : ℕ) (c : Counts) → 0 < k → n < 16 → refused 10 i ≡ countedOn c (run f (listFrom z k i at n))
-  unfolding listFrom
   list-short zero i at n c s h = absurd (omega arith)
-  list-short (suc k) i at n c s h = simp (lt-leb 16 n h, pick-no, run-answer)
+  list-short (suc k) i at n c s h = ap (countedOn c) (short k i at n h)
 
   pub list-over : (k i at n : ℕ) (c : Counts) → 0 < k → 16 ≤ n → n < 16 + headerOf (part f at 16) .length → refused 10 i ≡ countedOn c (run f (listFrom z k i at n))
-  unfolding listFrom
   list-over zero i at n c s h l = absurd (omega arith)
-  list-over (suc k) i at n c s h l = simp (le-leb 16 n h, pick-yes, run-ask) (simp (lt-leb _ n l, pick-no, run-answer))
+  list-over (suc k) i at n c s h l = ap (countedOn c) (over k i at n h l)
 
   module _ (i at n : ℕ) (c : Counts) (h : 16 ≤ n) (l : 16 + headerOf (part f at 16) .length ≤ n) where
     abbrev header : Header
