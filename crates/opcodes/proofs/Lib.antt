@@ -7,4 +7,5 @@ pub mod Frames
 pub mod OpcodeLists
 pub mod Listing
 pub mod Unread
+pub mod Swaps
 pub mod StepLaws

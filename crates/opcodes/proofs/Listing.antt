@@ -17,7 +17,7 @@ use Rattle.reading.proofs.Reading.{running, run-answer, run-ask, pick-yes, pick
 use Rattle.directory.specs.Out.{Out, Out.refused, Out.is, bind}
 use Rattle.directory.proofs.Outs.{bind-refused, bind-is, bind-inverse, not-refused, same-value}
 use Rattle.opcodes.specs.Opcode.{Opcode, skipped, kept}
-use Rattle.opcodes.specs.OpcodeList.{headerOf, classOf, faultOf, parametersOf, opcodeReading, listFrom, listReading, countedOn, countedOne}
+use Rattle.opcodes.specs.OpcodeList.{headerOf, classOf, faultOf, parametersOf, opcodeReading, listFrom, listReading, countedOn, countedOne, startOf}
 use Rattle.opcodes.specs.declared.grid.Size.{Size}
 use Rattle.opcodes.specs.declared.list.Header.{Header}
 use Rattle.opcodes.specs.declared.list.Class.the-variants as class
@@ -79,6 +79,16 @@ headAt f at = headerOf (part f at 16)
 
 abbrev pub wholeAt : List ℕ → ℕ → ℕ
 wholeAt f at = 16 + headAt f at .length
+
+-- where the opcodes stand
+module _ (f : List ℕ) where
+  pub start-above : (at m : ℕ) → at ≤ startOf f at m
+  start-above at zero = omega arith
+  start-above at (suc m) = omega (arith, start-above (at + wholeAt f at) m)
+
+  pub start-next : (at m : ℕ) → startOf f at (suc m) ≡ startOf f at m + wholeAt f (startOf f at m)
+  start-next at zero = refl
+  start-next at (suc m) = start-next (at + wholeAt f at) m
 
 module _ (f : List ℕ) (z : Size) where
   abbrev onwards : ℕ → ℕ → ℕ → ℕ → Header → Reading (Out (List Opcode))
@@ -153,6 +163,14 @@ module _ (f : List ℕ) (z : Size) where
       let a = list-inverse k i at n os e in
       ap length (a .all) ∙ ap suc (list-length k (i + 1) (at + wholeAt f at) (n - wholeAt f at) (a .others) (a .others-are))
 
+  -- and where they end
+  pub start-inside : (m k i at n : ℕ) (os : List Opcode) → is os ≡ run f (listFrom z k i at n) → m ≤ k → startOf f at m ≤ at + n
+  start-inside zero k i at n os e h = omega arith
+  start-inside (suc m) zero i at n os e h = absurd (omega arith)
+  start-inside (suc m) (suc k) i at n os e h =
+      let a = list-inverse k i at n os e in
+      omega (arith, a .fits, start-inside m k (i + 1) (at + wholeAt f at) (n - wholeAt f at) (a .others) (a .others-are) (omega arith))
+
   module _ (k i at n : ℕ) (c : Counts) where
     pub list-end : k ≡ 0 → n ≡ 0 → is c ≡ countedOn c (run f (listFrom z k i at n))
     unfolding listFrom
@@ -203,6 +221,23 @@ module _ (f : List ℕ) (z : Size) where
         go (is o) w g = ap (countedOn c) (bind-is f (opcodeReading (classOf header) z i at header) _ o w) ∙ after o g (run f (onwards k i at n header)) refl
 
   -- ---- the value of 51009
+  module _ (at n : ℕ) (s : n ≡ 0 → ⊥) (m : ℕ) (e : m ≡ numberOf Big (part f at 4)) where
+    value-many : 32 < m → refused 11 32 ≡ run f (listReading z at n)
+    unfolding listReading
+    value-many h = simp (ne-eqb n 0 s, pick-no, run-ask) (rw (← e) (simp (lt-ltb 32 m h, pick-yes, run-answer)))
+
+    pub value-some : m ≤ 32 → run f (listFrom z m 0 (at + 4) (n - 4)) ≡ run f (listReading z at n)
+    unfolding listReading
+    value-some h = simp (ne-eqb n 0 s, pick-no, run-ask) (rw (← e) (simp (le-ltb 32 m h, pick-no)))
+
+    -- an accepted one: the count, and the list
+    pub value-inverse : (os : List Opcode) → is os ≡ run f (listReading z at n) → (m ≤ 32) × (is os ≡ run f (listFrom z m 0 (at + 4) (n - 4)))
+    value-inverse os q = go (leb m 32) refl
+      where
+        go : (b : Bool) → leb m 32 ≡ b → (m ≤ 32) × (is os ≡ run f (listFrom z m 0 (at + 4) (n - 4)))
+        go true p = (leb-true m 32 p, q ∙ sym (value-some (leb-true m 32 p)))
+        go false p = absurd (not-refused os 11 32 (q ∙ sym (value-many (leb-false m 32 p))))
+
   module _ (at n : ℕ) (c : Counts) where
     pub list-absent : n ≡ 0 → is c ≡ countedOn c (run f (listReading z at n))
     unfolding listReading
@@ -210,9 +245,7 @@ module _ (f : List ℕ) (z : Size) where
 
     module _ (s : n ≡ 0 → ⊥) (m : ℕ) (e : m ≡ numberOf Big (part f at 4)) where
       pub list-many : 32 < m → refused 11 32 ≡ countedOn c (run f (listReading z at n))
-      unfolding listReading
-      list-many h = simp (ne-eqb n 0 s, pick-no, run-ask) (rw (← e) (simp (lt-ltb 32 m h, pick-yes, run-answer)))
+      list-many h = ap (countedOn c) (value-many at n s m e h)
 
       pub list-some : m ≤ 32 → countedOn c (run f (listFrom z m 0 (at + 4) (n - 4))) ≡ countedOn c (run f (listReading z at n))
-      unfolding listReading
-      list-some h = simp (ne-eqb n 0 s, pick-no, run-ask) (rw (← e) (simp (le-ltb 32 m h, pick-no)))
+      list-some h = ap (countedOn c) (value-some at n s m e h)

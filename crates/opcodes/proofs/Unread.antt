@@ -18,6 +18,7 @@ use Rattle.opcodes.specs.declared.grid.Size.{Size}
 use Rattle.opcodes.specs.declared.list.Header.{Header}
 use Rattle.opcodes.specs.declared.list.Class.{Class}
 use Rattle.opcodes.specs.declared.list.Class.the-variants as class
+use Rattle.opcodes.proofs.Listing.{start-above}
 
 module _ (f : List ℕ) (j : ℕ) where
   -- byte j is not read
@@ -96,16 +97,12 @@ module _ (f : List ℕ) (j : ℕ) where
       asked (inr h) = of-ask-above at 16 _ h whole
 
   -- a list reads nothing before its first opcode
-  list-below : (z : Size) (k i at n : ℕ) → j < at → Unread (listFrom z k i at n)
+  pub list-below : (z : Size) (k i at n : ℕ) → j < at → Unread (listFrom z k i at n)
   list-below z zero i at n h = unfold listFrom in of-answer _
   list-below z (suc k) i at n h =
       let g : j < at + (16 + head at .length) = omega arith in
       of-more z k i at n (inl h) (of-opcode-below (classOf (head at)) z i at (head at) (omega arith))
       (list-below z k (i + 1) (at + (16 + head at .length)) (n - (16 + head at .length)) g)
-
-  start-above : (at m : ℕ) → at ≤ startOf f at m
-  start-above at zero = omega arith
-  start-above at (suc m) = omega (arith, start-above (at + (16 + head at .length)) m)
 
   -- the m-th opcode, where it is skipped
   pub skipped-unread :
@@ -115,6 +112,6 @@ module _ (f : List ℕ) (j : ℕ) where
   skipped-unread z (suc k) i at n zero c l h =
       of-more z k i at n (inr l) (rw c (of-answer (is skipped))) (list-below z k (i + 1) (at + (16 + head at .length)) (n - (16 + head at .length)) h)
   skipped-unread z (suc k) i at n (suc m) c l h =
-      let a = start-above (at + (16 + head at .length)) m in
+      let a = start-above f (at + (16 + head at .length)) m in
       of-more z k i at n (inr (omega arith)) (of-opcode-above (classOf (head at)) z i at (head at) (omega arith))
       (skipped-unread z k (i + 1) (at + (16 + head at .length)) (n - (16 + head at .length)) m c l h)

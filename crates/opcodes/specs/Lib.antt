@@ -3,4 +3,5 @@ pub mod Step
 pub mod Opcode
 pub mod Frame
 pub mod OpcodeList
+pub mod Swap
 pub mod StepAt
