@@ -1,1 +1,1 @@
-pub mod Cards
+pub mod Views

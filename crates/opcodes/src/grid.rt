@@ -25,7 +25,8 @@ pub struct Grid {
     pub column_pitch: usize,
 }
 
-fn every(first: usize, end: usize, pitch: usize, n: usize) -> bool
+// Whether n is one of first, first + pitch, .. below end.
+pub fn every(first: usize, end: usize, pitch: usize, n: usize) -> bool
     requires { ⌜ 1 ≤ pitch ⌝ }
     ensures { λ r. ⌜ r ≡ everyOf first end pitch n ⌝ }
 {

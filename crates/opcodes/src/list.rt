@@ -49,7 +49,7 @@ pub enum Tested {
     Is(Counts),
 }
 
-fn header_at(file: &[u8], at: usize) -> Header
+pub fn header_at(file: &[u8], at: usize) -> Header
     requires { ⌜ at + 16 ≤ length (now file) ⌝ }
     ensures { λ r. ⌜ r ≡ headerOf (part (now (file .entry)) at 16) ⌝ }
     ensures { λ r. ⌜ r .length < 0x1_0000_0000 ⌝ }
@@ -80,7 +80,7 @@ fn listed(id: usize) -> bool
     within(10, id, 13)
 }
 
-fn classify(header: Header) -> Class
+pub fn classify(header: Header) -> Class
     ensures { λ r. ⌜ r ≡ classOf header ⌝ }
 {
     if listed(header.id) {

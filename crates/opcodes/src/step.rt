@@ -3,7 +3,7 @@ ghost use mathlib.Core.Path.{_≡_};
 ghost use Prim.Native.Nat.{_+_, _*_, _≤_, _<_, min};
 ghost use lib.ListN.{getD, length};
 ghost use Rattle.levels.specs.Clip.{clipOf};
-ghost use Rattle.opcodes.specs.Step.{minusZero, indexOf, mappedOf, tableAt, TableIn, StepIn, appliedOf, coefficientsOf, polynomialOf};
+ghost use Rattle.opcodes.specs.Step.{minusZero, indexOf, mappedOf, sizeAt, tableAt, TableIn, StepIn, appliedOf, coefficientsOf, polynomialOf};
 use levels::table;
 use reading::number;
 use reading::number::Order;
@@ -19,7 +19,7 @@ pub enum Step {
     Table(usize),
 }
 
-fn clip(x: f64) -> f64
+pub fn clip(x: f64) -> f64
     ensures { λ r. ⌜ r ≡ clipOf x ⌝ }
 {
     if 0.0 < x {
@@ -44,12 +44,19 @@ fn index(x: f64) -> u16
     0
 }
 
-// x through the table at a place.
-fn mapped(file: &[u8], at: usize, x: f64) -> f64
-    requires { ⌜ TableIn (now file) at ⌝ }
+// The size of the table at a place.
+pub fn table_size(file: &[u8], at: usize) -> usize
+    requires { ⌜ at + 4 ≤ length (now file) ⌝ }
+    ensures { λ r. ⌜ r ≡ sizeAt (now (file .entry)) at ⌝ }
+{
+    number::long(file, Order::Big, at) as usize
+}
+
+// x through the table of a size at a place.
+pub fn mapped(file: &[u8], at: usize, size: usize, x: f64) -> f64
+    requires { ⌜ TableIn (now file) at × (size ≡ sizeAt (now file) at) ⌝ }
     ensures { λ r. ⌜ r ≡ mappedOf (tableAt (now (file .entry)) at) x ⌝ }
 {
-    let size = number::long(file, Order::Big, at) as usize;
     levels::scaled(table::through(file, Order::Big, at + 4, size, index(x)))
 }
 
@@ -66,7 +73,7 @@ pub fn apply(step: Step, file: &[u8], x: f64) -> f64
                 + a0);
             clip(p)
         }
-        Step::Table(at) => clip(mapped(file, at, x)),
+        Step::Table(at) => clip(mapped(file, at, table_size(file, at), x)),
     }
 }
 

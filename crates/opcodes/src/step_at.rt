@@ -12,7 +12,7 @@ use reading::real;
 use reading::real::Real;
 
 // The k-th FLOAT of an opcode.
-fn float_value(file: &[u8], at: usize, k: usize) -> f64
+pub fn float_value(file: &[u8], at: usize, k: usize) -> f64
     requires { ⌜ (at + 36 + 4 * k + 4 ≤ length (now file)) ⌝ }
     ensures { λ r. ⌜ r ≡ floatAt (now (file .entry)) at k ⌝ }
 {

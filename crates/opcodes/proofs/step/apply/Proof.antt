@@ -1,7 +1,8 @@
 use mathlib.Core.Path.{ap, subst, _∙_}
+use native.Mathlib.Omega.{arith}
 use denote.Ref.{now}
 use Rattle.levels.specs.Clip.{clipOf}
-use Rattle.opcodes.specs.Step.{hornerOf, resultOf, appliedOf, StepIn}
+use Rattle.opcodes.specs.Step.{hornerOf, resultOf, appliedOf, TableIn, StepIn}
 use borrow.Author.Needs.{needs}
 use Rattle.opcodes.proofs.step.apply.Statement.{statement}
 use Rattle.opcodes.proofs.step.apply.Tie as tie
@@ -27,8 +28,11 @@ clip-requires-3 c κs = search needs
 enum-known-step-4 : tie.Need-enum-known-step-4
 enum-known-step-4 c = search needs
 
+table-size-requires : tie.Need-table-size-requires
+table-size-requires c κs = let t : TableIn (now (c .before .before .before .before .args .file)) _ = subst (StepIn (now (c .before .before .before .before .args .file))) (c .before .step4 .given .1) (c .before .before .before .before .pre) in omega (arith, t .inside)
+
 mapped-requires : tie.Need-mapped-requires
-mapped-requires c κs = subst (StepIn (now (c .before .before .before .before .args .file))) (c .before .step4 .given .1) (c .before .before .before .before .pre)
+mapped-requires c κs = (subst (StepIn (now (c .before .before .before .before .before .args .file))) (c .before .before .step4 .given .1) (c .before .before .before .before .before .pre), c .table-size .ensures)
 
 clip-requires-4 : tie.Need-clip-requires-4
 clip-requires-4 c κs = search needs
@@ -47,7 +51,7 @@ returns-3 c = rw (c .before .before .step3 .given .1) (c .clip3 .ensures)
 
 returns-4 : tie.Need-returns-4
 unfolding appliedOf resultOf hornerOf
-returns-4 c = rw (c .before .before .before .step4 .given .1) (c .clip4 .ensures ∙ ap clipOf (c .before .mapped .ensures))
+returns-4 c = rw (c .before .before .before .before .step4 .given .1) (c .clip4 .ensures ∙ ap clipOf (c .before .mapped .ensures))
 
 pub apply-spec : {M : Type 1} → statement M
-apply-spec = tie.close (tie.spec enum-known-step clip-requires enum-known-step-2 clip-requires-2 enum-known-step-3 clip-requires-3 enum-known-step-4 mapped-requires clip-requires-4 returns returns-2 returns-3 returns-4)
+apply-spec = tie.close (tie.spec enum-known-step clip-requires enum-known-step-2 clip-requires-2 enum-known-step-3 clip-requires-3 enum-known-step-4 table-size-requires mapped-requires clip-requires-4 returns returns-2 returns-3 returns-4)

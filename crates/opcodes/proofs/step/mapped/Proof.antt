@@ -18,28 +18,22 @@ use Rattle.opcodes.proofs.step.mapped.Tie as tie
 through-is : (f : List ℕ) (at : ℕ) (x : Float) (n k : ℕ) → n ≡ sizeAt f at → k ≡ min (indexOf x) 65535 → TableIn f at → throughOf (tableOf Big f (at + 4) n) k ≡ throughOf (tableAt f at) (indexOf x)
 through-is f at x n k e h t = rw (e, h) (through-capped (λ (p : ℕ). numberOf Big (part f p 2)) 2 (at + 4) (sizeAt f at) (indexOf x) (t .some) (t .most))
 
-long-requires : tie.Need-long-requires
-long-requires c κs = omega (arith, c .before .pre .inside)
-
-cast-size : tie.Need-cast-size
-cast-size c = search needs
-
 add-through : tie.Need-add-through
-add-through c = omega (arith, c .before .before .pre .inside)
+add-through c = omega (arith, c .before .pre .0 .inside)
 
 index-requires : tie.Need-index-requires
 index-requires c κs = search needs
 
 through-requires : tie.Need-through-requires
-through-requires c κs = omega (arith, c .before .before .before .pre .inside, c .before .long .ensures)
+through-requires c κs = omega (arith, c .before .before .pre .0 .inside, c .before .before .pre .1)
 
 scaled-requires : tie.Need-scaled-requires
 scaled-requires c κs = search needs
 
 returns : tie.Need-returns
 returns c =
-    let f = now (c .before .before .before .before .before .args .file) in
-    c .scaled .ensures ∙ ap scaledOf (c .before .through .ensures ∙ through-is f (c .before .before .before .before .before .args .at) (c .before .before .before .before .before .args .x) _ _ (c .before .before .before .long .ensures) (c .before .before .index .ensures) (c .before .before .before .before .before .pre))
+    let f = now (c .before .before .before .before .args .file) in
+    c .scaled .ensures ∙ ap scaledOf (c .before .through .ensures ∙ through-is f (c .before .before .before .before .args .at) (c .before .before .before .before .args .x) _ _ (c .before .before .before .before .pre .1) (c .before .before .index .ensures) (c .before .before .before .before .pre .0))
 
 pub mapped-spec : {M : Type 1} → statement M
-mapped-spec = tie.close (tie.spec long-requires cast-size add-through index-requires through-requires scaled-requires returns)
+mapped-spec = tie.close (tie.spec add-through index-requires through-requires scaled-requires returns)
