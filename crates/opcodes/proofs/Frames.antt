@@ -76,7 +76,7 @@ swap-at a b r c p x h = go (touches a r c p) refl
     go false e = at-off a r c p (opcodeAt b r c p x) e ∙ ap (opcodeAt b r c p) (sym (at-off a r c p x e))
 
 -- ---- from 0 to 1, and no NaN
-at-unit : (o : Opcode) (r c p : ℕ) (x : Float) → unit x → unit (opcodeAt o r c p x)
+pub at-unit : (o : Opcode) (r c p : ℕ) (x : Float) → unit x → unit (opcodeAt o r c p x)
 unfolding actOf pick
 at-unit skipped r c p x u = u
 at-unit (kept g k) r c p x u = go (onOf g r c p)
