@@ -1,1 +1,3 @@
 pub mod Views
+pub mod Answers
+pub mod Demands

@@ -5,13 +5,14 @@ use mathlib.Core.Bool.{Bool, true, false}
 use mathlib.Core.List.{List, [], _∷_}
 use Prim.Native.Nat.{ℕ, zero, suc, _+_, _*_, _<_}
 use native.Mathlib.Nat.{zero-add, one-mul}
+use native.Mathlib.Omega.{arith}
 use lib.ListN.{getD}
 use lib.Ieee.{Float}
 use Rattle.reading.specs.Reading.{pick}
 use Rattle.reading.proofs.Reading.{pick-no}
 use Rattle.levels.specs.Clip.{plusZero}
 use Rattle.levels.specs.Run.{runOf}
-use Rattle.levels.proofs.Runs.{run-at}
+use Rattle.levels.proofs.Runs.{run-at, run-same}
 use Rattle.levels.proofs.Unit.{unit, clip-clip}
 use Rattle.opcodes.specs.Grid.{onOf}
 use Rattle.opcodes.specs.Opcode.{Opcode, skipped, kept, kindResult, actOf, opcodeAt}
@@ -34,6 +35,15 @@ standing-framed z x r c p hr hc hp =
     ap (λ (rs : List (List Float)). getD (getD rs c []) p plusZero) (at-run _ [] (z .rows) r hr)
     ∙ ap (λ (rs : List Float). getD rs p plusZero) (at-run _ [] (z .columns) c hc)
     ∙ at-run _ plusZero (z .samples) p hp
+
+-- two frames with the same numbers
+pub framed-same :
+    (z : Size) (x y : ℕ → ℕ → ℕ → Float) → ((r c p : ℕ) → r < z .rows → c < z .columns → p < z .samples → x r c p ≡ y r c p) → framed z x ≡ framed z y
+unfolding framed
+framed-same z x y h =
+    run-same _ _ 1 1 0 0 (z .rows) (λ i hi.
+    run-same _ _ 1 1 0 0 (z .columns) (λ j hj.
+    run-same _ _ 1 1 0 0 (z .samples) (λ k hk. h (0 + 1 * i) (0 + 1 * j) (0 + 1 * k) (omega arith) (omega arith) (omega arith))))
 
 -- one opcode over a frame is that opcode at each sample
 over-framed : (o : Opcode) (z : Size) (x : ℕ → ℕ → ℕ → Float) → over o (framed z x) ≡ framed z (λ r c p. opcodeAt o r c p (x r c p))

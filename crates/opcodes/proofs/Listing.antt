@@ -238,6 +238,13 @@ module _ (f : List ℕ) (z : Size) where
         go true p = (leb-true m 32 p, q ∙ sym (value-some (leb-true m 32 p)))
         go false p = absurd (not-refused os 11 32 (q ∙ sym (value-many (leb-false m 32 p))))
 
+  -- of an absent tag, none
+  pub value-none : (at n : ℕ) (os : List Opcode) → n ≡ 0 → is os ≡ run f (listReading z at n) → os ≡ []
+  unfolding listReading
+  value-none at n os e q =
+      let r : run f (listReading z at n) ≡ is [] = simp (eq-eqb n 0 e, pick-yes, run-answer) in
+      same-value os [] (q ∙ r)
+
   module _ (at n : ℕ) (c : Counts) where
     pub list-absent : n ≡ 0 → is c ≡ countedOn c (run f (listReading z at n))
     unfolding listReading

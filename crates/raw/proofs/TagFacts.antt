@@ -14,7 +14,7 @@ use borrow.Author.Tests.{eqb-true, eqb-false}
 use Rattle.reading.specs.Reading.{run}
 use Rattle.levels.specs.Level as Level
 use Rattle.levels.specs.Level.{differenceOf, levelOf}
-use Rattle.levels.specs.Levels.{Levels, blackFor, spanOf, levelAt}
+use Rattle.levels.specs.Levels.{Levels, blackFor, spanOf, levelAt, scaledAt}
 use Rattle.levels.specs.Table.{tableOf, throughOf}
 use Rattle.levels.proofs.Runs.{run-same}
 use Rattle.raw.specs.Stored.{Stored, numbersReading, blacksReading, levelsReading, storedReading}
@@ -31,14 +31,14 @@ use Rattle.directory.proofs.Tags.{counted, exactly}
 use Rattle.raw.specs.Black.{kindFor}
 use Rattle.raw.specs.Raw.{Tags-in}
 use Rattle.raw.specs.Strips.{stripCount}
-use Rattle.raw.specs.Sample.{stripOf, withinStrip, placeOf, cellIndex, storedAt, spanAt, scaledOf}
+use Rattle.raw.specs.Sample.{stripOf, withinStrip, placeOf, cellOf, cellIndex, storedAt, spanAt, scaledOf}
 use Rattle.raw.specs.Front.{Raw-in}
 use Rattle.raw.specs.declared.front.Raw.{Raw}
 use Rattle.raw.specs.declared.Tags.{Tags}
 use Rattle.levels.proofs.Runs.{within}
 use Rattle.raw.proofs.BlackLaws.{width-for}
 use Rattle.raw.proofs.Strip.{some-strips}
-use Rattle.raw.proofs.StoredLaws.{cell-index, cell-place, levels-run, numbers-run, samples-are}
+use Rattle.raw.proofs.StoredLaws.{cell-index, cell-place, levels-run, numbers-run, number-in, samples-are}
 use Rattle.raw.proofs.SpanLaws.{span-of-plane}
 
 -- ---- the black levels
@@ -195,6 +195,23 @@ module _ (f : List ℕ) (o : Order) (t : Tags) (r c p : ℕ) where
   pub stored-is : (offsets : List ℕ) (place row column : ℕ) → place ≡ placeOf t offsets row column p → row ≡ t .area .top + r → column ≡ t .area .left + c →
       numberOf o (part f place (t .layout .bytes)) ≡ storedAt f o t offsets r c p
   stored-is offsets place row column e er ec = ap (λ (n : ℕ). numberOf o (part f n (t .layout .bytes))) (e ∙ ap (λ (n : ℕ). placeOf t offsets n column p) er ∙ ap (λ (n : ℕ). placeOf t offsets (t .area .top + r) n p) ec)
+
+-- where a stored sample's place comes from the offsets that were asked for, it lies in the file
+pub place-inside : (f : List ℕ) (o : Order) (t : Tags) → Tags-in f o t → (r c p : ℕ) → r < t .frame .length → c < t .frame .width → p < t .frame .samples →
+    placeOf t (run f (storedReading o t) .offsets) r c p + t .layout .bytes ≤ length f
+place-inside f o t h r c p hr hc hp =
+    let b : stripOf t r < t .strips .count = rw (strips-at f o t h .count) (strip-below r (t .layout .rows) (t .frame .length) hr (h .layout .some-rows)) in
+    let e : getD (run f (storedReading o t) .offsets) (stripOf t r) 0 ≡ numberOf o (part f (t .strips .place + t .strips .size * stripOf t r) (t .strips .size)) =
+    ap (λ (x : Stored). getD (x .offsets) (stripOf t r) 0) (stored-run f o t r c p) ∙ number-in f o (t .strips) (stripOf t r) b in
+    omega (arith, e, sample-inside f o t h r c p hr hc hp)
+
+-- of the samples' bytes, an active sample's scaled value depends on its own
+pub scaled-same :
+    (g f : List ℕ) (o : Order) (t : Tags) (s : Stored) (r c p : ℕ) →
+    part g (cellOf t (s .offsets) r c p .start) (cellOf t (s .offsets) r c p .count) ≡ part f (cellOf t (s .offsets) r c p .start) (cellOf t (s .offsets) r c p .count) →
+    scaledOf g o t s r c p ≡ scaledOf f o t s r c p
+unfolding scaledOf
+scaled-same g f o t s r c p e = ap (λ (bs : List ℕ). scaledAt (s .levels) r c p (numberOf o bs)) e
 
 -- S of a plane
 pub span-in : (f : List ℕ) (o : Order) (r : Raw) → Raw-in f o r → (p : ℕ) → p < r .tags .frame .samples → spanAt (r .spans) p ≡ spanOf (run f (levelsReading o (r .tags))) p
