@@ -15,7 +15,7 @@ use Rattle.reading.specs.Reading.{Reading, Reading.answer, Reading.ask, Stretch
 use Rattle.reading.proofs.Bytes.{length-replaced}
 use Rattle.reading.proofs.Reading.{run-answer, run-ask, run-andThen, trace-answer, trace-ask, unread}
 use Rattle.directory.specs.Out.{Out, Out.refused, Out.is}
-use Rattle.directory.proofs.Outs.{bind-inverse, same-value}
+use Rattle.directory.proofs.Outs.{bind-inverse, not-refused, same-value}
 use Rattle.raw.specs.Front.{frontReading, Picture-in}
 use Rattle.raw.specs.Stored.{Stored, storedReading}
 use Rattle.raw.specs.Sample.{placeOf, cellOf, ActiveIn}
@@ -30,7 +30,9 @@ use Rattle.opcodes.proofs.Listing.{value-none}
 use Rattle.opcodes.proofs.Swaps.{swapped-length, swapped-unread, swapped-inside, list-swapped, swapped-counts, alone-swapped}
 use Rattle.colour.specs.declared.Colour.{Colour}
 use Rattle.develop.specs.Calls.{Opened, openReading, opened, sizeOf, opcodesOf, colourFor, scaledIn, frameOf, pixelIn, within, valuesOf, filledOf, cardOf, cardCall, spotOf, spotCall, windowOf, windowCall, colouredOf, colourWindowOf, colourWindowCall}
-use Rattle.develop.specs.Demand.{tagsOf, developedIn, aloneIn, opcodeStart, storedPlace, Is-pixel, Is-sample, Tagless, Unread-but-list, Unread-but-sample, Outside, Same-answers, Same-elsewhere, Demand-3}
+use Rattle.develop.specs.Demand.{tagsOf, developedIn, aloneIn, opcodeStart, storedPlace, Is-pixel, Is-sample, Tagless, Unread-but-list, Unread-but-sample, Outside, Same-answers, Same-elsewhere, Demand-3, Meets-demand-3}
+use Rattle.develop.specs.View.{Viewed}
+use Rattle.develop.specs.declared.View.{View}
 use Rattle.develop.proofs.Views.{open-is, list-inside}
 use Rattle.develop.proofs.Answers.{frame-alone, developed-alone, spotAt, spot-same, spot-value, values-same, filled-same, filled-numbers, filled-values, colour-three, pixel-same}
 
@@ -312,3 +314,13 @@ demand-3 f o e bounds =
       swaps = swap-two f o e bounds;
       changes = change-one f o e bounds;
     }
+
+-- ---- and as a call has it
+pub meets-refused : (f : List ℕ) (n d : ℕ) → refused n d ≡ opened f → Meets-demand-3 f
+meets-refused f n d e o q = absurd (not-refused o n d (q ∙ sym e))
+
+pub meets-viewed : (f : List ℕ) (v : View) → Viewed f v → Meets-demand-3 f
+meets-viewed f v h o q =
+    let same : o ≡ h .file = same-value o (h .file) (q ∙ sym (h .accepted)) in
+    let p : o .picture ≡ v .picture = ap (λ (x : Opened). x .picture) same ∙ h .picture in
+    demand-3 f o q (subst (Picture-in f) (sym p) (h .picture-in))

@@ -6,6 +6,7 @@ ghost use Rattle.raw.specs.Front.{Picture-in};
 ghost use Rattle.opcodes.specs.OpcodeList.{listReading, countedOn, none, testedOut};
 ghost use Rattle.develop.specs.Calls.{sizeOf, cardCall};
 ghost use Rattle.develop.specs.View.{OpeningIs};
+ghost use Rattle.develop.specs.Demand.{Meets-demand-3};
 use opcodes::grid::Size;
 use opcodes::list;
 use opcodes::list::Counts;
@@ -93,6 +94,7 @@ pub fn open(file: &[u8]) -> Opening
 
 pub fn card(file: &[u8]) -> CardAnswer
     ensures { λ r. ⌜ r ≡ cardCall (now (file .entry)) ⌝ }
+    ensures { λ r. ⌜ Meets-demand-3 (now (file .entry)) ⌝ }
 {
     match open(file) {
         Opening::Refused { number, detail } => CardAnswer {
