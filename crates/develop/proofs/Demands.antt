@@ -1,5 +1,5 @@
--- Demand 3, of every accepted file. The bounds of an accepted picture (`Picture-in`: its strips and its list lie in the file) are
--- taken from the second part of `raw::front::open`'s promise.
+-- Demand 3, of every accepted file. That its strips and its list lie in the file (`Tags-in`) comes from the second part of
+-- `raw::front::open`'s promise.
 -- Assumes nothing.
 use mathlib.Core.Path.{_≡_, refl, sym, ap, subst, _∙_}
 use mathlib.Core.Bool.{Bool, true, false}
@@ -17,6 +17,7 @@ use Rattle.reading.proofs.Reading.{run-answer, run-ask, run-andThen, trace-answ
 use Rattle.directory.specs.Out.{Out, Out.refused, Out.is}
 use Rattle.directory.proofs.Outs.{bind-inverse, not-refused, same-value}
 use Rattle.raw.specs.Front.{frontReading, Picture-in}
+use Rattle.raw.specs.Raw.{Tags-in}
 use Rattle.raw.specs.Stored.{Stored, storedReading}
 use Rattle.raw.specs.Sample.{placeOf, cellOf, ActiveIn}
 use Rattle.raw.proofs.TagFacts.{place-inside, scaled-same}
@@ -157,7 +158,7 @@ module _ (f : List ℕ) (o : Opened) (e : is o ≡ opened f) where
   keep-scaled : (r c p : ℕ) → ActiveIn (tagsOf o) r c p → Untouched (o .opcodes) r c p → developedIn f o r c p ≡ scaledIn f o r c p
   keep-scaled r c p a u = developed-alone f o r c p a ∙ untouched (o .opcodes) r c p (scaledIn f o r c p) u
 
-  module _ (bounds : Picture-in f (o .picture)) where
+  module _ (bounds : Tags-in f (o .picture .order) (tagsOf o)) where
     -- ---- two neighbours change places
     some-list : (k : ℕ) → suc k < length (o .opcodes) → 4 ≤ tagsOf o .list .count
     some-list k two = go (eqb (tagsOf o .list .count) 0) refl
@@ -166,7 +167,7 @@ module _ (f : List ℕ) (o : Opened) (e : is o ≡ opened f) where
         go true t =
             let q = ap length (value-none f (sizeOf (o .picture)) (tagsOf o .list .place) (tagsOf o .list .count) (o .opcodes) (eqb-true _ _ t) (open-inverse f o e .list)) in
             absurd (omega (arith, q))
-        go false t = let z : tagsOf o .list .count ≡ 0 → ⊥ = eqb-false _ _ t in bounds .raw .tags .list .enough (omega arith)
+        go false t = let z : tagsOf o .list .count ≡ 0 → ⊥ = eqb-false _ _ t in bounds .list .enough (omega arith)
 
     swap-two :
         (k : ℕ) → suc k < length (o .opcodes) → Apart (getD (o .opcodes) k skipped) (getD (o .opcodes) (suc k) skipped) → Unread-but-list f o k →
@@ -177,7 +178,7 @@ module _ (f : List ℕ) (o : Opened) (e : is o ≡ opened f) where
         let n : ℕ = tagsOf o .list .count in
         let g : List ℕ = swappedFile f (s + 4) k in
         let list = open-inverse f o e .list in
-        let inn : s + n ≤ length f = list-inside (length f) (tagsOf o .list) (bounds .raw .tags .list) in
+        let inn : s + n ≤ length f = list-inside (length f) (tagsOf o .list) (bounds .list) in
         let some : 4 ≤ n = some-list k two in
         let ends = swapped-inside f z s n some (o .opcodes) list k two in
         let fits : opcodeStart f o (suc (suc k)) ≤ length f = omega (arith, ends .1) in
@@ -281,7 +282,7 @@ module _
 
 -- ---- one stored sample's bytes change
 change-one :
-    (f : List ℕ) (o : Opened) → is o ≡ opened f → Picture-in f (o .picture) →
+    (f : List ℕ) (o : Opened) → is o ≡ opened f → Tags-in f (o .picture .order) (tagsOf o) →
     (r c p : ℕ) → r < tagsOf o .frame .length → c < tagsOf o .frame .width → p < tagsOf o .frame .samples →
     (new : List ℕ) → length new ≡ tagsOf o .layout .bytes → Unread-but-sample f o r c p →
     Same-elsewhere f o r c p (replaced f (storedPlace o r c p) new)
@@ -291,7 +292,7 @@ change-one f o e bounds r₀ c₀ p₀ hr hc hp new sized unread′ =
     let a = open-inverse f o e in
     let inn : at + tagsOf o .layout .bytes ≤ length f =
     subst (λ (s : Stored). placeOf (tagsOf o) (s .offsets) r₀ c₀ p₀ + tagsOf o .layout .bytes ≤ length f) (sym (a .stored))
-    (place-inside f (o .picture .order) (tagsOf o) (bounds .raw .tags) r₀ c₀ p₀ hr hc hp) in
+    (place-inside f (o .picture .order) (tagsOf o) bounds r₀ c₀ p₀ hr hc hp) in
     let fits : at + length new ≤ length f = omega (arith, sized) in
     let kept : Kept f g at (at + tagsOf o .layout .bytes) =
     record { sized = length-replaced f at new fits; same = λ p h. unread f at new fits p (λ i x y. h i x (omega (arith, sized))) .0 } in
@@ -305,7 +306,7 @@ change-one f o e bounds r₀ c₀ p₀ hr hc hp new sized unread′ =
     ∙ ap (alone (o .opcodes) r c p) (scaled-again f g _ _ kept o r c p (λ i x y. unread′ i x y .2 r c p act off))
     ∙ sym (developed-alone f o r c p act))
 
-pub demand-3 : (f : List ℕ) (o : Opened) → is o ≡ opened f → Picture-in f (o .picture) → Demand-3 f o
+pub demand-3 : (f : List ℕ) (o : Opened) → is o ≡ opened f → Tags-in f (o .picture .order) (tagsOf o) → Demand-3 f o
 demand-3 f o e bounds =
     record {
       spot-values = spots f o e;
@@ -323,4 +324,4 @@ pub meets-viewed : (f : List ℕ) (v : View) → Viewed f v → Meets-demand-3 f
 meets-viewed f v h o q =
     let same : o ≡ h .file = same-value o (h .file) (q ∙ sym (h .accepted)) in
     let p : o .picture ≡ v .picture = ap (λ (x : Opened). x .picture) same ∙ h .picture in
-    demand-3 f o q (subst (Picture-in f) (sym p) (h .picture-in))
+    demand-3 f o q (subst (Picture-in f) (sym p) (h .picture-in) .raw .tags)
