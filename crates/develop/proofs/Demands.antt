@@ -2,8 +2,8 @@
 -- `raw::front::open`'s promise.
 -- Assumes nothing.
 use mathlib.Core.Path.{_≡_, refl, sym, ap, subst, _∙_}
-use mathlib.Core.Bool.{Bool, true, false}
-use mathlib.Core.List.{List, [], _∷_}
+use mathlib.Core.Bool.{Bool, true, false, _||_, or-false}
+use mathlib.Core.List.{List, [], _∷_, _++_}
 use Prim.Native.Nat.{ℕ, suc, _+_, _≤_, _<_}
 use native.Mathlib.Omega.{arith}
 use lib.Dec.{eqb}
@@ -11,11 +11,11 @@ use lib.Ieee.{Float}
 use lib.ListN.{length, getD}
 use borrow.Author.Tests.{eqb-true, eqb-false}
 use Rattle.reading.specs.Bytes.{part, replaced}
-use Rattle.reading.specs.Reading.{Reading, Reading.answer, Reading.ask, Stretch, run, trace, covers, reads, runWhole}
+use Rattle.reading.specs.Reading.{Reading, Reading.answer, Reading.ask, Stretch, run, trace, covers, reads, runWhole, traceWhole}
 use Rattle.reading.proofs.Bytes.{length-replaced}
-use Rattle.reading.proofs.Reading.{run-answer, run-ask, run-andThen, trace-answer, trace-ask, unread}
+use Rattle.reading.proofs.Reading.{run-answer, run-ask, run-andThen, trace-answer, trace-ask, trace-andThen, reads-append, unread}
 use Rattle.directory.specs.Out.{Out, Out.refused, Out.is}
-use Rattle.directory.proofs.Outs.{bind-inverse, not-refused, same-value}
+use Rattle.directory.proofs.Outs.{bind-trace, bind-inverse, not-refused, same-value}
 use Rattle.raw.specs.Front.{frontReading, Picture-in}
 use Rattle.raw.specs.Raw.{Tags-in}
 use Rattle.raw.specs.Stored.{Stored, storedReading}
@@ -51,6 +51,21 @@ open-inverse f o e =
     let q : o ≡ record { picture = a .0; opcodes = b .0; stored = run f (storedReading (a .0 .order) (a .0 .raw .tags)) } =
     same-value o _ (b .2 ∙ run-andThen f (storedReading (a .0 .order) (a .0 .raw .tags)) _ ∙ run-answer f _) in
     subst (Accepted f) (sym q) (record { front = a .1; list = b .1; stored = refl })
+
+-- the tests before 13 read of it what they read for the tags, for the list and for the values that every sample needs
+pub open-reads :
+    (f : List ℕ) (o : Opened) → is o ≡ opened f → (i : ℕ) →
+    reads (traceWhole f openReading) i
+    ≡ (reads (traceWhole f frontReading) i || (reads (trace f (opcodesOf (o .picture))) i || reads (trace f (storedReading (o .picture .order) (tagsOf o))) i))
+unfolding openReading reads
+open-reads f o e i =
+    let a = open-inverse f o e in
+    let s = storedReading (o .picture .order) (tagsOf o) in
+    let t = trace-andThen f s _ ∙ ap (λ (l : List Stretch). trace f s ++ l) (trace-answer f _) in
+    let l = bind-trace f (opcodesOf (o .picture)) _ (o .opcodes) (a .list) ∙ ap (λ (l : List Stretch). trace f (opcodesOf (o .picture)) ++ l) t in
+    let w = bind-trace f (frontReading (length f)) _ (o .picture) (a .front) ∙ ap (λ (l : List Stretch). traceWhole f frontReading ++ l) l in
+    ap (λ (l : List Stretch). reads l i) w
+    ∙ simp (reads-append, or-false)
 
 -- ---- another file that differs only from lo up to hi: what reads none of these bytes answers the same
 pub record Kept (f g : List ℕ) (lo hi : ℕ) : Type 1 where
