@@ -34,6 +34,18 @@ impl Random {
         self.between(low.into(), high.into()) as u32
     }
 
+    /// A start and a later end within a length; as often as not within two of
+    /// both ends.
+    pub fn stretch(&mut self, length: u32) -> [u32; 2] {
+        if self.one_in(2) {
+            let start = self.small(0, 2.min(length - 1));
+            let end = self.small((start + 1).max(length.saturating_sub(2)), length);
+            return [start, end];
+        }
+        let start = self.small(0, length - 1);
+        [start, self.small(start + 1, length)]
+    }
+
     pub fn index(&mut self, length: usize) -> usize {
         (self.any() % length as u64) as usize
     }

@@ -21,8 +21,8 @@ fn answer(file: &[u8], call: &Call) -> Answer {
 }
 
 /// Of the first 3,000 cases of seed 1: their files and calls, their answers.
-const FILES: Fingerprint = Fingerprint(14290860327483286994);
-const ANSWERS: Fingerprint = Fingerprint(2129114941611422758);
+const FILES: Fingerprint = Fingerprint(5442192190352246057);
+const ANSWERS: Fingerprint = Fingerprint(14384370936049615682);
 
 #[test]
 fn the_first_cases_have_a_known_fingerprint() {

@@ -50,7 +50,7 @@ impl Draft {
     }
 
     fn plain(random: &mut Random) -> Draft {
-        let greatest = if random.one_in(24) { 40 } else { 9 };
+        let greatest = if random.one_in(24) { 40 } else { random.pick(&[9, 9, 16]) };
         let (width, length) = (random.small(1, greatest), random.small(1, greatest));
         let samples = random.pick(&[1, 3]);
         let bits = random.pick(&[8, 16]);
@@ -145,9 +145,8 @@ impl Draft {
         if random.one_in(3) {
             return;
         }
-        let (width, length) = (self.picture.width, self.picture.length);
-        let (top, left) = (random.small(0, length - 1), random.small(0, width - 1));
-        let (bottom, right) = (random.small(top + 1, length), random.small(left + 1, width));
+        let [top, bottom] = random.stretch(self.picture.length);
+        let [left, right] = random.stretch(self.picture.width);
         self.rows = bottom - top;
         self.columns = right - left;
         self.dng.raw_ifd().set(Tag::longs(50829, &[top, left, bottom, right]));
