@@ -1,21 +1,80 @@
 //! The core's C interface.
 
-use reference::Card;
+use reference::{Answer, Card};
 
 extern "C" {
-    fn dng_card(file: *const u8, length: usize, which: u32) -> u64;
+    fn dng_card(file: *const u8, file_len: usize, which: u32) -> u64;
+    fn dng_window(
+        file: *const u8,
+        file_len: usize,
+        top: usize,
+        left: usize,
+        height: usize,
+        width: usize,
+        out: *mut f64,
+        out_len: usize,
+    ) -> u64;
+    fn dng_spot(file: *const u8, file_len: usize, row: usize, column: usize, plane: usize) -> u64;
+    fn dng_spot_value(file: *const u8, file_len: usize, row: usize, column: usize, plane: usize) -> f64;
+    fn dng_colour_window(
+        file: *const u8,
+        file_len: usize,
+        top: usize,
+        left: usize,
+        height: usize,
+        width: usize,
+        out: *mut f64,
+        out_len: usize,
+    ) -> u64;
+}
+
+/// One number of the card.
+pub fn field(file: &[u8], which: u32) -> u64 {
+    unsafe { dng_card(file.as_ptr(), file.len(), which) }
 }
 
 pub fn card(file: &[u8]) -> Card {
-    let field = |which| unsafe { dng_card(file.as_ptr(), file.len(), which) };
-    let small = |which| u32::try_from(field(which)).expect("a number or a detail is a LONG");
+    let small = |which| u32::try_from(field(file, which)).expect("a number or a detail is a LONG");
     Card {
         number: small(0),
         detail: small(1),
-        rows: field(2),
-        columns: field(3),
-        samples: field(4),
-        kept: field(5),
-        skipped: field(6),
+        rows: field(file, 2),
+        columns: field(file, 3),
+        samples: field(file, 4),
+        kept: field(file, 5),
+        skipped: field(file, 6),
     }
+}
+
+pub fn window(file: &[u8], top: u64, left: u64, height: u64, width: u64, out: &mut [f64]) -> Answer {
+    let [top, left, height, width] = [top, left, height, width].map(|n| n as usize);
+    answer(unsafe {
+        dng_window(file.as_ptr(), file.len(), top, left, height, width, out.as_mut_ptr(), out.len())
+    })
+}
+
+pub fn spot(file: &[u8], row: u64, column: u64, plane: u64) -> (Answer, f64) {
+    (spot_answer(file, row, column, plane), spot_value(file, row, column, plane))
+}
+
+pub fn spot_answer(file: &[u8], row: u64, column: u64, plane: u64) -> Answer {
+    let [row, column, plane] = [row, column, plane].map(|n| n as usize);
+    answer(unsafe { dng_spot(file.as_ptr(), file.len(), row, column, plane) })
+}
+
+pub fn spot_value(file: &[u8], row: u64, column: u64, plane: u64) -> f64 {
+    let [row, column, plane] = [row, column, plane].map(|n| n as usize);
+    unsafe { dng_spot_value(file.as_ptr(), file.len(), row, column, plane) }
+}
+
+pub fn colour_window(file: &[u8], top: u64, left: u64, height: u64, width: u64, out: &mut [f64]) -> Answer {
+    let [top, left, height, width] = [top, left, height, width].map(|n| n as usize);
+    answer(unsafe {
+        dng_colour_window(file.as_ptr(), file.len(), top, left, height, width, out.as_mut_ptr(), out.len())
+    })
+}
+
+/// number x 2^32 + detail
+fn answer(packed: u64) -> Answer {
+    Answer { number: (packed >> 32) as u32, detail: packed as u32 }
 }

@@ -1,13 +1,21 @@
 //! Files at each limit of document 01 and on both sides of it, each with the
 //! answer that the document gives. Both programs must give that answer.
 
+mod colour;
+mod lists;
+mod numbers;
+mod parameters;
+mod places;
 mod tags;
+mod values;
 
 use reference::builder::{Data, Dng, Ifd, Picture, Place, Tag};
 use reference::bytes::ByteOrder;
+use reference::cases::Call;
 use reference::tag_test::{IFD, LONG};
 
-use crate::Tally;
+use crate::questions::{colour_window, window};
+use crate::tally::Tally;
 
 /// A number and a detail.
 type Answer = (u32, u32);
@@ -83,13 +91,43 @@ pub fn check(tally: &mut Tally) {
     trees(tally);
     sub_ifds(tally);
     tags::check(tally);
+    lists::check(tally);
+    parameters::check(tally);
+    numbers::check(tally);
+    values::check(tally);
+    colour::check(tally);
+    places::check(tally);
+}
+
+/// The four calls of a file whose card is stated. What refuses the card
+/// refuses every call, whatever else is asked.
+fn check_file(tally: &mut Tally, label: &str, file: &[u8], answer: Answer) {
+    tally.files += 1;
+    let card = tally.ask(label, file, &Call::Card, Some(answer));
+    let stated = Some(answer);
+    if card.answer.number != 0 {
+        for rectangle in [[0, 0, 1, 1], [u64::MAX; 4]] {
+            tally.ask(label, file, &window(rectangle, 1), stated);
+            tally.ask(label, file, &colour_window(rectangle, 3), stated);
+        }
+        tally.ask(label, file, &Call::Spot { row: 0, column: 0, plane: 0 }, stated);
+        return;
+    }
+    let [rows, columns, samples] = [0, 1, 2].map(|i| card.bits[i]);
+    let (height, width) = if rows * columns <= 100 { (rows, columns) } else { (1, 1) };
+    let rectangle = [rows - height, columns - width, height, width];
+    let pixels = (height * width) as usize;
+    tally.ask(label, file, &window(rectangle, pixels * samples as usize), stated);
+    tally.ask(label, file, &Call::Spot { row: rows - 1, column: columns - 1, plane: samples - 1 }, stated);
+    let of_colour = if samples == 1 { Some((15, 0)) } else { None };
+    tally.ask(label, file, &colour_window(rectangle, pixels * 3), of_colour);
 }
 
 /// The file in both byte orders.
 fn both(tally: &mut Tally, label: &str, dng: &Dng, answer: Answer) {
     for order in ORDERS {
         let dng = Dng { order, ..dng.clone() };
-        tally.check(&format!("{label}, {order:?}"), &dng.file(), Some(answer));
+        check_file(tally, &format!("{label}, {order:?}"), &dng.file(), answer);
     }
 }
 
@@ -125,16 +163,36 @@ fn plain(base: usize) -> Dng {
     Dng::new(ByteOrder::Little, &Picture::counting(3, 2, samples, bits))
 }
 
+/// Rows and columns of the active area of `framed`.
+const ROWS: u32 = 6;
+const COLUMNS: u32 = 7;
+
+/// A base file of ten columns and eight rows with an active area inside, black
+/// levels that repeat, and deltas.
+fn framed(base: usize) -> Dng {
+    let (samples, bits) = [(1, 8), (3, 16)][base];
+    let picture = Picture { rows_per_strip: 3, ..Picture::counting(10, 8, samples, bits) };
+    let cells: Vec<u16> = (0..6 * samples as u16).map(|cell| 11 * cell % 40).collect();
+    let deltas = |count: u32| (0..count as i32).map(|i| (5 * i % 7 - 3, 4)).collect::<Vec<_>>();
+    Dng::new(ByteOrder::Little, &picture)
+        .with(Tag::longs(50829, &[1, 2, 1 + ROWS, 2 + COLUMNS]))
+        .with(Tag::shorts(50713, &[2, 3]))
+        .with(Tag::shorts(50714, &cells))
+        .with(Tag::srationals(50715, &deltas(COLUMNS)))
+        .with(Tag::srationals(50716, &deltas(ROWS)))
+        .with(Tag::shorts(50717, &vec![250; samples as usize]))
+}
+
 /// Refusal 1.
 fn lengths(tally: &mut Tally) {
     let mut file = plain(MOSAIC).file();
     for length in 0..=8 {
         let answer = if length < 8 { LENGTH } else { SHAPE };
-        tally.check(&format!("{length} bytes"), &file[..length], Some(answer));
+        check_file(tally, &format!("{length} bytes"), &file[..length], answer);
     }
     for (length, answer) in [(GREATEST_FILE - 1, DONE), (GREATEST_FILE, DONE), (GREATEST_FILE + 1, LENGTH)] {
         file.resize(length, 0);
-        tally.check(&format!("{length} bytes"), &file, Some(answer));
+        check_file(tally, &format!("{length} bytes"), &file, answer);
     }
 }
 
@@ -152,7 +210,7 @@ fn starts(tally: &mut Tally) {
         let dng = Dng { start: Some(start), ..plain(MOSAIC) };
         both(tally, &format!("start {start:?}"), &dng, START);
         both(tally, &format!("start {start:?}, no IFD"), &Dng { first: Place::At(MAX), ..dng }, START);
-        tally.check(&format!("start {start:?}, 7 bytes"), &[&start[..], &[0; 3]].concat(), Some(LENGTH));
+        check_file(tally, &format!("start {start:?}, 7 bytes"), &[&start[..], &[0; 3]].concat(), LENGTH);
     }
 }
 
@@ -163,15 +221,15 @@ fn ends_of_ifds(tally: &mut Tally) {
         let file = dng.file();
         for cut in 0..=18 {
             let answer = if cut == 0 { DONE } else { SHAPE };
-            tally.check(&format!("last IFD cut by {cut}"), &file[..file.len() - cut], Some(answer));
+            check_file(tally, &format!("last IFD cut by {cut}"), &file[..file.len() - cut], answer);
         }
         let end = file.len() as u32;
         for place in [0, end - 1, end, end + 1, MAX - 5, MAX - 1, MAX] {
             let dng = Dng { first: Place::At(place), ..dng.clone() };
-            tally.check(&format!("IFD 0 at {place} of {end}"), &dng.file(), Some(SHAPE));
+            check_file(tally, &format!("IFD 0 at {place} of {end}"), &dng.file(), SHAPE);
         }
         let empty = Dng { first: Place::At(end), ..dng.clone() }.file();
-        tally.check("IFD 0 without entries", &[&empty[..], &[0; 6]].concat(), Some(SHAPE));
+        check_file(tally, "IFD 0 without entries", &[&empty[..], &[0; 6]].concat(), SHAPE);
     }
 }
 

@@ -1,19 +1,18 @@
 //! `compare SEED COUNT`: so many generated files through the core and through
-//! the independent program. Every answer must be the same, and every refusal
-//! of a card must have been met; then the same of the files at the limits, whose
-//! answers are stated.
+//! the independent program, by all four calls. Every answer must be the same
+//! in every bit, and every refusal must have been met; then the same of the
+//! files at the limits, whose answers are stated.
 
-mod core;
-mod limits;
-
-use std::collections::BTreeMap;
 use std::process::ExitCode;
 
-use reference::card;
+use compare::kinds::Kinds;
+use compare::limits;
+use compare::questions::questions;
+use compare::tally::{Stated, Tally, CARD, COLOUR_WINDOW};
 use reference::generate::generate;
 
-/// What must have been answered before the opcode list is read, with its detail
-/// where it is a tag.
+/// What the card must have answered before the opcode list is read, with its
+/// detail where it is a tag.
 const PLAIN: [u32; 6] = [1, 2, 3, 6, 7, 9];
 const WRONG: [u32; 25] = [
     254, 330, 50706, 50707, 256, 257, 262, 277, 258, 259, 284, 339, 50975, 52547, 278, 273, 279, 50829,
@@ -24,36 +23,59 @@ const NOT_CARRIED: [u32; 17] =
     [256, 257, 262, 277, 258, 259, 284, 339, 50975, 52547, 50713, 50714, 50715, 50716, 50717, 51008, 51022];
 
 /// Of the opcode list: at its first place, at a later one, and over 32.
-const LIST: [(u32, u32); 7] = [(10, 0), (10, 1), (11, 0), (11, 1), (11, 32), (12, 0), (12, 1)];
+const LIST: [Stated; 7] = [(10, 0), (10, 1), (11, 0), (11, 1), (11, 32), (12, 0), (12, 1)];
 
-#[derive(Default)]
-struct Tally {
-    met: BTreeMap<(u32, u32), u64>,
-    files: u64,
-    differences: u64,
+/// Of the colour tags.
+const COLOUR: [Stated; 7] =
+    [(8, 50723), (8, 50727), (8, 50965), (5, 50964), (4, 50964), (5, 50728), (4, 50728)];
+
+/// Every answer that must have been met and was not.
+fn missing(tally: &Tally) -> Vec<String> {
+    let mut of_card: Vec<Stated> = PLAIN.iter().map(|number| (*number, 0)).collect();
+    for (number, tags) in [(4, &WRONG[..]), (5, &ABSENT[..]), (8, &NOT_CARRIED[..])] {
+        of_card.extend(tags.iter().map(|tag| (number, *tag)));
+    }
+    of_card.extend(LIST);
+    let details = [tally.missing(CARD, &of_card), tally.missing(COLOUR_WINDOW, &COLOUR)].concat();
+    let numbers = tally.missing_numbers();
+    let details = details.into_iter().map(|(name, (number, detail))| format!("{name} {number} {detail}"));
+    details.chain(numbers.into_iter().map(|(name, number)| format!("{name} {number}"))).collect()
 }
 
-impl Tally {
-    /// Where the document's answer is stated, both programs must give that.
-    fn check(&mut self, label: &str, file: &[u8], stated: Option<(u32, u32)>) {
-        let expected = card(file);
-        let found = core::card(file);
-        self.files += 1;
-        *self.met.entry((found.number, found.detail)).or_default() += 1;
-        let as_stated = stated.is_none_or(|answer| answer == (expected.number, expected.detail));
-        if !as_stated || found != expected {
-            self.differences += 1;
-            println!("{label}: core {found:?}, reference {expected:?}, stated {stated:?}");
+fn report(title: &str, tally: &Tally) {
+    println!(
+        "{title}: {} files, {} calls, {} values ({} neither 0 nor 1), {} differences",
+        tally.files,
+        tally.calls(),
+        tally.values,
+        tally.between,
+        tally.differences
+    );
+    tally.print_numbers();
+}
+
+fn listed<T: AsRef<str>>(words: &[T]) -> String {
+    let words: Vec<&str> = words.iter().map(T::as_ref).collect();
+    if words.is_empty() {
+        "none".into()
+    } else {
+        words.join(", ")
+    }
+}
+
+fn generated(seed: u64, count: u64) -> (Tally, Kinds) {
+    let (mut tally, mut kinds) = (Tally::default(), Kinds::default());
+    for index in 0..count {
+        let case = generate(seed, index);
+        let label = format!("case {seed} {index} ({})", case.label);
+        tally.files += 1;
+        kinds.add(&case.file);
+        let more = questions(&reference::card(&case.file), index);
+        for call in case.calls.iter().chain(&more) {
+            tally.ask(&label, &case.file, call, None);
         }
     }
-
-    fn missing(&self, lists: &[(u32, u32)]) -> Vec<(u32, u32)> {
-        let plain = PLAIN.iter().map(|number| (*number, 0));
-        let tags = [(4, &WRONG[..]), (5, &ABSENT[..]), (8, &NOT_CARRIED[..])];
-        let with_tag = tags.into_iter().flat_map(|(number, tags)| tags.iter().map(move |tag| (number, *tag)));
-        let expected = plain.chain(with_tag).chain(lists.iter().copied());
-        expected.filter(|answer| !self.met.contains_key(answer)).collect()
-    }
+    (tally, kinds)
 }
 
 fn main() -> ExitCode {
@@ -62,30 +84,17 @@ fn main() -> ExitCode {
         eprintln!("usage: compare SEED COUNT");
         return ExitCode::FAILURE;
     };
-    let mut generated = Tally::default();
-    for index in 0..count {
-        let case = generate(seed, index);
-        generated.check(&format!("case {seed} {index} ({})", case.label), &case.file, None);
-    }
+    let (generated, kinds) = generated(seed, count);
+    report(&format!("generated, seed {seed}"), &generated);
+    println!("accepted files of each kind:");
+    kinds.print();
     let mut limits = Tally::default();
     limits::check(&mut limits);
-    let (missing, unmet) = (generated.missing(&LIST), limits.missing(&[]));
-    println!(
-        "compared {} files: {} accepted, {} kinds of refusal, {} not met {missing:?}, {} differences",
-        generated.files,
-        generated.met.get(&(0, 0)).copied().unwrap_or(0),
-        generated.met.keys().filter(|(number, _)| *number != 0).count(),
-        missing.len(),
-        generated.differences
-    );
-    println!(
-        "limits: {} cases, {} not met {unmet:?}, {} differences",
-        limits.files,
-        unmet.len(),
-        limits.differences
-    );
-    let differences = generated.differences + limits.differences;
-    if differences == 0 && missing.is_empty() && unmet.is_empty() {
+    report("limits", &limits);
+    let unmet = [missing(&generated), missing(&limits)].concat();
+    let no_kind = kinds.missing();
+    println!("answers not met: {}; kinds not met: {}", listed(&unmet), listed(&no_kind));
+    if generated.differences + limits.differences == 0 && unmet.is_empty() && no_kind.is_empty() {
         ExitCode::SUCCESS
     } else {
         ExitCode::FAILURE

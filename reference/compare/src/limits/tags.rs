@@ -5,7 +5,7 @@ use reference::bytes::ByteOrder;
 use reference::tag_test::{BYTE, LONG, RATIONAL, SHORT, SRATIONAL, UNDEFINED};
 
 use super::{answer, at_depths, both, entry, every_type, plain, DONE, LINEAR, MAX, MOSAIC, SHAPE};
-use crate::Tally;
+use crate::tally::Tally;
 
 const WHOLE: &[u16] = &[SHORT, LONG];
 

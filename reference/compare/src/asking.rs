@@ -1,0 +1,132 @@
+//! One call, put to the core or to the independent program, with all that can
+//! be seen of its answer.
+
+use std::fmt;
+
+use reference::cases::Call;
+use reference::{Answer, Card};
+
+use crate::core;
+
+type Window = fn(&[u8], u64, u64, u64, u64, &mut [f64]) -> Answer;
+
+/// The four calls of one of the two programs.
+pub struct Program {
+    card: fn(&[u8]) -> Card,
+    /// A number that no card has; 0 is right.
+    other_field: fn(&[u8], u32) -> u64,
+    window: Window,
+    spot: fn(&[u8], u64, u64, u64) -> (Answer, f64),
+    colour_window: Window,
+}
+
+pub const CORE: Program = Program {
+    card: core::card,
+    other_field: core::field,
+    window: core::window,
+    spot: core::spot,
+    colour_window: core::colour_window,
+};
+
+pub const REFERENCE: Program = Program {
+    card: reference::card,
+    other_field: |_, _| 0,
+    window: reference::window,
+    spot: reference::spot,
+    colour_window: reference::colour_window,
+};
+
+/// Places on both sides of a lent slice, which no call may write.
+const MARGIN: usize = 3;
+
+/// What stands at a place of a lent slice and of its margins before the call:
+/// a NaN, which no call can answer, and another one at every place.
+fn untouched(place: usize) -> u64 {
+    0x7FF8_5A5A_0000_0000 | place as u64
+}
+
+/// Number and detail; then the card's five counts and two fields that there
+/// are not, the bits of the spot, or those of the slice with its margins.
+#[derive(Clone, Debug, PartialEq, Eq)]
+pub struct Outcome {
+    pub answer: Answer,
+    pub bits: Vec<u64>,
+}
+
+impl Program {
+    pub fn ask(&self, file: &[u8], call: &Call) -> Outcome {
+        match *call {
+            Call::Card => {
+                let card = (self.card)(file);
+                let [seventh, last] = [7, u32::MAX].map(|which| (self.other_field)(file, which));
+                let Card { rows, columns, samples, kept, skipped, .. } = card;
+                let bits = vec![rows, columns, samples, kept, skipped, seventh, last];
+                Outcome { answer: card.answer(), bits }
+            }
+            Call::Spot { row, column, plane } => {
+                let (answer, value) = (self.spot)(file, row, column, plane);
+                Outcome { answer, bits: vec![value.to_bits()] }
+            }
+            Call::Window { top, left, height, width, slice } => {
+                lend(slice, |out| (self.window)(file, top, left, height, width, out))
+            }
+            Call::ColourWindow { top, left, height, width, slice } => {
+                lend(slice, |out| (self.colour_window)(file, top, left, height, width, out))
+            }
+        }
+    }
+}
+
+fn lend(slice: usize, call: impl FnOnce(&mut [f64]) -> Answer) -> Outcome {
+    let mut lent: Vec<f64> = (0..slice + 2 * MARGIN).map(|i| f64::from_bits(untouched(i))).collect();
+    let answer = call(&mut lent[MARGIN..MARGIN + slice]);
+    Outcome { answer, bits: lent.into_iter().map(f64::to_bits).collect() }
+}
+
+impl Outcome {
+    /// "a refused card holds five zeros, a refused spot +0.0; a refused window
+    /// or colour window leaves its slice untouched"; an accepted one writes
+    /// every place of its slice and no other.
+    pub fn is_whole(&self, call: &Call) -> bool {
+        let done = self.answer == Answer::DONE;
+        match *call {
+            Call::Card | Call::Spot { .. } => done || self.bits.iter().all(|bits| *bits == 0),
+            Call::Window { slice, .. } | Call::ColourWindow { slice, .. } => {
+                let in_slice = |i: &usize| (MARGIN..MARGIN + slice).contains(i);
+                let stays = |(i, bits): (usize, &u64)| (*bits == untouched(i)) != (done && in_slice(&i));
+                self.bits.iter().enumerate().all(stays)
+            }
+        }
+    }
+
+    /// The values of an accepted window, spot or colour window.
+    pub fn values(&self, call: &Call) -> &[u64] {
+        match *call {
+            _ if self.answer != Answer::DONE => &[],
+            Call::Card => &[],
+            Call::Spot { .. } => &self.bits,
+            Call::Window { slice, .. } | Call::ColourWindow { slice, .. } => {
+                &self.bits[MARGIN..MARGIN + slice]
+            }
+        }
+    }
+}
+
+/// The answer, and of the bits the first that another outcome has not. A place
+/// below 0 or past the slice's last is one of its margin.
+pub struct Shown<'a>(pub &'a Outcome, pub &'a Outcome, pub &'a Call);
+
+impl fmt::Display for Shown<'_> {
+    fn fmt(&self, f: &mut fmt::Formatter) -> fmt::Result {
+        let Shown(one, other, call) = self;
+        write!(f, "{} {}", one.answer.number, one.answer.detail)?;
+        let first = match call {
+            Call::Card | Call::Spot { .. } => 0,
+            Call::Window { .. } | Call::ColourWindow { .. } => MARGIN as i64,
+        };
+        match one.bits.iter().zip(&other.bits).position(|(a, b)| a != b) {
+            Some(i) => write!(f, " with {:016x} at place {}", one.bits[i], i as i64 - first),
+            None => Ok(()),
+        }
+    }
+}

@@ -1,0 +1,151 @@
+//! Which kinds of files were accepted, so that none is compared in vain.
+
+use std::collections::BTreeMap;
+
+use reference::bytes::{ByteOrder, File};
+use reference::colour;
+use reference::develop::{accept, Accepted};
+use reference::directory::walk;
+use reference::opcodes::{Action, Grid, Opcode};
+
+/// Every kind that must occur.
+const KINDS: [&str; 30] = [
+    "mosaic 8 II",
+    "mosaic 8 MM",
+    "mosaic 16 II",
+    "mosaic 16 MM",
+    "LinearRaw 8 II",
+    "LinearRaw 8 MM",
+    "LinearRaw 16 II",
+    "LinearRaw 16 MM",
+    "table",
+    "repeat",
+    "column deltas",
+    "row deltas",
+    "several strips",
+    "area off the corner",
+    "raw IFD below IFD 0",
+    "MapTable",
+    "MapPolynomial",
+    "DeltaPerRow",
+    "DeltaPerColumn",
+    "ScalePerRow",
+    "ScalePerColumn",
+    "skipped",
+    "kept and skipped",
+    "two kept or more",
+    "nine kept or more",
+    "row pitch",
+    "column pitch",
+    "some planes",
+    "colour",
+    "colour refused",
+];
+
+#[derive(Default)]
+pub struct Kinds {
+    met: BTreeMap<&'static str, u64>,
+}
+
+impl Kinds {
+    /// Counts the kinds of an accepted file, each once.
+    pub fn add(&mut self, bytes: &[u8]) {
+        let Ok(accepted) = accept(bytes) else {
+            return;
+        };
+        let mut kinds = of_frame(&accepted);
+        kinds.extend(of_tags(&accepted.file));
+        kinds.extend(of_list(&accepted));
+        kinds.extend(of_colour(&accepted));
+        kinds.sort_unstable();
+        kinds.dedup();
+        for kind in kinds {
+            *self.met.entry(kind).or_default() += 1;
+        }
+    }
+
+    pub fn print(&self) {
+        let count = |kind: &&str| format!("{kind} {}", self.met.get(*kind).unwrap_or(&0));
+        for line in KINDS.chunks(8) {
+            println!("  {}", line.iter().map(count).collect::<Vec<_>>().join(", "));
+        }
+    }
+
+    pub fn missing(&self) -> Vec<&'static str> {
+        KINDS.into_iter().filter(|kind| !self.met.contains_key(kind)).collect()
+    }
+}
+
+fn of_frame(accepted: &Accepted) -> Vec<&'static str> {
+    let (stored, active) = (&accepted.raw.stored, &accepted.raw.active);
+    let linear = usize::from(stored.samples == 3);
+    let deep = usize::from(stored.bits == 16);
+    let big = usize::from(accepted.file.order == ByteOrder::Big);
+    let mut kinds = vec![KINDS[4 * linear + 2 * deep + big]];
+    if stored.strips.len() > 1 {
+        kinds.push("several strips");
+    }
+    if active.top > 0 && active.left > 0 {
+        kinds.push("area off the corner");
+    }
+    kinds
+}
+
+fn of_tags(file: &File) -> Vec<&'static str> {
+    let tree = walk(file).expect("the file was accepted");
+    let tags = [(50712, "table"), (50713, "repeat"), (50715, "column deltas"), (50716, "row deltas")];
+    let found = tags.into_iter().filter(|(tag, _)| tree.raw.find(*tag).is_some());
+    let below = tree.first.find(254).is_some_and(|entry| file.number(entry.place, 4) != 0);
+    found.map(|(_, kind)| kind).chain(below.then_some("raw IFD below IFD 0")).collect()
+}
+
+fn of_list(accepted: &Accepted) -> Vec<&'static str> {
+    let mut kinds = Vec::new();
+    let mut kept = 0;
+    for opcode in &accepted.opcodes {
+        match opcode {
+            Opcode::Skipped => kinds.push("skipped"),
+            Opcode::Kept(grid, action) => {
+                kept += 1;
+                kinds.push(of_action(action));
+                kinds.extend(of_grid(grid, accepted.size().samples));
+            }
+        }
+    }
+    let some = [
+        (kept > 0 && kept < accepted.opcodes.len(), "kept and skipped"),
+        (kept >= 2, "two kept or more"),
+        (kept >= 9, "nine kept or more"),
+    ];
+    kinds.extend(some.into_iter().filter(|(met, _)| *met).map(|(_, kind)| kind));
+    kinds
+}
+
+fn of_action(action: &Action) -> &'static str {
+    match action {
+        Action::MapTable(_) => "MapTable",
+        Action::MapPolynomial(_) => "MapPolynomial",
+        Action::DeltaPerRow(_) => "DeltaPerRow",
+        Action::DeltaPerColumn(_) => "DeltaPerColumn",
+        Action::ScalePerRow(_) => "ScalePerRow",
+        Action::ScalePerColumn(_) => "ScalePerColumn",
+    }
+}
+
+/// A pitch counts where the grid has a second row or column.
+fn of_grid(grid: &Grid, samples: u64) -> Vec<&'static str> {
+    let some = [
+        (grid.row_pitch > 1 && grid.rows() > 1, "row pitch"),
+        (grid.column_pitch > 1 && grid.columns() > 1, "column pitch"),
+        (grid.planes < samples, "some planes"),
+    ];
+    some.into_iter().filter(|(met, _)| *met).map(|(_, kind)| kind).collect()
+}
+
+fn of_colour(accepted: &Accepted) -> Option<&'static str> {
+    if accepted.size().samples == 1 {
+        return None;
+    }
+    let colour = colour::read(&accepted.file, &accepted.first);
+    Some(if colour.is_ok() { "colour" } else { "colour refused" })
+}

@@ -1,0 +1,8 @@
+//! The proved core's static library beside the independent program.
+
+pub mod asking;
+pub mod core;
+pub mod kinds;
+pub mod limits;
+pub mod questions;
+pub mod tally;

@@ -1,0 +1,102 @@
+//! What was asked, what was answered, and where the programs differ.
+
+use std::collections::BTreeMap;
+
+use reference::cases::Call;
+
+use crate::asking::{Outcome, Shown, CORE, REFERENCE};
+
+/// A number and a detail.
+pub type Stated = (u32, u32);
+
+pub const NAMES: [&str; 4] = ["card", "window", "spot", "colour window"];
+pub const CARD: usize = 0;
+pub const COLOUR_WINDOW: usize = 3;
+
+/// The greatest number that each call can answer.
+const GREATEST_NUMBER: [u32; 4] = [12, 14, 13, 15];
+
+/// So many differences are printed; the rest are counted.
+const PRINTED: u64 = 30;
+
+#[derive(Default)]
+pub struct Tally {
+    /// For each call, how often each number and detail was answered.
+    met: [BTreeMap<Stated, u64>; 4],
+    pub files: u64,
+    pub differences: u64,
+    /// Samples and colours compared, and how many of them were neither 0 nor 1.
+    pub values: u64,
+    pub between: u64,
+}
+
+fn index(call: &Call) -> usize {
+    match call {
+        Call::Card => CARD,
+        Call::Window { .. } => 1,
+        Call::Spot { .. } => 2,
+        Call::ColourWindow { .. } => COLOUR_WINDOW,
+    }
+}
+
+impl Tally {
+    /// Puts one call to both programs. They must answer the same in every bit,
+    /// and what is stated, where something is. Gives the independent program's
+    /// outcome.
+    pub fn ask(&mut self, label: &str, file: &[u8], call: &Call, stated: Option<Stated>) -> Outcome {
+        let (found, expected) = (CORE.ask(file, call), REFERENCE.ask(file, call));
+        let answer = (expected.answer.number, expected.answer.detail);
+        let as_stated = stated.is_none_or(|stated| stated == answer);
+        if found != expected || !as_stated || !expected.is_whole(call) {
+            self.differences += 1;
+            if self.differences <= PRINTED {
+                let (core, reference) = (Shown(&found, &expected, call), Shown(&expected, &found, call));
+                println!("{label}: {call:?}: core {core}; reference {reference}; stated {stated:?}");
+            }
+        }
+        *self.met[index(call)].entry(answer).or_default() += 1;
+        let values = expected.values(call);
+        self.values += values.len() as u64;
+        let ends = [0, 1.0f64.to_bits()];
+        self.between += values.iter().filter(|bits| !ends.contains(bits)).count() as u64;
+        expected
+    }
+
+    pub fn calls(&self) -> u64 {
+        self.met.iter().flat_map(BTreeMap::values).sum()
+    }
+
+    fn count(&self, call: usize, number: u32) -> u64 {
+        self.met[call].iter().filter(|((n, _), _)| *n == number).map(|(_, count)| count).sum()
+    }
+
+    /// A line for each call: how often it answered each number.
+    pub fn print_numbers(&self) {
+        let line = |name: &str, cells: Vec<String>| {
+            let cells: String = cells.iter().map(|cell| format!("{cell:>7}")).collect();
+            println!("{name:<14}{cells}");
+        };
+        line("number", (0..=15).map(|number: u32| number.to_string()).collect());
+        for (call, name) in NAMES.into_iter().enumerate() {
+            let cell = |number| match self.count(call, number) {
+                0 if number > GREATEST_NUMBER[call] => "-".into(),
+                count => count.to_string(),
+            };
+            line(name, (0..=15).map(cell).collect());
+        }
+    }
+
+    /// The numbers that a call can answer and has not.
+    pub fn missing_numbers(&self) -> Vec<(&'static str, u32)> {
+        let all = (0..4).flat_map(|call| (0..=GREATEST_NUMBER[call]).map(move |number| (call, number)));
+        all.filter(|(call, number)| self.count(*call, *number) == 0)
+            .map(|(call, number)| (NAMES[call], number))
+            .collect()
+    }
+
+    /// Of these answers those that the call has not given.
+    pub fn missing(&self, call: usize, answers: &[Stated]) -> Vec<(&'static str, Stated)> {
+        let unmet = answers.iter().filter(|answer| !self.met[call].contains_key(answer));
+        unmet.map(|answer| (NAMES[call], *answer)).collect()
+    }
+}
