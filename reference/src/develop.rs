@@ -107,10 +107,10 @@ impl Accepted<'_> {
     }
 }
 
-/// Above this many active samples the whole frame would cost too much memory
+/// Above this many active samples the whole frame would cost too much
 /// (a small file with overlapping strips may have 16,384 x 16,384 pixels), so
 /// the public calls then go sample by sample.
-const GREATEST_WHOLE_FRAME: u64 = 1 << 20;
+const GREATEST_WHOLE_FRAME: u64 = 1 << 16;
 
 /// The developed values of an accepted file, by whichever way is affordable.
 pub struct Developed<'a> {
