@@ -180,7 +180,7 @@ module _ (f : List ℕ) (o : Order) (t : Tags) (r c p : ℕ) where
       +ℤ getD (run f (blacksReading o kind.SignedRational (t .levels .«column_deltas»))) c (pos 0)
       +ℤ getD (run f (blacksReading o kind.SignedRational (t .levels .«row_deltas»))) r (pos 0)) (levels-run f o t))
 
-  stored-run : run f (storedReading o t) ≡ record { offsets = run f (numbersReading o (t .strips)); levels = run f (levelsReading o t) }
+  pub stored-run : run f (storedReading o t) ≡ record { offsets = run f (numbersReading o (t .strips)); levels = run f (levelsReading o t) }
   unfolding storedReading
   stored-run = simp running
 

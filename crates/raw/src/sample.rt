@@ -72,7 +72,7 @@ pub fn sample_at(file: &[u8], order: Order, bytes: usize, place: usize) -> u16
 }
 
 // The black level's cell of an active row, an active column and a plane.
-fn cell_at(
+pub fn cell_at(
     file: &[u8],
     order: Order,
     tags: Tags,
@@ -100,7 +100,7 @@ fn cell_at(
 }
 
 // The i-th delta of a tag; of an absent tag, 0.
-fn delta_at(file: &[u8], order: Order, deltas: Values, i: usize) -> i64
+pub fn delta_at(file: &[u8], order: Order, deltas: Values, i: usize) -> i64
     requires { ⌜ (deltas .place + deltas .size * deltas .count ≤ length (now file)) × (0 < deltas .count → (deltas .size ≡ 8) × (i < deltas .count)) ⌝ }
     ensures { λ r. ⌜ r ≡ getD (run (now (file .entry)) (blacksReading order FractionKind.SignedRational deltas)) i (pos 0) ⌝ }
     ensures { λ r. ⌜ natAbs r ≤ 16776960 ⌝ }

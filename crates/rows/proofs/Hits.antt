@@ -21,16 +21,16 @@ use Rattle.rows.proofs.Eaches.{each-each, each-same, each-none}
 use Rattle.rows.proofs.Sweeps.{le-or-lt, every-told, every-tell}
 
 -- ---- what is whole
-split-div : (p a n : ℕ) → p < n → (p + a * n) / n ≡ a
+pub split-div : (p a n : ℕ) → p < n → (p + a * n) / n ≡ a
 split-div p a n h = add-mul-div-right p a {z = n} (omega arith) ∙ ap (λ (m : ℕ). m + a) (div-eq-of-lt h) ∙ zero-add a
 
-split-mod : (p a n k : ℕ) → p < n → k ≡ p + a * n → k % n ≡ p
+pub split-mod : (p a n k : ℕ) → p < n → k ≡ p + a * n → k % n ≡ p
 split-mod p a n k h e =
     let d : k / n ≡ a = ap (λ (m : ℕ). m / n) e ∙ split-div p a n h in
     let m : a * n + k % n ≡ k = subst (λ (b : ℕ). b * n + k % n ≡ k) d (div-add-mod' k n) in
     omega arith
 
-whole : (d n : ℕ) → d % n ≡ 0 → d ≡ d / n * n
+pub whole : (d n : ℕ) → d % n ≡ 0 → d ≡ d / n * n
 whole d n e = omega (arith, div-add-mod' d n)
 
 -- ---- the grid's columns before the part
