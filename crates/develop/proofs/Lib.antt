@@ -1,4 +1,6 @@
 pub mod Views
+pub mod Windows
+pub mod Called
 pub mod Answers
 pub mod Demands
 pub mod Worked

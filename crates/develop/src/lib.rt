@@ -1,19 +1,29 @@
 // The four calls.
 ghost use mathlib.Core.Path.{_≡_};
-ghost use Prim.Native.Nat.{_≤_};
+ghost use mathlib.Core.Bool.{_&&_};
+ghost use Prim.Native.Nat.{_+_, _≤_};
+ghost use lib.Dec.{leb};
 ghost use Rattle.reading.specs.Reading.{run};
 ghost use Rattle.raw.specs.Front.{Picture-in};
 ghost use Rattle.opcodes.specs.OpcodeList.{listReading, countedOn, none, testedOut};
-ghost use Rattle.develop.specs.Calls.{sizeOf, cardCall};
-ghost use Rattle.develop.specs.View.{OpeningIs};
+ghost use Rattle.develop.specs.Calls.{sizeOf, cardCall, spotCall, windowWith, windowCall};
+ghost use Rattle.rows.specs.Part.{Sized-in};
+ghost use Rattle.develop.specs.View.{OpeningIs, Viewed};
+ghost use Rattle.develop.specs.Fill.{windowFault};
+ghost use Rattle.develop.specs.Calls;
 ghost use Rattle.develop.specs.Demand.{Meets-demand-3};
 use opcodes::grid::Size;
 use opcodes::list;
 use opcodes::list::Counts;
 use opcodes::list::Tested;
+use raw::area::ActiveColumn;
+use raw::area::ActiveRow;
 use raw::front;
 use raw::front::Front;
 use raw::front::Picture;
+use raw::sample;
+
+mod fill;
 
 // Document 01's number, detail and five values.
 pub struct CardAnswer {
@@ -115,5 +125,145 @@ pub fn card(file: &[u8]) -> CardAnswer
             kept: view.counts.kept,
             skipped: view.counts.skipped,
         },
+    }
+}
+
+// Whether a spot is in the active area and has such a plane.
+fn within(size: Size, row: usize, column: usize, plane: usize) -> bool
+    ensures { λ r. ⌜ r ≡ Calls.within size row column plane ⌝ }
+{
+    if row < size.rows {
+        if column < size.columns {
+            return plane < size.samples;
+        }
+    }
+    false
+}
+
+// A spot of an accepted file: its sample alone, through the list.
+fn spot_in(file: &[u8], view: View, row: usize, column: usize, plane: usize) -> SpotAnswer
+    requires { ⌜ Viewed (now file) view ⌝ }
+    ensures { λ r. ⌜ r ≡ spotCall (now (file .entry)) row column plane ⌝ }
+{
+    if within(view.size, row, column, plane) {
+        let picture = view.picture;
+        let order = picture.order;
+        let raw = picture.raw;
+        let values = raw.tags.list;
+        let x = sample::scaled_at(
+            file,
+            order,
+            raw,
+            ActiveRow(row),
+            ActiveColumn(column),
+            plane,
+        );
+        return SpotAnswer {
+            number: 0,
+            detail: 0,
+            value: rows::list::list_at(
+                file,
+                view.size,
+                values.place,
+                values.count,
+                row,
+                column,
+                plane,
+                x,
+            ),
+        };
+    }
+    SpotAnswer {
+        number: 13,
+        detail: 0,
+        value: 0.0,
+    }
+}
+
+pub fn spot(file: &[u8], row: usize, column: usize, plane: usize) -> SpotAnswer
+    ensures { λ r. ⌜ r ≡ spotCall (now (file .entry)) row column plane ⌝ }
+{
+    match open(file) {
+        Opening::Refused { number, detail } => SpotAnswer {
+            number,
+            detail,
+            value: 0.0,
+        },
+        Opening::Is(view) => spot_in(file, view, row, column, plane),
+    }
+}
+
+// Whether so many from a first one on are some and lie below an end. Nothing wraps.
+fn spans(first: usize, count: usize, end: usize) -> bool
+    ensures { λ r. ⌜ r ≡ (leb 1 count && leb (first + count) end) ⌝ }
+{
+    if count < 1 {
+        return false;
+    }
+    if end < count {
+        return false;
+    }
+    first <= end - count
+}
+
+// 13 and 14 of a window with so many values to a pixel; 0 where neither refuses.
+fn window_fault(
+    size: Size,
+    values: usize,
+    top: usize,
+    left: usize,
+    height: usize,
+    width: usize,
+    len: usize,
+) -> usize
+    requires { ⌜ Sized-in size × (values ≤ 3) ⌝ }
+    ensures { λ r. ⌜ r ≡ windowFault size values top left height width len ⌝ }
+{
+    if spans(top, height, size.rows) {
+        if spans(left, width, size.columns) {
+            return if len == height * width * values {
+                0
+            } else {
+                14
+            };
+        }
+    }
+    13
+}
+
+// A window of an accepted file.
+fn window_in(
+    file: &[u8],
+    view: View,
+    top: usize,
+    left: usize,
+    height: usize,
+    width: usize,
+    out: &mut [f64],
+) -> Answer
+    requires { ⌜ Viewed (now file) view ⌝ }
+    ensures { λ r. ⌜ windowWith r (now (out .exit)) ≡ windowCall (now (file .entry)) top left height width (now (out .entry)) ⌝ }
+{
+    let size = view.size;
+    let number = window_fault(size, size.samples, top, left, height, width, out.len());
+    if number == 0 {
+        fill::fill_window(file, view, top, left, height, width, out);
+    }
+    Answer { number, detail: 0 }
+}
+
+pub fn window(
+    file: &[u8],
+    top: usize,
+    left: usize,
+    height: usize,
+    width: usize,
+    out: &mut [f64],
+) -> Answer
+    ensures { λ r. ⌜ windowWith r (now (out .exit)) ≡ windowCall (now (file .entry)) top left height width (now (out .entry)) ⌝ }
+{
+    match open(file) {
+        Opening::Refused { number, detail } => Answer { number, detail },
+        Opening::Is(view) => window_in(file, view, top, left, height, width, out),
     }
 }

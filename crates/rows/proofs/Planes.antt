@@ -178,8 +178,13 @@ wide-at t l len p m w h b =
     let e : (p + n * m) / n ≡ m = ap (λ (k : ℕ). (p + k) / n) (mul-comm n m) ∙ split-div p m n h in
     rw e at (w (p + n * m) b)
 
+pub zeros-at : (n k : ℕ) → getD (replicate n (pos 0)) k (pos 0) ≡ pos 0
+zeros-at n k =
+    ⊎-elim (λ l. List·getD-eq-default (replicate n (pos 0)) (pos 0) {n = k} (rw (length-replicate n (pos 0)) l)) (λ l. getD-replicate n k (pos 0) (pos 0) l)
+    (le-or-lt n k)
+
 pub zeros-small : (n : ℕ) → Small (replicate n (pos 0))
-zeros-small n k = ⊎-elim (λ l. rw (List·getD-eq-default (replicate n (pos 0)) (pos 0) {n = k} (rw (length-replicate n (pos 0)) l)) (omega arith)) (λ l. rw (getD-replicate n k (pos 0) (pos 0) l) (omega arith)) (le-or-lt n k)
+zeros-small n k = rw (zeros-at n k) (omega arith)
 
 -- the scaled values through the list
 pub part-developed :
