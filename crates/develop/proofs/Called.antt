@@ -11,14 +11,19 @@ use lib.Ieee.{Float}
 use lib.ListN.{length}
 use borrow.Author.Tests.{leb-true, eqb-true, eq-eqb, ne-eqb}
 use Rattle.reading.specs.Reading.{run, pick}
-use Rattle.reading.proofs.Reading.{pick-yes, pick-no}
-use Rattle.directory.specs.Out.{Out, Out.is}
+use Rattle.reading.proofs.Reading.{run-answer, pick-yes, pick-no}
+use Rattle.directory.specs.Out.{Out, Out.refused, Out.is}
+use Rattle.directory.specs.Widths.{classic}
 use Rattle.raw.specs.Sample.{ActiveIn}
+use Rattle.raw.specs.declared.front.Picture.{Picture}
+use Rattle.colour.specs.Tags.{colourReading}
+use Rattle.colour.specs.Pass.{passOf}
+use Rattle.colour.specs.declared.Colour.{Colour}
 use Rattle.opcodes.specs.Frame.{standing, alone}
 use Rattle.opcodes.specs.declared.grid.Size.{Size}
 use Rattle.opcodes.proofs.OpcodeLists.{and-true}
 use Rattle.rows.specs.Line.{scaledIn}
-use Rattle.develop.specs.Calls.{Opened, opened, sizeOf, frameOf, within, refusedSpot, spotOf, spotCall, inside, valuesOf, Window, windowWith, refusedWindow, filledOf, windowOf, windowCall}
+use Rattle.develop.specs.Calls.{Opened, opened, sizeOf, frameOf, within, refusedSpot, spotOf, spotCall, inside, valuesOf, Window, windowWith, refusedWindow, filledOf, windowOf, windowCall, colourFor, pixelIn, colouredOf, colourWindowOf, colourWindowCall}
 use Rattle.develop.specs.Demand.{aloneIn, developedIn}
 use Rattle.develop.specs.View.{Viewed}
 use Rattle.develop.specs.Fill.{Fill-in, windowFault}
@@ -27,6 +32,7 @@ use Rattle.develop.specs.declared.Answer.{Answer}
 use Rattle.develop.specs.declared.SpotAnswer.{SpotAnswer}
 use Rattle.develop.proofs.Answers.{developed-alone, within-active, inside-fits, values-same}
 use Rattle.develop.proofs.Windows.{viewed-alone}
+use Rattle.develop.proofs.Colours.{pass-values}
 
 -- ---- spot
 module _ (f : List ℕ) (v : View) (h : Viewed f v) (r c p : ℕ) where
@@ -122,7 +128,7 @@ module _ (f : List ℕ) (v : View) (q : Viewed f v) (t l h w : ℕ) (old : List 
   size-is : sizeOf (file .picture) ≡ v .size
   size-is = ap sizeOf (q .picture) ∙ sym (q .size)
 
-  pub fill-in : (n : ℕ) → n ≡ v .size .samples → 0 ≡ windowFault (v .size) n t l h w (length old) → Fill-in f v t l h w old
+  unfoldable pub fill-in : (n : ℕ) → n ≡ v .size .samples → 0 ≡ windowFault (v .size) n t l h w (length old) → Fill-in f v t l h w old
   fill-in n en e =
       let k = none-inside (v .size) t l h w n (length old) e in
       let i = inside-fits (v .size) t l h w (k .0) in
@@ -162,3 +168,36 @@ module _ (f : List ℕ) (v : View) (q : Viewed f v) (t l h w : ℕ) (old : List 
       filled-fault (v .size) t l h w (v .size .samples) old (standing (frameOf f file)) m e s
       ∙ ap (λ (z : Size). filledOf z (z .samples) t l h w old (standing (frameOf f file))) (sym size-is)
       ∙ ap (windowOf f t l h w old) (q .accepted)
+
+-- ---- colour window
+module _ (f : List ℕ) (v : View) (q : Viewed f v) (t l h w : ℕ) (old : List Float) where
+  module _ (m : Colour) (three : v .size .samples ≡ 3) where
+    sized : (x : ℕ → ℕ → ℕ → Float) → filledOf (v .size) 3 t l h w old x ≡ filledOf (sizeOf (q .file .picture)) 3 t l h w old x
+    sized x = ap (λ (z : Size). filledOf z 3 t l h w old x) (sym (size-is f v q t l h w old))
+
+    pub coloured-none :
+        (mid new : List Float) → 0 ≡ windowFault (v .size) 3 t l h w (length old) → mid ≡ valuesOf (aloneIn f (q .file)) t l h w (v .size .samples) → new ≡ passOf m mid →
+        windowWith (record { number = 0; detail = 0 }) new ≡ colouredOf f t l h w old (q .file) (is m)
+    coloured-none mid new e d p =
+        let k = none-inside (v .size) t l h w 3 (length old) e in
+        filled-none (v .size) t l h w 3 old (pixelIn m (frameOf f (q .file))) new e
+        (p ∙ ap (passOf m) (d ∙ ap (valuesOf (aloneIn f (q .file)) t l h w) three ∙ values-alone f v q t l h w old 3 (sym three) (k .0)) ∙ pass-values m (frameOf f (q .file)) t l h w)
+        ∙ sized (pixelIn m (frameOf f (q .file)))
+
+    pub coloured-fault :
+        (n : ℕ) → n ≡ windowFault (v .size) 3 t l h w (length old) → (n ≡ 0 → ⊥) → windowWith (record { number = n; detail = 0 }) old ≡ colouredOf f t l h w old (q .file) (is m)
+    coloured-fault n e s = filled-fault (v .size) t l h w 3 old (pixelIn m (frameOf f (q .file))) n e s ∙ sized (pixelIn m (frameOf f (q .file)))
+
+  samples-is : v .size .samples ≡ q .file .picture .raw .tags .frame .samples
+  samples-is = sym (ap (λ (z : Size). z .samples) (size-is f v q t l h w old))
+
+  -- the colour tags are read where there are three samples
+  pub colour-tags : v .size .samples ≡ 3 → (x : Out Colour) → x ≡ run f (colourReading classic (v .picture .first)) → colouredOf f t l h w old (q .file) x ≡ colourWindowCall f t l h w old
+  colour-tags e x d =
+      let s : run f (colourFor (q .file .picture)) ≡ run f (colourReading classic (q .file .picture .first)) = simp (eq-eqb _ 3 (sym samples-is ∙ e), pick-yes) in
+      ap (colouredOf f t l h w old (q .file)) (d ∙ ap (λ (p : Picture). run f (colourReading classic (p .first))) (sym (q .picture)) ∙ sym s) ∙ ap (colourWindowOf f t l h w old) (q .accepted)
+
+  pub colour-mosaic : (v .size .samples ≡ 3 → ⊥) → refusedWindow 15 0 old ≡ colourWindowCall f t l h w old
+  colour-mosaic e =
+      let s : run f (colourFor (q .file .picture)) ≡ refused 15 0 = simp (ne-eqb _ 3 (λ b. e (samples-is ∙ b)), pick-no, run-answer) in
+      sym (ap (colouredOf f t l h w old (q .file)) s) ∙ ap (colourWindowOf f t l h w old) (q .accepted)
