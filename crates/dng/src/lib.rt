@@ -1,7 +1,7 @@
-// The C interface. So far: card.
+// The C interface: each function is the call of the same name.
 ghost use mathlib.Core.Path.{_≡_};
-ghost use Rattle.develop.specs.Calls.{cardCall};
-ghost use Rattle.dng.specs.Field.{fieldOf};
+ghost use Rattle.develop.specs.Calls.{cardCall, spotCall, windowCall, colourWindowCall};
+ghost use Rattle.dng.specs.Field.{fieldOf, packedOf};
 use develop::CardAnswer;
 
 // One number of a card.
@@ -35,4 +35,64 @@ pub extern "C" fn dng_card(file: &[u8], which: u32) -> u64
     ensures { λ r. ⌜ r ≡ fieldOf (cardCall (now (file .entry))) which ⌝ }
 {
     field(develop::card(file), which)
+}
+
+// A number and its detail in one: number * 2^32 + detail.
+fn packed(number: usize, detail: usize) -> u64
+    ensures { λ r. ⌜ r ≡ packedOf number detail ⌝ }
+{
+    if number < 0x1_0000_0000 {
+        if detail < 0x1_0000_0000 {
+            return (number * 0x1_0000_0000 + detail) as u64;
+        }
+    }
+    0xFFFF_FFFF_FFFF_FFFF
+}
+
+#[no_mangle]
+pub extern "C" fn dng_window(
+    file: &[u8],
+    top: usize,
+    left: usize,
+    height: usize,
+    width: usize,
+    out: &mut [f64],
+) -> u64
+    ensures { λ r. ⌜ r ≡ packedOf (windowCall (now (file .entry)) top left height width (now (out .entry)) .number) (windowCall (now (file .entry)) top left height width (now (out .entry)) .detail) ⌝ }
+    ensures { λ r. ⌜ now (out .exit) ≡ windowCall (now (file .entry)) top left height width (now (out .entry)) .slice ⌝ }
+{
+    let answer = develop::window(file, top, left, height, width, out);
+    packed(answer.number, answer.detail)
+}
+
+#[no_mangle]
+pub extern "C" fn dng_spot(file: &[u8], row: usize, column: usize, plane: usize) -> u64
+    ensures { λ r. ⌜ r ≡ packedOf (spotCall (now (file .entry)) row column plane .number) (spotCall (now (file .entry)) row column plane .detail) ⌝ }
+{
+    let answer = develop::spot(file, row, column, plane);
+    packed(answer.number, answer.detail)
+}
+
+#[no_mangle]
+pub extern "C" fn dng_spot_value(file: &[u8], row: usize, column: usize, plane: usize) -> f64
+    ensures { λ r. ⌜ r ≡ spotCall (now (file .entry)) row column plane .value ⌝ }
+{
+    let answer = develop::spot(file, row, column, plane);
+    answer.value
+}
+
+#[no_mangle]
+pub extern "C" fn dng_colour_window(
+    file: &[u8],
+    top: usize,
+    left: usize,
+    height: usize,
+    width: usize,
+    out: &mut [f64],
+) -> u64
+    ensures { λ r. ⌜ r ≡ packedOf (colourWindowCall (now (file .entry)) top left height width (now (out .entry)) .number) (colourWindowCall (now (file .entry)) top left height width (now (out .entry)) .detail) ⌝ }
+    ensures { λ r. ⌜ now (out .exit) ≡ colourWindowCall (now (file .entry)) top left height width (now (out .entry)) .slice ⌝ }
+{
+    let answer = develop::colour_window(file, top, left, height, width, out);
+    packed(answer.number, answer.detail)
 }

@@ -1,0 +1,24 @@
+use mathlib.Core.Path.{_≡_, refl, sym, ap, _∙_}
+use Prim.Native.Nat.{ℕ}
+use native.Mathlib.Omega.{arith}
+use denote.Ref.{now}
+use Rattle.develop.specs.declared.SpotAnswer.{SpotAnswer}
+use Rattle.dng.specs.Field.{packedOf}
+use borrow.Author.Needs.{needs}
+use Rattle.dng.proofs.dng_spot.Statement.{statement}
+use Rattle.dng.proofs.dng_spot.Tie as tie
+
+both : {n d m e : ℕ} → n ≡ m → d ≡ e → packedOf n d ≡ packedOf m e
+both {n} {d} {m} {e} a b = ap (λ (k : ℕ). packedOf k d) a ∙ ap (packedOf m) b
+
+spot-requires : tie.Need-spot-requires
+spot-requires c κs = search needs
+
+packed-requires : tie.Need-packed-requires
+packed-requires c κs = search needs
+
+returns : tie.Need-returns
+returns c = c .packed .ensures ∙ both (ap (λ (s : SpotAnswer). s .number) (c .before .spot .ensures)) (ap (λ (s : SpotAnswer). s .detail) (c .before .spot .ensures))
+
+pub dng-spot-spec : {M : Type 1} → statement M
+dng-spot-spec = tie.close (tie.spec spot-requires packed-requires returns)

@@ -1,0 +1,27 @@
+use mathlib.Core.Path.{_≡_, refl, sym, ap, _∙_}
+use Prim.Native.Nat.{ℕ}
+use native.Mathlib.Omega.{arith}
+use denote.Ref.{now}
+use Rattle.develop.specs.Calls.{Window}
+use Rattle.dng.specs.Field.{packedOf}
+use borrow.Author.Needs.{needs}
+use Rattle.dng.proofs.dng_window.Statement.{statement}
+use Rattle.dng.proofs.dng_window.Tie as tie
+
+both : {n d m e : ℕ} → n ≡ m → d ≡ e → packedOf n d ≡ packedOf m e
+both {n} {d} {m} {e} a b = ap (λ (k : ℕ). packedOf k d) a ∙ ap (packedOf m) b
+
+window-requires : tie.Need-window-requires
+window-requires c κs = search needs
+
+packed-requires : tie.Need-packed-requires
+packed-requires c κs = search needs
+
+same-length : tie.Need-same-length
+same-length c = search needs
+
+returns : tie.Need-returns
+returns c = let e = c .before .before .before .window .ensures in (c .packed .ensures ∙ both (ap (λ (s : Window). s .number) e) (ap (λ (s : Window). s .detail) e), ap (λ (s : Window). s .slice) e)
+
+pub dng-window-spec : {M : Type 1} → statement M
+dng-window-spec = tie.close (tie.spec window-requires packed-requires same-length returns)
