@@ -1,5 +1,6 @@
 // The scaled values of a part of a row.
 ghost use mathlib.Core.Path.{_≡_};
+ghost use mathlib.Core.Bool.{true};
 ghost use Prim.Native.Nat.{ℕ, _+_, _-_, _*_, _/_, _%_, _≤_, _<_};
 ghost use lib.IntN.{pos, natAbs};
 ghost use lib.Ieee.{Float};
@@ -80,6 +81,85 @@ fn scaled_line(
     }
 }
 
+fn plain(bytes: usize, step: usize, count: usize, n: usize) -> bool
+    ensures { λ r. ⌜ (r ≡ true → (bytes ≡ 2) × (step ≡ 2) × (count ≡ 0) × (n ≡ 1)) ⌝ }
+{
+    if bytes == 2 {
+        if step == 2 {
+            return count == 0 && n == 1;
+        }
+    }
+    false
+}
+
+// The same of any part; where samples are SHORTs of a mosaic with no table and no column deltas, literals give the compiler
+// a loop without these tests.
+fn scaled_line_of(
+    file: &[u8],
+    order: Order,
+    bytes: usize,
+    at: usize,
+    step: usize,
+    table: usize,
+    count: usize,
+    cells: [i64; 8],
+    deltas: &[i64],
+    down: i64,
+    span: i64,
+    period: usize,
+    l: usize,
+    out: &mut [f64],
+    plane: usize,
+    n: usize,
+)
+    requires { ⌜ ((m : ℕ) → plane + n * m < length (now out) → at + step * m + bytes ≤ length (now file)) ⌝ }
+    requires { ⌜ (1 ≤ bytes) × (bytes ≤ 2) × (step ≤ 6) × (table + 2 * count ≤ length (now file)) × (1 ≤ period) × (period ≤ 8) × (l < 0x1_0000_0000) × (1 ≤ n) × (n ≤ 3) ⌝ }
+    requires { ⌜ Small cells × Small (now deltas) × (natAbs down ≤ 16776960) × (natAbs span < 0x1_0000_0000) ⌝ }
+    ensures { λ _. ⌜ now (out .exit) ≡ sweptOf plane (length (now (out .entry))) n (λ (j : ℕ) (x : Float). lineValue (now (file .entry)) order bytes at step (tableOf order (now (file .entry)) table count) cells (now (deltas .entry)) down span period l ((j - plane) / n)) (now (out .entry)) ⌝ }
+{
+    if plain(bytes, step, count, n) {
+        if deltas.len() == 0 {
+            scaled_line(
+                file,
+                order,
+                2,
+                at,
+                2,
+                table,
+                0,
+                cells,
+                deltas,
+                down,
+                span,
+                period,
+                l,
+                out,
+                plane,
+                1,
+            );
+            return;
+        }
+    }
+    scaled_line(
+        file,
+        order,
+        bytes,
+        at,
+        step,
+        table,
+        count,
+        cells,
+        deltas,
+        down,
+        span,
+        period,
+        l,
+        out,
+        plane,
+        n,
+    );
+}
+
 // The first cells of a plane in an active row.
 fn fill_cells(
     file: &[u8],
@@ -143,7 +223,7 @@ fn scaled_plane(
     let span = sample::span_at(spans, plane);
     let mut cells = [0; 8];
     fill_cells(file, order, tags, row, plane, columns, &mut cells);
-    scaled_line(
+    scaled_line_of(
         file,
         order,
         bytes,

@@ -38,18 +38,16 @@ slice-aggregate-fill-cells c = search needs
 fill-cells-requires : tie.Need-fill-cells-requires
 fill-cells-requires c κs = (c .before .before .before .before .before .before .before .before .before .before .before .before .before .pre .0 .0 .tags, c .before .before .before .before .before .before .before .before .before .before .before .before .before .pre .0 .2, c .before .before .before .before .before .before .before .before .before .before .before .before .before .pre .0 .0 .tags .levels .repeat .columns, zeros-small 8)
 
-mul-scaled-line : tie.Need-mul-scaled-line
-mul-scaled-line c = let a = mul-le-mul (c .before .before .before .before .before .before .before .before .before .before .before .before .before .before .before .pre .0 .0 .tags .frame .samples) (c .before .before .before .before .before .before .before .before .before .before .before .before .before .before .before .pre .0 .0 .tags .layout .bytes) in omega (arith, a)
+mul-scaled-line-of : tie.Need-mul-scaled-line-of
+mul-scaled-line-of c = let a = mul-le-mul (c .before .before .before .before .before .before .before .before .before .before .before .before .before .before .before .pre .0 .0 .tags .frame .samples) (c .before .before .before .before .before .before .before .before .before .before .before .before .before .before .before .pre .0 .0 .tags .layout .bytes) in omega (arith, a)
 
-scaled-line-requires : tie.Need-scaled-line-requires
-scaled-line-requires c κs =
+scaled-line-of-requires : tie.Need-scaled-line-of-requires
+scaled-line-of-requires c κs =
     let l = c .before .before .before .before .before .before .before .before .before .before .before .before .before .before .before .before .pre .0 .0 .tags .layout in
     let a = mul-le-mul (c .before .before .before .before .before .before .before .before .before .before .before .before .before .before .before .before .pre .0 .0 .tags .frame .samples) (l .bytes) in (
       λ m b. line-inside (now (c .before .before .before .before .before .before .before .before .before .before .before .before .before .before .before .before .args .file)) (c .before .before .before .before .before .before .before .before .before .before .before .before .before .before .before .before .args .order) (c .before .before .before .before .before .before .before .before .before .before .before .before .before .before .before .before .args .raw .tags) (c .before .before .before .before .before .before .before .before .before .before .before .before .before .before .before .before .pre .0 .0 .tags) (c .before .before .before .before .before .before .before .before .before .before .before .before .before .before .before .before .args .row .0) (c .before .before .before .before .before .before .before .before .before .before .before .before .before .before .before .before .args .plane) (c .before .before .before .before .before .before .before .before .before .before .before .before .before .before .before .before .args .column .0) (c .before .before .before .before .before .before .before .before .before .before .before .before .before .before .before .before .pre .0 .1) (c .before .before .before .before .before .before .before .before .before .before .before .before .before .before .before .before .pre .0 .2) m (wide-at (c .before .before .before .before .before .before .before .before .before .before .before .before .before .before .before .before .args .raw .tags) (c .before .before .before .before .before .before .before .before .before .before .before .before .before .before .before .before .args .column .0) _ (c .before .before .before .before .before .before .before .before .before .before .before .before .before .before .before .before .args .plane) m (c .before .before .before .before .before .before .before .before .before .before .before .before .before .before .before .before .pre .1 .0) (c .before .before .before .before .before .before .before .before .before .before .before .before .before .before .before .before .pre .0 .2) b) _ (c .before .before .before .before .before .before .place-of .ensures .0 ∙ ap (λ (x : ℕ). placeOf (c .before .before .before .before .before .before .before .before .before .before .before .before .before .before .before .before .args .raw .tags) (run (now (c .before .before .before .before .before .before .before .before .before .before .before .before .before .before .before .before .args .file)) (numbersReading (c .before .before .before .before .before .before .before .before .before .before .before .before .before .before .before .before .args .order) (c .before .before .before .before .before .before .before .before .before .before .before .before .before .before .before .before .args .raw .tags .strips))) x (c .before .before .before .before .before .before .before .stored-column .result .0) (c .before .before .before .before .before .before .before .before .before .before .before .before .before .before .before .before .args .plane)) (c .before .before .before .before .before .before .before .before .stored-row .ensures) ∙ ap (λ (x : ℕ). placeOf (c .before .before .before .before .before .before .before .before .before .before .before .before .before .before .before .before .args .raw .tags) (run (now (c .before .before .before .before .before .before .before .before .before .before .before .before .before .before .before .before .args .file)) (numbersReading (c .before .before .before .before .before .before .before .before .before .before .before .before .before .before .before .before .args .order) (c .before .before .before .before .before .before .before .before .before .before .before .before .before .before .before .before .args .raw .tags .strips))) (c .before .before .before .before .before .before .before .before .before .before .before .before .before .before .before .before .args .raw .tags .area .top + c .before .before .before .before .before .before .before .before .before .before .before .before .before .before .before .before .args .row .0) x (c .before .before .before .before .before .before .before .before .before .before .before .before .before .before .before .before .args .plane)) (c .before .before .before .before .before .before .before .stored-column .ensures)),
-      (
-        (l .some-bytes, l .bytes, omega (arith, a), table-inside (now (c .before .before .before .before .before .before .before .before .before .before .before .before .before .before .before .before .args .file)) (c .before .before .before .before .before .before .before .before .before .before .before .before .before .before .before .before .args .order) (c .before .before .before .before .before .before .before .before .before .before .before .before .before .before .before .before .args .raw .tags) (c .before .before .before .before .before .before .before .before .before .before .before .before .before .before .before .before .pre .0 .0 .tags), c .before .before .before .before .before .before .before .before .before .before .before .before .before .before .before .before .pre .0 .0 .tags .levels .repeat .some-columns, c .before .before .before .before .before .before .before .before .before .before .before .before .before .before .before .before .pre .0 .0 .tags .levels .repeat .columns, omega (arith, c .before .before .before .before .before .before .before .before .before .before .before .before .before .before .before .before .pre .0 .3, c .before .before .before .before .before .before .before .before .before .before .before .before .before .before .before .before .pre .0 .0 .tags .area .right, c .before .before .before .before .before .before .before .before .before .before .before .before .before .before .before .before .pre .0 .0 .tags .frame .columns), omega (arith, c .before .before .before .before .before .before .before .before .before .before .before .before .before .before .before .before .pre .0 .2), c .before .before .before .before .before .before .before .before .before .before .before .before .before .before .before .before .pre .0 .0 .tags .frame .samples),
-        (c .before .before .fill-cells .ensures .1, c .before .before .before .before .before .before .before .before .before .before .before .before .before .before .before .before .pre .1 .1 .small, rw (back (c .before .before .before .before .before .delta-at .result) (omega (arith, c .before .before .before .before .before .delta-at .ensures .1))) (c .before .before .before .before .before .delta-at .ensures .1), rw (back (c .before .before .before .before .span-at .result) (rw (c .before .before .before .before .span-at .ensures) (span-small (c .before .before .before .before .before .before .before .before .before .before .before .before .before .before .before .before .args .raw .spans) (c .before .before .before .before .before .before .before .before .before .before .before .before .before .before .before .before .pre .0 .0 .spans) (c .before .before .before .before .before .before .before .before .before .before .before .before .before .before .before .before .args .plane)))) (rw (c .before .before .before .before .span-at .ensures) (span-small (c .before .before .before .before .before .before .before .before .before .before .before .before .before .before .before .before .args .raw .spans) (c .before .before .before .before .before .before .before .before .before .before .before .before .before .before .before .before .pre .0 .0 .spans) (c .before .before .before .before .before .before .before .before .before .before .before .before .before .before .before .before .args .plane)))),
-      ),
+      ((l .some-bytes, l .bytes, omega (arith, a), table-inside (now (c .before .before .before .before .before .before .before .before .before .before .before .before .before .before .before .before .args .file)) (c .before .before .before .before .before .before .before .before .before .before .before .before .before .before .before .before .args .order) (c .before .before .before .before .before .before .before .before .before .before .before .before .before .before .before .before .args .raw .tags) (c .before .before .before .before .before .before .before .before .before .before .before .before .before .before .before .before .pre .0 .0 .tags), c .before .before .before .before .before .before .before .before .before .before .before .before .before .before .before .before .pre .0 .0 .tags .levels .repeat .some-columns, c .before .before .before .before .before .before .before .before .before .before .before .before .before .before .before .before .pre .0 .0 .tags .levels .repeat .columns, omega (arith, c .before .before .before .before .before .before .before .before .before .before .before .before .before .before .before .before .pre .0 .3, c .before .before .before .before .before .before .before .before .before .before .before .before .before .before .before .before .pre .0 .0 .tags .area .right, c .before .before .before .before .before .before .before .before .before .before .before .before .before .before .before .before .pre .0 .0 .tags .frame .columns), omega (arith, c .before .before .before .before .before .before .before .before .before .before .before .before .before .before .before .before .pre .0 .2), c .before .before .before .before .before .before .before .before .before .before .before .before .before .before .before .before .pre .0 .0 .tags .frame .samples),
+      (c .before .before .fill-cells .ensures .1, c .before .before .before .before .before .before .before .before .before .before .before .before .before .before .before .before .pre .1 .1 .small, rw (back (c .before .before .before .before .before .delta-at .result) (omega (arith, c .before .before .before .before .before .delta-at .ensures .1))) (c .before .before .before .before .before .delta-at .ensures .1), rw (back (c .before .before .before .before .span-at .result) (rw (c .before .before .before .before .span-at .ensures) (span-small (c .before .before .before .before .before .before .before .before .before .before .before .before .before .before .before .before .args .raw .spans) (c .before .before .before .before .before .before .before .before .before .before .before .before .before .before .before .before .pre .0 .0 .spans) (c .before .before .before .before .before .before .before .before .before .before .before .before .before .before .before .before .args .plane)))) (rw (c .before .before .before .before .span-at .ensures) (span-small (c .before .before .before .before .before .before .before .before .before .before .before .before .before .before .before .before .args .raw .spans) (c .before .before .before .before .before .before .before .before .before .before .before .before .before .before .before .before .pre .0 .0 .spans) (c .before .before .before .before .before .before .before .before .before .before .before .before .before .before .before .before .args .plane))))),
     )
 
 same-length : tie.Need-same-length
@@ -58,7 +56,7 @@ same-length c = search needs
 returns : tie.Need-returns
 returns c =
     plane-is (now (c .before .before .before .before .before .before .before .before .before .before .before .before .before .before .before .before .before .before .before .args .file)) (c .before .before .before .before .before .before .before .before .before .before .before .before .before .before .before .before .before .before .before .args .order) (c .before .before .before .before .before .before .before .before .before .before .before .before .before .before .before .before .before .before .before .args .raw .tags) (c .before .before .before .before .before .before .before .before .before .before .before .before .before .before .before .before .before .before .before .pre .0 .0 .tags) (c .before .before .before .before .before .before .before .before .before .before .before .before .before .before .before .before .before .before .before .args .row .0) (c .before .before .before .before .before .before .before .before .before .before .before .before .before .before .before .before .before .before .before .args .plane) (c .before .before .before .before .before .before .before .before .before .before .before .before .before .before .before .before .before .before .before .args .column .0) (c .before .before .before .before .before .before .before .before .before .before .before .before .before .before .before .before .before .before .before .pre .0 .1) (c .before .before .before .before .before .before .before .before .before .before .before .before .before .before .before .before .before .before .before .pre .0 .2) _ _ _ _ (now (c .before .before .before .before .before .before .before .before .before .before .before .before .before .before .before .before .before .before .before .args .deltas)) _ _ (now (c .before .before .before .before .before .before .before .before .before .before .before .before .before .before .before .before .before .before .before .args .out)) _ (c .before .before .before .before .before .before .before .before .before .place-of .ensures .0 ∙ ap (λ (x : ℕ). placeOf (c .before .before .before .before .before .before .before .before .before .before .before .before .before .before .before .before .before .before .before .args .raw .tags) (run (now (c .before .before .before .before .before .before .before .before .before .before .before .before .before .before .before .before .before .before .before .args .file)) (numbersReading (c .before .before .before .before .before .before .before .before .before .before .before .before .before .before .before .before .before .before .before .args .order) (c .before .before .before .before .before .before .before .before .before .before .before .before .before .before .before .before .before .before .before .args .raw .tags .strips))) x (c .before .before .before .before .before .before .before .before .before .before .stored-column .result .0) (c .before .before .before .before .before .before .before .before .before .before .before .before .before .before .before .before .before .before .before .args .plane)) (c .before .before .before .before .before .before .before .before .before .before .before .stored-row .ensures) ∙ ap (λ (x : ℕ). placeOf (c .before .before .before .before .before .before .before .before .before .before .before .before .before .before .before .before .before .before .before .args .raw .tags) (run (now (c .before .before .before .before .before .before .before .before .before .before .before .before .before .before .before .before .before .before .before .args .file)) (numbersReading (c .before .before .before .before .before .before .before .before .before .before .before .before .before .before .before .before .before .before .before .args .order) (c .before .before .before .before .before .before .before .before .before .before .before .before .before .before .before .before .before .before .before .args .raw .tags .strips))) (c .before .before .before .before .before .before .before .before .before .before .before .before .before .before .before .before .before .before .before .args .raw .tags .area .top + c .before .before .before .before .before .before .before .before .before .before .before .before .before .before .before .before .before .before .before .args .row .0) x (c .before .before .before .before .before .before .before .before .before .before .before .before .before .before .before .before .before .before .before .args .plane)) (c .before .before .before .before .before .before .before .before .before .before .stored-column .ensures)) refl refl (c .before .before .before .before .before .before .before .before .before .before .before .before .before .before .before .before .before .before .before .pre .0 .0 .tags .levels .repeat .some-columns) (c .before .before .before .before .before .fill-cells .ensures .0) (c .before .before .before .before .before .before .before .before .before .before .before .before .before .before .before .before .before .before .before .pre .1 .1) ((back (c .before .before .before .before .before .before .before .before .delta-at .result) (omega (arith, c .before .before .before .before .before .before .before .before .delta-at .ensures .1))) ∙ c .before .before .before .before .before .before .before .before .delta-at .ensures .0)
-    ((back (c .before .before .before .before .before .before .before .span-at .result) (rw (c .before .before .before .before .before .before .before .span-at .ensures) (span-small (c .before .before .before .before .before .before .before .before .before .before .before .before .before .before .before .before .before .before .before .args .raw .spans) (c .before .before .before .before .before .before .before .before .before .before .before .before .before .before .before .before .before .before .before .pre .0 .0 .spans) (c .before .before .before .before .before .before .before .before .before .before .before .before .before .before .before .before .before .before .before .args .plane)))) ∙ c .before .before .before .before .before .before .before .span-at .ensures ∙ span-in (now (c .before .before .before .before .before .before .before .before .before .before .before .before .before .before .before .before .before .before .before .args .file)) (c .before .before .before .before .before .before .before .before .before .before .before .before .before .before .before .before .before .before .before .args .order) (c .before .before .before .before .before .before .before .before .before .before .before .before .before .before .before .before .before .before .before .args .raw) (c .before .before .before .before .before .before .before .before .before .before .before .before .before .before .before .before .before .before .before .pre .0 .0) (c .before .before .before .before .before .before .before .before .before .before .before .before .before .before .before .before .before .before .before .args .plane) (c .before .before .before .before .before .before .before .before .before .before .before .before .before .before .before .before .before .before .before .pre .0 .2)) (c .before .before .before .before .before .before .before .before .before .before .before .before .before .before .before .before .before .before .before .pre .1 .0) (c .before .before .scaled-line .ensures)
+    ((back (c .before .before .before .before .before .before .before .span-at .result) (rw (c .before .before .before .before .before .before .before .span-at .ensures) (span-small (c .before .before .before .before .before .before .before .before .before .before .before .before .before .before .before .before .before .before .before .args .raw .spans) (c .before .before .before .before .before .before .before .before .before .before .before .before .before .before .before .before .before .before .before .pre .0 .0 .spans) (c .before .before .before .before .before .before .before .before .before .before .before .before .before .before .before .before .before .before .before .args .plane)))) ∙ c .before .before .before .before .before .before .before .span-at .ensures ∙ span-in (now (c .before .before .before .before .before .before .before .before .before .before .before .before .before .before .before .before .before .before .before .args .file)) (c .before .before .before .before .before .before .before .before .before .before .before .before .before .before .before .before .before .before .before .args .order) (c .before .before .before .before .before .before .before .before .before .before .before .before .before .before .before .before .before .before .before .args .raw) (c .before .before .before .before .before .before .before .before .before .before .before .before .before .before .before .before .before .before .before .pre .0 .0) (c .before .before .before .before .before .before .before .before .before .before .before .before .before .before .before .before .before .before .before .args .plane) (c .before .before .before .before .before .before .before .before .before .before .before .before .before .before .before .before .before .before .before .pre .0 .2)) (c .before .before .before .before .before .before .before .before .before .before .before .before .before .before .before .before .before .before .before .pre .1 .0) (c .before .before .scaled-line-of .ensures)
 
 pub scaled-plane-spec : {M : Type 1} → statement M
-scaled-plane-spec = tie.close (tie.spec stored-row-requires stored-column-requires place-of-requires delta-at-requires span-at-requires slice-aggregate-fill-cells fill-cells-requires mul-scaled-line scaled-line-requires same-length returns)
+scaled-plane-spec = tie.close (tie.spec stored-row-requires stored-column-requires place-of-requires delta-at-requires span-at-requires slice-aggregate-fill-cells fill-cells-requires mul-scaled-line-of scaled-line-of-requires same-length returns)
