@@ -9,3 +9,4 @@ pub mod Listing
 pub mod Unread
 pub mod Swaps
 pub mod StepLaws
+pub mod Clips

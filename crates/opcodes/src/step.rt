@@ -22,12 +22,8 @@ pub enum Step {
 pub fn clip(x: f64) -> f64
     ensures { λ r. ⌜ r ≡ clipOf x ⌝ }
 {
-    if 0.0 < x {
-        if x < 1.0 {
-            return x;
-        }
-    }
-    if 1.0 <= x { 1.0 } else { 0.0 }
+    let y = if 0.0 < x { x } else { 0.0 };
+    if y < 1.0 { y } else { 1.0 }
 }
 
 // The index into a table, or 65535 where it is above.
