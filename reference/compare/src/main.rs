@@ -84,6 +84,12 @@ fn main() -> ExitCode {
         eprintln!("usage: compare SEED COUNT");
         return ExitCode::FAILURE;
     };
+    // Every call uses at most this much stack: a call that went over it would end the program.
+    let all = std::thread::Builder::new().stack_size(512 * 1024).spawn(move || compare(seed, count));
+    all.expect("a thread starts").join().unwrap_or(ExitCode::FAILURE)
+}
+
+fn compare(seed: u64, count: u64) -> ExitCode {
     let (generated, kinds) = generated(seed, count);
     report(&format!("generated, seed {seed}"), &generated);
     println!("accepted files of each kind:");
