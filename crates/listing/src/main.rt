@@ -1,0 +1,223 @@
+// Document 01's example 11: reads a file from standard input and prints its frame or its refusal.
+ghost use mathlib.Core.Path.{_≡_};
+ghost use mathlib.Core.Bool.{not};
+ghost use mathlib.Core.List.{_∷_, _++_};
+ghost use Prim.Native.Nat.{_+_, _*_, _≤_, _<_};
+ghost use lib.Dec.{T};
+ghost use lib.Ieee.{isNan};
+ghost use lib.ListN.{length, take};
+ghost use Rattle.rows.specs.Part.{Units, Sized-in};
+ghost use Rattle.listing.specs.Text.{decimalOf, valueText, valuesText, refusedText, frameText, listedOf, bodyText};
+ghost use Rattle.listing.specs.Body.{Puts, linesText, Listed, Headed};
+use develop::Opening;
+use libc::STDIN_FILENO;
+use libc::STDOUT_FILENO;
+use opcodes::grid::Size;
+
+// Puts a word behind the first `at` bytes of a text, and answers where it ends.
+fn put(text: &mut [u8], at: usize, word: &[u8]) -> usize
+    requires { ⌜ at + length (now word) ≤ length (now text) ⌝ }
+    ensures { λ r. ⌜ Puts (now (text .entry)) at (now (word .entry)) (now (text .exit)) r ⌝ }
+{
+    let mut i = 0;
+    while i < word.len() {
+        text[at + i] = word[i];
+        i += 1;
+    }
+    at + i
+}
+
+// A space and a number.
+fn put_number(text: &mut [u8], at: usize, n: usize) -> usize
+    requires { ⌜ at + 21 ≤ length (now text) ⌝ }
+    ensures { λ r. ⌜ Puts (now (text .entry)) at (32 ∷ decimalOf n) (now (text .exit)) r ⌝ }
+    ensures { λ r. ⌜ r ≤ at + 21 ⌝ }
+{
+    let mut digits = [0u8; 20];
+    let k = io::decimal(n as u64, &mut digits);
+    let end = put(text, at, b" ");
+    put(text, end, &digits[..k])
+}
+
+fn put_value(text: &mut [u8], at: usize, x: f64) -> usize
+    requires { ⌜ (at + 16 ≤ length (now text)) × T (not (isNan x)) ⌝ }
+    ensures { λ r. ⌜ Puts (now (text .entry)) at (valueText x) (now (text .exit)) r ⌝ }
+{
+    let mut digits = [0u8; 16];
+    let k = io::hex(f64::to_bits(x), 16, &mut digits);
+    put(text, at, &digits[..k])
+}
+
+// A line of values.
+fn put_line(text: &mut [u8], at: usize, values: &[f64]) -> usize
+    requires { ⌜ (1 ≤ length (now values)) × (at + 17 * length (now values) ≤ length (now text)) × Units (now values) ⌝ }
+    ensures { λ r. ⌜ Puts (now (text .entry)) at (valuesText (now (values .entry))) (now (text .exit)) r ⌝ }
+{
+    let mut end = put_value(text, at, values[0]);
+    let mut i = 1;
+    while i < values.len() {
+        let next = put(text, end, b" ");
+        end = put_value(text, next, values[i]);
+        i += 1;
+    }
+    put(text, end, b"\n")
+}
+
+// Lines of as many values as the frame's rows have, one after another.
+fn put_lines(text: &mut [u8], values: &[f64], height: usize, width: usize) -> usize
+    requires { ⌜ (1 ≤ width) × (length (now values) ≡ height * width) × (17 * length (now values) ≤ length (now text)) × Units (now values) ⌝ }
+    ensures { λ r. ⌜ (r ≤ length (now (text .exit))) × (take r (now (text .exit)) ≡ linesText width height (now (values .entry))) ⌝ }
+{
+    let mut i = 0;
+    let mut a = 0;
+    let mut end = 0;
+    while i < height {
+        let e = a + width;
+        end = put_line(text, end, &values[a..e]);
+        a = e;
+        i += 1;
+    }
+    end
+}
+
+fn put_refusal(text: &mut [u8], number: usize, detail: usize) -> usize
+    requires { ⌜ 128 ≤ length (now text) ⌝ }
+    ensures { λ r. ⌜ (r ≤ length (now (text .exit))) × (take r (now (text .exit)) ≡ refusedText number detail) ⌝ }
+{
+    let a = put(text, 0, b"refused");
+    let b = put_number(text, a, number);
+    let c = put_number(text, b, detail);
+    put(text, c, b"\n")
+}
+
+fn put_size(text: &mut [u8], size: Size) -> usize
+    requires { ⌜ 128 ≤ length (now text) ⌝ }
+    ensures { λ r. ⌜ (r ≤ length (now (text .exit))) × (take r (now (text .exit)) ≡ frameText size) ⌝ }
+{
+    let a = put(text, 0, b"frame");
+    let b = put_number(text, a, size.rows);
+    let c = put_number(text, b, size.columns);
+    let d = put_number(text, c, size.samples);
+    put(text, d, b"\n")
+}
+
+// A text's length, and the size of the frame whose rows follow it.
+struct First {
+    length: usize,
+    size: Size,
+}
+
+fn refused(text: &mut [u8], number: usize, detail: usize) -> First
+    requires { ⌜ 128 ≤ length (now text) ⌝ }
+    ensures { λ r. ⌜ (r .length ≤ length (now (text .exit))) × (take (r .length) (now (text .exit)) ≡ refusedText number detail) × (r .size .rows ≡ 0) ⌝ }
+{
+    First {
+        length: put_refusal(text, number, detail),
+        size: Size {
+            rows: 0,
+            columns: 0,
+            samples: 0,
+        },
+    }
+}
+
+// The first line of a file's listing.
+fn put_first(text: &mut [u8], file: &[u8]) -> First
+    requires { ⌜ 128 ≤ length (now text) ⌝ }
+    ensures { λ r. ⌜ Headed (now (file .entry)) r (now (text .exit)) ⌝ }
+{
+    if file.len() > 65536 {
+        return refused(text, 1, 0);
+    }
+    match develop::open(file) {
+        Opening::Refused { number, detail } => refused(text, number, detail),
+        Opening::Is(view) => {
+            let size = view.size;
+            First {
+                length: put_size(text, size),
+                size,
+            }
+        }
+    }
+}
+
+// How many rows from `top` on fit in a block.
+fn block(size: Size, top: usize) -> usize
+    requires { ⌜ Sized-in size × (1 ≤ size .columns) × (top < size .rows) ⌝ }
+    ensures { λ r. ⌜ (1 ≤ r) × (top + r ≤ size .rows) × (r * (size .columns * size .samples) ≤ 49152) ⌝ }
+{
+    let most = 49152 / (size.columns * size.samples);
+    let left = size.rows - top;
+    if left < most { left } else { most }
+}
+
+// The lines of `height` rows from `top` on, through their developed values.
+fn put_rows(
+    text: &mut [u8],
+    values: &mut [f64],
+    file: &[u8],
+    size: Size,
+    top: usize,
+    height: usize,
+) -> usize
+    requires { ⌜ (835584 ≤ length (now text)) × (49152 ≤ length (now values)) × Listed (now file) size ⌝ }
+    requires { ⌜ (1 ≤ height) × (top + height ≤ size .rows) × (height * (size .columns * size .samples) ≤ 49152) ⌝ }
+    ensures { λ r. ⌜ r ≤ length (now (text .exit)) ⌝ }
+    ensures { λ r. ⌜ take r (now (text .exit)) ++ bodyText (now (file .entry)) (top + height) (listedOf (now (file .entry))) ≡ bodyText (now (file .entry)) top (listedOf (now (file .entry))) ⌝ }
+{
+    let width = size.columns * size.samples;
+    let m = height * width;
+    develop::window(file, top, 0, height, size.columns, &mut values[..m]);
+    put_lines(text, &values[..m], height, width)
+}
+
+// Prints the rows, a block at a time. A write that fails ends the listing.
+fn print_rows(text: &mut [u8], values: &mut [f64], file: &[u8], size: Size)
+    requires { ⌜ (835584 ≤ length (now text)) × (49152 ≤ length (now values)) × (1 ≤ size .rows → Listed (now file) size) ⌝ }
+{
+    let mut top = 0;
+    while top < size.rows {
+        let height = block(size, top);
+        let n = put_rows(text, values, file, size, top, height);
+        if !io::write_all(STDOUT_FILENO, &text[..n]) {
+            return;
+        }
+        top += height;
+    }
+}
+
+// A block's values: at least one row of the widest frame, 16,384 columns of three samples.
+fn value_space() -> [f64; 49152]
+    ensures { λ r. ⌜ 49152 ≡ length r ⌝ }
+{
+    [0.0; 49152]
+}
+
+// A block's text, 17 bytes to a value.
+fn text_space() -> [u8; 835584]
+    ensures { λ r. ⌜ 835584 ≡ length r ⌝ }
+{
+    [0; 835584]
+}
+
+// A file, and one byte more than is listed.
+fn file_space() -> [u8; 65537]
+    ensures { λ r. ⌜ 65537 ≡ length r ⌝ }
+{
+    [0; 65537]
+}
+
+fn list(file: &[u8]) {
+    let mut values = value_space();
+    let mut text = text_space();
+    let first = put_first(&mut text, file);
+    if io::write_all(STDOUT_FILENO, &text[..first.length]) {
+        print_rows(&mut text, &mut values, file, first.size);
+    }
+}
+
+fn main() {
+    let mut file = file_space();
+    let n = io::read_full(STDIN_FILENO, &mut file);
+    list(&file[..n]);
+}
