@@ -2,14 +2,14 @@
 -- Assumes nothing.
 use mathlib.Core.Path.{_≡_, refl, sym, ap, _∙_}
 use mathlib.Core.List.{List, [], _∷_, _++_, map, append-nil, append-assoc}
-use Prim.Native.Nat.{ℕ, zero, suc, _+_, _-_, _*_, _≤_, _<_}
+use Prim.Native.Nat.{ℕ, suc, _+_, _-_, _*_, _≤_, _<_}
 use native.Mathlib.Nat.{suc-mul, add-mul, one-mul, zero-mul, sub-zero, mul-le-mul-right}
 use native.Mathlib.Omega.{arith}
 use lib.Ieee.{Float, nan}
 use lib.ListN.{length, getD, take, drop, length-append, length-drop, length-take, drop-of-length-le, replicate, length-replicate}
-use lib.Seq.{paste, drop-cons, drop-drop, take-paste, length-paste, take-length, getD-take, getD-drop, length-take-le}
+use lib.Seq.{paste, drop-cons, drop-drop, take-paste, length-paste, take-length, getD-take, getD-drop}
 use Rattle.rows.specs.Part.{Units}
-use Rattle.listing.specs.Text.{valueText, endText, lineText, valuesText}
+use Rattle.listing.specs.Text.{valueText, endText, valuesText}
 use Rattle.listing.specs.Body.{Puts, linesText}
 use Rattle.listing.proofs.Numerals.{value-length}
 

@@ -1,4 +1,8 @@
 // Document 01's example 11: reads a file from standard input and prints its frame or its refusal.
+//
+// The contracts say what text is made, piece by piece: the first line, then a block of rows at a time, each with what is left
+// after it. No contract can say what the operating system reads or writes: `main`, `list` and `print_rows` hand the input to
+// these functions, and each piece to `io::write_all` once, in order.
 ghost use mathlib.Core.Path.{_≡_};
 ghost use mathlib.Core.Bool.{not};
 ghost use mathlib.Core.List.{_∷_, _++_};
@@ -63,7 +67,7 @@ fn put_line(text: &mut [u8], at: usize, values: &[f64]) -> usize
     put(text, end, b"\n")
 }
 
-// Lines of as many values as the frame's rows have, one after another.
+// So many lines of so many values.
 fn put_lines(text: &mut [u8], values: &[f64], height: usize, width: usize) -> usize
     requires { ⌜ (1 ≤ width) × (length (now values) ≡ height * width) × (17 * length (now values) ≤ length (now text)) × Units (now values) ⌝ }
     ensures { λ r. ⌜ (r ≤ length (now (text .exit))) × (take r (now (text .exit)) ≡ linesText width height (now (values .entry))) ⌝ }
@@ -107,6 +111,7 @@ struct First {
     size: Size,
 }
 
+// The whole text of a refused file.
 fn refused(text: &mut [u8], number: usize, detail: usize) -> First
     requires { ⌜ 128 ≤ length (now text) ⌝ }
     ensures { λ r. ⌜ (r .length ≤ length (now (text .exit))) × (take (r .length) (now (text .exit)) ≡ refusedText number detail) × (r .size .rows ≡ 0) ⌝ }
@@ -141,7 +146,7 @@ fn put_first(text: &mut [u8], file: &[u8]) -> First
     }
 }
 
-// How many rows from `top` on fit in a block.
+// How many rows the block has that begins at `top`: as many as fit.
 fn block(size: Size, top: usize) -> usize
     requires { ⌜ Sized-in size × (1 ≤ size .columns) × (top < size .rows) ⌝ }
     ensures { λ r. ⌜ (1 ≤ r) × (top + r ≤ size .rows) × (r * (size .columns * size .samples) ≤ 49152) ⌝ }
@@ -151,7 +156,7 @@ fn block(size: Size, top: usize) -> usize
     if left < most { left } else { most }
 }
 
-// The lines of `height` rows from `top` on, through their developed values.
+// The lines of `height` rows from `top` on: with the lines of the rows after them, they are the lines of all rows from `top` on.
 fn put_rows(
     text: &mut [u8],
     values: &mut [f64],

@@ -6,11 +6,6 @@ use lib.Seq.{length-take-le}
 use borrow.Author.Needs.{needs}
 use Rattle.listing.proofs.print_rows.Statement.{statement}
 use Rattle.listing.proofs.print_rows.Tie as tie
-use Rattle.listing.proofs.print_rows.Reads as reads
-use Rattle.listing.proofs.print_rows.Lts as lts
-use Rattle.io.proofs.write_all.Reads as write-all-reads
-use Rattle.listing.proofs.block.Reads as block-reads
-use Rattle.listing.proofs.put_rows.Reads as put-rows-reads
 
 abbrev Inv-loop : tie.InvT-loop
 Inv-loop text₀ values₀ file size top₀ text values top = (length text ≡ length text₀) × (length values ≡ length values₀)
@@ -18,63 +13,48 @@ Inv-loop text₀ values₀ file size top₀ text values top = (length text ≡ l
 abbrev μ-loop : tie.MeasureT-loop
 μ-loop text₀ values₀ file size top₀ text values top = size .rows - top
 
--- src/main.rt:179:5
 loop-holds : tie.Need-loop-holds Inv-loop μ-loop
 loop-holds c = (refl, refl)
 
--- src/main.rt:180:13
 block-requires : tie.Need-block-requires Inv-loop μ-loop
 block-requires c κs = let q = c .before .before .before .before .before .before .pre .2 (omega (arith, c .if1 .taken)) in (q .sized, q .some-columns, c .if1 .taken)
 
--- src/main.rt:181:13
 put-rows-requires : tie.Need-put-rows-requires Inv-loop μ-loop
 put-rows-requires c κs = ((omega (arith, c .before .before .before .before .before .loop .inv .0, c .before .before .before .before .before .before .before .before .before .pre .0), omega (arith, c .before .before .before .before .before .loop .inv .1, c .before .before .before .before .before .before .before .before .before .pre .1), c .before .before .before .before .before .before .before .before .before .pre .2 (omega (arith, c .before .before .before .if1 .taken))), c .before .before .block .ensures)
 
--- src/main.rt:182:42
 slice-reshare-prefix-write-all : tie.Need-slice-reshare-prefix-write-all Inv-loop μ-loop
 slice-reshare-prefix-write-all c = c .before .before .before .before .put-rows .ensures .0
 
--- src/main.rt:182:42
 slice-aggregate-write-all : tie.Need-slice-aggregate-write-all Inv-loop μ-loop
 slice-aggregate-write-all c = sym (length-take-le _ (c .before .before .before .before .before .put-rows .last .0) (c .before .before .before .before .before .put-rows .ensures .0))
 
--- src/main.rt:182:13
 write-all-requires : tie.Need-write-all-requires Inv-loop μ-loop
 write-all-requires c κs = search needs
 
--- src/main.rt:183:13
 same-length : tie.Need-same-length Inv-loop μ-loop
 same-length c = c .before .before .before .before .before .before .before .put-rows .kept .0 ∙ c .before .before .before .before .before .before .before .before .before .before .before .before .before .loop .inv .0
 
--- src/main.rt:183:13
 same-length-2 : tie.Need-same-length-2 Inv-loop μ-loop
 same-length-2 c = c .before .before .before .before .before .before .before .put-rows .kept .1 .0 ∙ c .before .before .before .before .before .before .before .before .before .before .before .before .before .loop .inv .1
 
--- src/main.rt:183:13
 returns : tie.Need-returns Inv-loop μ-loop
 returns c = search needs
 
--- src/main.rt:185:9
 add-top : tie.Need-add-top Inv-loop μ-loop
 add-top c = let q = c .before .before .before .before .before .before .before .before .before .before .before .before .before .before .before .before .before .pre .2 (omega (arith, c .before .before .before .before .before .before .before .before .before .before .before .if1 .taken)) in omega (arith, c .before .before .before .before .before .before .before .before .before .before .block .ensures .1, q .sized .rows)
 
--- src/main.rt:179:5
 loop-less : tie.Need-loop-less Inv-loop μ-loop
 loop-less c = omega (arith, c .before .before .before .before .before .before .before .before .before .before .block .ensures .0, c .before .before .before .before .before .before .before .before .before .before .block .ensures .1)
 
--- src/main.rt:179:5
 loop-again : tie.Need-loop-again Inv-loop μ-loop
 loop-again c = (c .before .before .before .before .before .before .before .put-rows .kept .0 ∙ c .before .before .before .before .before .before .before .before .before .before .before .before .before .loop .inv .0, c .before .before .before .before .before .before .before .put-rows .kept .1 .0 ∙ c .before .before .before .before .before .before .before .before .before .before .before .before .before .loop .inv .1)
 
--- src/main.rt:175:1
 same-length-3 : tie.Need-same-length-3 Inv-loop μ-loop
 same-length-3 c = c .before .before .loop .inv .0
 
--- src/main.rt:175:1
 same-length-4 : tie.Need-same-length-4 Inv-loop μ-loop
 same-length-4 c = c .before .before .loop .inv .1
 
--- src/main.rt:175:1
 returns-2 : tie.Need-returns-2 Inv-loop μ-loop
 returns-2 c = search needs
 

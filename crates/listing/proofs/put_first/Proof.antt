@@ -5,57 +5,40 @@ use Rattle.listing.proofs.Bodies.{headed-refused, headed-frame, listed-
 use borrow.Author.Needs.{needs}
 use Rattle.listing.proofs.put_first.Statement.{statement}
 use Rattle.listing.proofs.put_first.Tie as tie
-use Rattle.listing.proofs.put_first.Reads as reads
-use Rattle.listing.proofs.put_first.Lts as lts
-use Rattle.develop.proofs.open.Reads as open-reads
-use Rattle.listing.proofs.put_size.Reads as put-size-reads
-use Rattle.listing.proofs.refused.Reads as refused-reads
 
--- src/main.rt:130:9
 refused-requires : tie.Need-refused-requires
 refused-requires c κs = search needs
 
--- src/main.rt:130:9
 same-length : tie.Need-same-length
 same-length c = search needs
 
--- src/main.rt:130:9
 returns : tie.Need-returns
 returns c = headed-refused (now (c .before .before .before .before .before .before .before .args .file)) 1 0 (listed-over (now (c .before .before .before .before .before .before .before .args .file)) (c .before .before .before .before .if1 .taken)) _ _ (c .before .before .refused .ensures)
 
--- src/main.rt:132:11
 open-requires : tie.Need-open-requires
 open-requires c κs = search needs
 
--- src/main.rt:133:28
 enum-known-number : tie.Need-enum-known-number
 enum-known-number c = search needs
 
--- src/main.rt:133:48
 refused-requires-2 : tie.Need-refused-requires-2
 refused-requires-2 c κs = search needs
 
--- src/main.rt:134:21
 enum-known-view : tie.Need-enum-known-view
 enum-known-view c = search needs
 
--- src/main.rt:137:25
 put-size-requires : tie.Need-put-size-requires
 put-size-requires c κs = search needs
 
--- src/main.rt:125:1
 same-length-2 : tie.Need-same-length-2
 same-length-2 c = search needs
 
--- src/main.rt:125:1
 returns-2 : tie.Need-returns-2
 returns-2 c = headed-refused (now (c .before .before .before .before .before .before .before .before .before .before .before .args .file)) _ _ (subst (OpeningIs (now (c .before .before .before .before .before .before .before .before .before .before .before .args .file))) (c .before .before .before .before .before .number .given .1) (c .before .before .before .before .before .before .before .«open» .ensures) ∙ listed-in (now (c .before .before .before .before .before .before .before .before .before .before .before .args .file)) (c .before .before .before .before .before .before .before .before .if1 .left)) _ _ (c .before .before .refused2 .ensures)
 
--- src/main.rt:125:1
 same-length-3 : tie.Need-same-length-3
 same-length-3 c = search needs
 
--- src/main.rt:125:1
 returns-3 : tie.Need-returns-3
 returns-3 c = headed-frame (now (c .before .before .before .before .before .before .before .before .before .before .before .before .args .file)) _ _ (viewed-listed (now (c .before .before .before .before .before .before .before .before .before .before .before .before .args .file)) _ (subst (OpeningIs (now (c .before .before .before .before .before .before .before .before .before .before .before .before .args .file))) (c .before .before .before .before .before .before .view .given .1) (c .before .before .before .before .before .before .before .before .«open» .ensures)) (c .before .before .before .before .before .before .before .before .before .if1 .left)) (c .before .before .put-size .ensures)
 

@@ -1,4 +1,4 @@
-use mathlib.Core.Path.{_≡_, ap, _∙_, subst}
+use mathlib.Core.Path.{_∙_, subst}
 use mathlib.Core.List.{List, _∷_}
 use Prim.Native.Nat.{ℕ, _≤_}
 use native.Mathlib.Omega.{arith}
@@ -10,32 +10,22 @@ use Rattle.listing.proofs.Lines.{puts-two}
 use borrow.Author.Needs.{needs}
 use Rattle.listing.proofs.put_number.Statement.{statement}
 use Rattle.listing.proofs.put_number.Tie as tie
-use Rattle.listing.proofs.put_number.Reads as reads
-use Rattle.listing.proofs.put_number.Lts as lts
-use Rattle.io.proofs.decimal.Reads as decimal-reads
-use Rattle.listing.proofs.put.Reads as put-reads
 
--- src/main.rt:37:9
 decimal-requires : tie.Need-decimal-requires
 decimal-requires c κs = search needs
 
--- src/main.rt:38:29
 slice-aggregate-put : tie.Need-slice-aggregate-put
 slice-aggregate-put c = search needs
 
--- src/main.rt:38:9
 put-requires : tie.Need-put-requires
 put-requires c κs = search needs
 
--- src/main.rt:39:20
 array-share-prefix-digits : tie.Need-array-share-prefix-digits
 array-share-prefix-digits c = search needs
 
--- src/main.rt:39:20
 slice-aggregate-put-2 : tie.Need-slice-aggregate-put-2
 slice-aggregate-put-2 c = search needs
 
--- src/main.rt:39:5
 put-requires-2 : tie.Need-put-requires-2
 put-requires-2 c κs =
     let d = c .before .before .before .before .before .before .before .decimal in
@@ -44,11 +34,9 @@ put-requires-2 c κs =
     let k : d .result ≤ 20 = at-most-20 (d .result) (a .n) (d .ensures .1 .0) (c .before .before .before .before .before .before .before .before .before .before .good .1 .1 .0 .1) in
     omega (arith, k, w .0, w .2, d .ensures .0 .1, c .before .before .before .before .before .before .before .before .before .before .pre)
 
--- src/main.rt:31:1
 same-length : tie.Need-same-length
 same-length c = search needs
 
--- src/main.rt:31:1
 returns : tie.Need-returns
 returns c =
     let d = c .before .before .before .before .before .before .before .before .before .before .decimal in

@@ -5,40 +5,28 @@ use Rattle.listing.proofs.Lines.{puts-two, puts-whole}
 use borrow.Author.Needs.{needs}
 use Rattle.listing.proofs.put_refusal.Statement.{statement}
 use Rattle.listing.proofs.put_refusal.Tie as tie
-use Rattle.listing.proofs.put_refusal.Reads as reads
-use Rattle.listing.proofs.put_refusal.Lts as lts
-use Rattle.listing.proofs.put.Reads as put-reads
-use Rattle.listing.proofs.put_number.Reads as put-number-reads
 
--- src/main.rt:87:26
 slice-aggregate-put : tie.Need-slice-aggregate-put
 slice-aggregate-put c = search needs
 
--- src/main.rt:87:9
 put-requires : tie.Need-put-requires
 put-requires c κs = search needs
 
--- src/main.rt:88:9
 put-number-requires : tie.Need-put-number-requires
 put-number-requires c κs = search needs
 
--- src/main.rt:89:9
 put-number-requires-2 : tie.Need-put-number-requires-2
 put-number-requires-2 c κs = search needs
 
--- src/main.rt:90:18
 slice-aggregate-put-2 : tie.Need-slice-aggregate-put-2
 slice-aggregate-put-2 c = search needs
 
--- src/main.rt:90:5
 put-requires-2 : tie.Need-put-requires-2
 put-requires-2 c κs = search needs
 
--- src/main.rt:83:1
 same-length : tie.Need-same-length
 same-length c = search needs
 
--- src/main.rt:83:1
 returns : tie.Need-returns
 returns c = puts-whole (now (c .before .before .before .before .before .before .before .before .before .before .before .before .before .before .before .before .before .before .before .args .text)) _ (refusedText (c .before .before .before .before .before .before .before .before .before .before .before .before .before .before .before .before .before .before .before .args .number) (c .before .before .before .before .before .before .before .before .before .before .before .before .before .before .before .before .before .before .before .args .detail)) _ (puts-two (now (c .before .before .before .before .before .before .before .before .before .before .before .before .before .before .before .before .before .before .before .args .text)) _ _ refusedWord _ 0 _ _ (c .before .before .before .before .before .before .before .before .before .before .before .before .before .before .before .put .ensures) (puts-two _ _ _ (32 ∷ decimalOf (c .before .before .before .before .before .before .before .before .before .before .before .before .before .before .before .before .before .before .before .args .number)) _ _ _ _ (c .before .before .before .before .before .before .before .before .before .before .before .put-number .ensures .0) (puts-two _ _ _ (32 ∷ decimalOf (c .before .before .before .before .before .before .before .before .before .before .before .before .before .before .before .before .before .before .before .args .detail)) (10 ∷ []) _ _ _ (c .before .before .before .before .before .before .before .put-number2 .ensures .0) (c .before .before .put2 .ensures))))
 

@@ -13,36 +13,25 @@ use Rattle.listing.proofs.Bodies.{width-some, width-most, block-units, 
 use borrow.Author.Needs.{needs}
 use Rattle.listing.proofs.put_rows.Statement.{statement}
 use Rattle.listing.proofs.put_rows.Tie as tie
-use Rattle.listing.proofs.put_rows.Reads as reads
-use Rattle.listing.proofs.put_rows.Lts as lts
-use Rattle.develop.proofs.window.Reads as window-reads
-use Rattle.listing.proofs.put_lines.Reads as put-lines-reads
 
--- src/main.rt:168:17
 mul-width : tie.Need-mul-width
 mul-width c = let w = width-most (c .before .before .before .before .args .size) (c .before .before .before .before .pre .0 .2 .sized) in omega (arith, w)
 
--- src/main.rt:169:13
 mul-m : tie.Need-mul-m
 mul-m c = search needs
 
--- src/main.rt:170:57
 slice-relend-prefix-window : tie.Need-slice-relend-prefix-window
 slice-relend-prefix-window c = search needs
 
--- src/main.rt:170:57
 slice-aggregate-window : tie.Need-slice-aggregate-window
 slice-aggregate-window c = let p = c .before .before .before .before .before .pre in sym (length-take-le _ (now (c .before .before .before .before .before .args .values)) (omega (arith, p .1 .2, p .0 .1)))
 
--- src/main.rt:170:5
 window-requires : tie.Need-window-requires
 window-requires c κs = search needs
 
--- src/main.rt:171:21
 slice-reshare-prefix-put-lines : tie.Need-slice-reshare-prefix-put-lines
 slice-reshare-prefix-put-lines c = search needs
 
--- src/main.rt:171:21
 slice-aggregate-put-lines : tie.Need-slice-aggregate-put-lines
 slice-aggregate-put-lines c =
     let a = c .before .before .before .before .before .before .before .before .before .before .args in
@@ -57,7 +46,6 @@ slice-aggregate-put-lines c =
     let e : take m (new ++ drop m (now (a .values))) ≡ new = take-at new (drop m (now (a .values))) m n in
     sym n ∙ ap length (sym e)
 
--- src/main.rt:171:5
 put-lines-requires : tie.Need-put-lines-requires
 put-lines-requires c κs =
     let a = c .before .before .before .before .before .before .before .before .before .before .args in
@@ -75,15 +63,12 @@ put-lines-requires c κs =
     let u = block-units (now (a .file)) z q (a .top) (a .height) old (p .0) (p .1) k _ new (c .before .before .before .before .window .ensures) in
     (s, j, omega (arith, j, p .2, c .before .before .before .before .before .before .before .before .before .before .pre .0 .0), subst Units (sym e) u)
 
--- src/main.rt:155:1
 same-length : tie.Need-same-length
 same-length c = search needs
 
--- src/main.rt:155:1
 same-length-2 : tie.Need-same-length-2
 same-length-2 c = search needs
 
--- src/main.rt:155:1
 returns : tie.Need-returns
 returns c =
     let a = c .before .before .before .before .before .before .before .before .before .before .before .before .before .args in

@@ -5,44 +5,31 @@ use Rattle.listing.proofs.Lines.{puts-two, puts-whole}
 use borrow.Author.Needs.{needs}
 use Rattle.listing.proofs.put_size.Statement.{statement}
 use Rattle.listing.proofs.put_size.Tie as tie
-use Rattle.listing.proofs.put_size.Reads as reads
-use Rattle.listing.proofs.put_size.Lts as lts
-use Rattle.listing.proofs.put.Reads as put-reads
-use Rattle.listing.proofs.put_number.Reads as put-number-reads
 
--- src/main.rt:97:26
 slice-aggregate-put : tie.Need-slice-aggregate-put
 slice-aggregate-put c = search needs
 
--- src/main.rt:97:9
 put-requires : tie.Need-put-requires
 put-requires c κs = search needs
 
--- src/main.rt:98:9
 put-number-requires : tie.Need-put-number-requires
 put-number-requires c κs = search needs
 
--- src/main.rt:99:9
 put-number-requires-2 : tie.Need-put-number-requires-2
 put-number-requires-2 c κs = search needs
 
--- src/main.rt:100:9
 put-number-requires-3 : tie.Need-put-number-requires-3
 put-number-requires-3 c κs = search needs
 
--- src/main.rt:101:18
 slice-aggregate-put-2 : tie.Need-slice-aggregate-put-2
 slice-aggregate-put-2 c = search needs
 
--- src/main.rt:101:5
 put-requires-2 : tie.Need-put-requires-2
 put-requires-2 c κs = search needs
 
--- src/main.rt:93:1
 same-length : tie.Need-same-length
 same-length c = search needs
 
--- src/main.rt:93:1
 returns : tie.Need-returns
 returns c = puts-whole (now (c .before .before .before .before .before .before .before .before .before .before .before .before .before .before .before .before .before .before .before .before .before .before .before .args .text)) _ (frameText (c .before .before .before .before .before .before .before .before .before .before .before .before .before .before .before .before .before .before .before .before .before .before .before .args .size)) _ (puts-two (now (c .before .before .before .before .before .before .before .before .before .before .before .before .before .before .before .before .before .before .before .before .before .before .before .args .text)) _ _ frameWord _ 0 _ _ (c .before .before .before .before .before .before .before .before .before .before .before .before .before .before .before .before .before .before .before .put .ensures) (puts-two _ _ _ (32 ∷ decimalOf (c .before .before .before .before .before .before .before .before .before .before .before .before .before .before .before .before .before .before .before .before .before .before .before .args .size .rows)) _ _ _ _ (c .before .before .before .before .before .before .before .before .before .before .before .before .before .before .before .put-number .ensures .0) (puts-two _ _ _ (32 ∷ decimalOf (c .before .before .before .before .before .before .before .before .before .before .before .before .before .before .before .before .before .before .before .before .before .before .before .args .size .columns)) _ _ _ _ (c .before .before .before .before .before .before .before .before .before .before .before .put-number2 .ensures .0) (puts-two _ _ _ (32 ∷ decimalOf (c .before .before .before .before .before .before .before .before .before .before .before .before .before .before .before .before .before .before .before .before .before .before .before .args .size .samples)) (10 ∷ []) _ _ _ (c .before .before .before .before .before .before .before .put-number3 .ensures .0) (c .before .before .put2 .ensures)))))
 

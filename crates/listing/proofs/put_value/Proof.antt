@@ -1,4 +1,4 @@
-use mathlib.Core.Path.{_≡_, refl, sym, _∙_, subst}
+use mathlib.Core.Path.{refl, sym, _∙_, subst}
 use lib.Dec.{T}
 use mathlib.Core.List.{List}
 use Prim.Native.Nat.{ℕ, _≤_}
@@ -11,28 +11,19 @@ use Rattle.listing.proofs.Numerals.{at-most-16, hex-is}
 use borrow.Author.Needs.{needs}
 use Rattle.listing.proofs.put_value.Statement.{statement}
 use Rattle.listing.proofs.put_value.Tie as tie
-use Rattle.listing.proofs.put_value.Reads as reads
-use Rattle.listing.proofs.put_value.Lts as lts
-use Rattle.io.proofs.hex.Reads as hex-reads
-use Rattle.listing.proofs.put.Reads as put-reads
 
--- src/main.rt:47:21
 float-to-bits-hex : tie.Need-float-to-bits-hex
 float-to-bits-hex c = search needs
 
--- src/main.rt:47:9
 hex-requires : tie.Need-hex-requires
 hex-requires c κs = search needs
 
--- src/main.rt:48:19
 array-share-prefix-digits : tie.Need-array-share-prefix-digits
 array-share-prefix-digits c = search needs
 
--- src/main.rt:48:19
 slice-aggregate-put : tie.Need-slice-aggregate-put
 slice-aggregate-put c = search needs
 
--- src/main.rt:48:5
 put-requires : tie.Need-put-requires
 put-requires c κs =
     let d = c .before .before .hex in
@@ -40,11 +31,9 @@ put-requires c κs =
     let k : d .result ≤ 16 = at-most-16 (d .result) (toBits binary64 (a .x)) (d .ensures .1 .0) (toBits-lt binary64 (a .x) (subst T (sym (c .before .before .before .before .before .good .1 .1 .0 .1)) tt)) in
     omega (arith, k, d .ensures .0 .1, c .before .before .before .before .before .pre .0)
 
--- src/main.rt:42:1
 same-length : tie.Need-same-length
 same-length c = search needs
 
--- src/main.rt:42:1
 returns : tie.Need-returns
 returns c =
     let d = c .before .before .before .before .before .hex in
