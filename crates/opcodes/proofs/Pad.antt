@@ -230,3 +230,25 @@ polynomial-is c cs s x h t u =
     ap (λ (l : List Float). clipOf (hornerOf l x)) (nine-is (c ∷ cs) h)
     ∙ subst (λ (y : Float). clipOf (hornerOf ((c ∷ cs) ++ replicate (9 - length (c ∷ cs)) minusZero) y) ≡ clipOf (hornerOf (c ∷ cs) y)) (sym (p .2))
     (ap clipOf (pad (p .0) (p .1) (9 - length (c ∷ cs)) c cs t))
+
+-- ---- degrees up to 3
+abbrev pub four : List Float → List Float
+four cs = getD cs 0 minusZero ∷ getD cs 1 minusZero ∷ getD cs 2 minusZero ∷ getD cs 3 minusZero ∷ []
+
+four-is : (cs : List Float) → length cs ≤ 4 → four cs ≡ cs ++ replicate (4 - length cs) minusZero
+four-is [] h = refl
+four-is (a ∷ []) h = refl
+four-is (a ∷ b ∷ []) h = refl
+four-is (a ∷ b ∷ c ∷ []) h = refl
+four-is (a ∷ b ∷ c ∷ d ∷ []) h = refl
+four-is (a ∷ b ∷ c ∷ d ∷ e ∷ cs) h = absurd (too-long (length cs) h)
+  where
+    too-long : (n : ℕ) → suc (suc (suc (suc (suc n)))) ≤ 4 → ⊥
+    too-long n h = omega arith
+
+pub cubic-is : (c : Float) (cs : List Float) (x : Float) → length (c ∷ cs) ≤ 4 → AllFit (c ∷ cs) → unit x → clipOf (hornerOf (four (c ∷ cs)) x) ≡ clipOf (hornerOf (c ∷ cs) x)
+cubic-is c cs x h t u =
+    let p = unit-plain x u in
+    ap (λ (l : List Float). clipOf (hornerOf l x)) (four-is (c ∷ cs) h)
+    ∙ subst (λ (y : Float). clipOf (hornerOf ((c ∷ cs) ++ replicate (4 - length (c ∷ cs)) minusZero) y) ≡ clipOf (hornerOf (c ∷ cs) y)) (sym (p .2))
+    (ap clipOf (pad (p .0) (p .1) (4 - length (c ∷ cs)) c cs t))

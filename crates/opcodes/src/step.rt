@@ -74,7 +74,7 @@ pub fn apply(step: Step, file: &[u8], x: f64) -> f64
 }
 
 // The k-th of n coefficients, or -0.0 past the highest.
-fn coefficient(file: &[u8], at: usize, n: usize, k: usize) -> f64
+pub fn coefficient(file: &[u8], at: usize, n: usize, k: usize) -> f64
     requires { ⌜ (k < 9) × (at + 8 * n ≤ length (now file)) ⌝ }
     ensures { λ r. ⌜ r ≡ getD (coefficientsOf (now (file .entry)) at n) k minusZero ⌝ }
 {
