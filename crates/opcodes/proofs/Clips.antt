@@ -1,28 +1,22 @@
 -- The clip by two comparisons, each with its own choice.
 -- Assumes nothing.
 use mathlib.Core.Path.{_≡_, refl, sym, subst}
-use mathlib.Core.Bool.{Bool, true, false, not, _&&_, _||_, true≢false}
-use mathlib.Core.Logic.{_⊎_, inl, inr, ⊎-elim}
+use mathlib.Core.Bool.{Bool, true, false, _&&_, _||_, true≢false}
+use mathlib.Core.Logic.{⊎-elim}
 use Prim.Native.Nat.{ℕ, _*_, _≤_, _<_}
 use native.Mathlib.Nat.{one-mul, zero-mul}
 use native.Mathlib.Omega.{arith}
 use lib.IntN.{ℤ}
-use lib.Dec.{T, leb, ltb, eqb, leb→le, nleb→lt}
+use lib.Dec.{ltb, eqb}
 use lib.Ieee.{Float, nan, inf, fin, up, down, lt, le, eq}
 use lib.Ieee.Fits.{down-pos}
 use borrow.Author.Tests.{ltb-false, lt-ltb, le-ltb, eq-eqb, ne-eqb}
 use Rattle.levels.specs.Clip.{clipOf, plusZero, one}
+use Rattle.opcodes.proofs.Pad.{le-or-lt}
 
 -- q is at most p
 at-most : (p q : ℕ) → q ≤ p → (ltb q p || (eqb q p && true)) ≡ true
 at-most p q h = ⊎-elim (λ l. rw (le-ltb q p l, eq-eqb q p (omega arith)) refl) (λ l. rw (lt-ltb q p l) refl) (le-or-lt p q)
-  where
-    le-or-lt : (a b : ℕ) → (a ≤ b) ⊎ (b < a)
-    le-or-lt a b = go (leb a b) (leb→le a b) (nleb→lt a b)
-      where
-        go : (t : Bool) → (T t → a ≤ b) → (T (not t) → b < a) → (a ≤ b) ⊎ (b < a)
-        go true h k = inl (h tt)
-        go false h k = inr (k tt)
 
 -- above 0 and not below 1 is at least 1
 pub at-least : (x : Float) → lt plusZero x ≡ true → lt x one ≡ false → le one x ≡ true

@@ -105,7 +105,7 @@ same-value (fin t (suc n) g) s m e p q h =
     (λ i. fin ((h .0) i) (suc n) g) ∙ same-number s n g m e (is-odd t n g p) (is-odd s m e q) (h .1)
 
 -- ---- what fits is rounded to itself
-le-or-lt : (a b : ℕ) → (a ≤ b) ⊎ (b < a)
+pub le-or-lt : (a b : ℕ) → (a ≤ b) ⊎ (b < a)
 le-or-lt a b = go (leb a b) (leb→le a b) (nleb→lt a b)
   where
     go : (t : Bool) → (T t → a ≤ b) → (T (not t) → b < a) → (a ≤ b) ⊎ (b < a)

@@ -36,7 +36,8 @@ use Rattle.rows.specs.Part.{Units}
 use Rattle.rows.specs.Walk.{alonePart, developedPart}
 use Rattle.opcodes.specs.Opcode.{Opcode}
 use Rattle.rows.proofs.Eaches.{each-length, each-at, each-each, each-same, each-none}
-use Rattle.rows.proofs.Sweeps.{le-or-lt, every-told, every-tell}
+use Rattle.opcodes.proofs.Pad.{le-or-lt}
+use Rattle.rows.proofs.Sweeps.{every-told, every-tell}
 use Rattle.rows.proofs.Lines.{line-is, sum}
 use Rattle.rows.proofs.Hits.{split-div, split-mod, whole}
 

@@ -81,6 +81,7 @@ fn scaled_line(
     }
 }
 
+// SHORTs of a mosaic, and no table.
 fn plain(bytes: usize, step: usize, count: usize, n: usize) -> bool
     ensures { λ r. ⌜ (r ≡ true → (bytes ≡ 2) × (step ≡ 2) × (count ≡ 0) × (n ≡ 1)) ⌝ }
 {

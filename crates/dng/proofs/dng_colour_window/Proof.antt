@@ -3,13 +3,10 @@ use Prim.Native.Nat.{ℕ}
 use native.Mathlib.Omega.{arith}
 use denote.Ref.{now}
 use Rattle.develop.specs.Calls.{Window}
-use Rattle.dng.specs.Field.{packedOf}
+use Rattle.dng.proofs.Answered.{both}
 use borrow.Author.Needs.{needs}
 use Rattle.dng.proofs.dng_colour_window.Statement.{statement}
 use Rattle.dng.proofs.dng_colour_window.Tie as tie
-
-both : {n d m e : ℕ} → n ≡ m → d ≡ e → packedOf n d ≡ packedOf m e
-both {n} {d} {m} {e} a b = ap (λ (k : ℕ). packedOf k d) a ∙ ap (packedOf m) b
 
 colour-window-requires : tie.Need-colour-window-requires
 colour-window-requires c κs = search needs
