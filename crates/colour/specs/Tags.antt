@@ -7,7 +7,7 @@ use Rattle.reading.specs.declared.number.Order.{Order}
 use Rattle.reading.specs.declared.fraction.FractionKind.{FractionKind}
 use Rattle.reading.specs.declared.fraction.FractionKind.the-variants as kind
 use Rattle.directory.specs.Out.{Out, Out.refused, Out.is, bind}
-use Rattle.directory.specs.Widths.{Widths}
+use Rattle.directory.specs.declared.Widths.{Widths}
 use Rattle.directory.specs.Tag.{valuesReading, notCarried, required}
 use Rattle.directory.specs.declared.Ifd.{Ifd}
 use Rattle.directory.specs.declared.tag.Kinds.the-variants as kinds
@@ -30,9 +30,9 @@ abbrev pub rowReading : Order → ℕ → Reading (Out Triple)
 rowReading o at = tripleReading o kind.SignedRational 8 50964 false at
 
 -- 50964: "SRATIONAL 9, required, denominators not 0"
-unfoldable pub matrixReading : Widths → Ifd → Reading (Out Matrix)
-matrixReading w d =
-    bind (valuesReading w d matrixRule) (λ v.
+unfoldable pub matrixReading : Ifd → Reading (Out Matrix)
+matrixReading d =
+    bind (valuesReading d matrixRule) (λ v.
     bind (rowReading (d .order) (v .place)) (λ x.
     bind (rowReading (d .order) (v .place + 24)) (λ y.
     bind (rowReading (d .order) (v .place + 48)) (λ z.
@@ -46,9 +46,9 @@ unfoldable pub neutralKind : ℕ → FractionKind
 neutralKind s = pick (eqb s 2) kind.Short kind.Rational
 
 -- 50728: "SHORT or RATIONAL 3, required, no numerator or denominator 0"
-unfoldable pub neutralReading : Widths → Ifd → Reading (Out Triple)
-neutralReading w d =
-    bind (valuesReading w d neutralRule) (λ v. tripleReading (d .order) (neutralKind (v .size)) (v .size) 50728 true (v .place))
+unfoldable pub neutralReading : Ifd → Reading (Out Triple)
+neutralReading d =
+    bind (valuesReading d neutralRule) (λ v. tripleReading (d .order) (neutralKind (v .size)) (v .size) 50728 true (v .place))
 
 abbrev pub colourOf : Matrix → Triple → Colour
 colourOf m n =
@@ -68,13 +68,13 @@ colourOf m n =
     }
 
 -- "50723, 50727, 50965 present with any type: not carried"; then 50964 and 50728
-unfoldable pub colourReading : Widths → Ifd → Reading (Out Colour)
-colourReading w d =
-    bind (notCarried w d 50723) (λ _.
-    bind (notCarried w d 50727) (λ _.
-    bind (notCarried w d 50965) (λ _.
-    bind (matrixReading w d) (λ m.
-    bind (neutralReading w d) (λ n.
+unfoldable pub colourReading : Ifd → Reading (Out Colour)
+colourReading d =
+    bind (notCarried d 50723) (λ _.
+    bind (notCarried d 50727) (λ _.
+    bind (notCarried d 50965) (λ _.
+    bind (matrixReading d) (λ m.
+    bind (neutralReading d) (λ n.
     answer (is (colourOf m n)))))))
 
 abbrev pub matrixOut : Forward → Out Matrix

@@ -2,7 +2,6 @@
 ghost use mathlib.Core.Path.{_≡_};
 ghost use mathlib.Core.Bool.{true};
 ghost use Rattle.reading.specs.Reading.{run};
-ghost use Rattle.directory.specs.Widths.{classic};
 ghost use Rattle.directory.specs.Shape.{Tested};
 ghost use Rattle.colour.specs.Value.{tripleOut, TripleIn};
 ghost use Rattle.colour.specs.Tags.{neutralKind, colourOf, matrixOut, MatrixIn, matrixReading, neutralReading, colourOut, ColourIn, colourReading};
@@ -33,7 +32,7 @@ pub enum Forward {
 // 50964.
 fn matrix_of(file: &[u8], ifd: Ifd) -> Forward
     requires { ⌜ Tested (now file) ifd ⌝ }
-    ensures { λ r. ⌜ (matrixOut r ≡ run (now (file .entry)) (matrixReading classic ifd)) × MatrixIn r ⌝ }
+    ensures { λ r. ⌜ (matrixOut r ≡ run (now (file .entry)) (matrixReading ifd)) × MatrixIn r ⌝ }
 {
     let rule = Rule {
         tag: 50964,
@@ -78,7 +77,7 @@ fn neutral_kind(size: usize) -> FractionKind
 // 50728.
 fn neutral_of(file: &[u8], ifd: Ifd) -> Tripled
     requires { ⌜ Tested (now file) ifd ⌝ }
-    ensures { λ r. ⌜ (tripleOut r ≡ run (now (file .entry)) (neutralReading classic ifd)) × TripleIn true r ⌝ }
+    ensures { λ r. ⌜ (tripleOut r ≡ run (now (file .entry)) (neutralReading ifd)) × TripleIn true r ⌝ }
 {
     let rule = Rule {
         tag: 50728,
@@ -120,7 +119,7 @@ fn joined(m: Matrix, n: Triple) -> Colour
 // The colour tags, in order of test.
 pub fn colour_of(file: &[u8], ifd: Ifd) -> Coloured
     requires { ⌜ Tested (now file) ifd ⌝ }
-    ensures { λ r. ⌜ (colourOut r ≡ run (now (file .entry)) (colourReading classic ifd)) × ColourIn r ⌝ }
+    ensures { λ r. ⌜ (colourOut r ≡ run (now (file .entry)) (colourReading ifd)) × ColourIn r ⌝ }
 {
     match tag::not_carried(file, ifd, 50723) {
         Number::Refused { number, detail } => return Coloured::Refused { number, detail },

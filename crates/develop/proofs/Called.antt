@@ -13,7 +13,6 @@ use borrow.Author.Tests.{leb-true, eqb-true, eq-eqb, ne-eqb}
 use Rattle.reading.specs.Reading.{run, pick}
 use Rattle.reading.proofs.Reading.{run-answer, pick-yes, pick-no}
 use Rattle.directory.specs.Out.{Out, Out.refused, Out.is}
-use Rattle.directory.specs.Widths.{classic}
 use Rattle.raw.specs.Sample.{ActiveIn}
 use Rattle.raw.specs.declared.front.Picture.{Picture}
 use Rattle.colour.specs.Tags.{colourReading}
@@ -192,10 +191,10 @@ module _ (f : List ℕ) (v : View) (q : Viewed f v) (t l h w : ℕ) (old : List 
   samples-is = sym (ap (λ (z : Size). z .samples) (size-is f v q t l h w old))
 
   -- the colour tags are read where there are three samples
-  pub colour-tags : v .size .samples ≡ 3 → (x : Out Colour) → x ≡ run f (colourReading classic (v .picture .first)) → colouredOf f t l h w old (q .file) x ≡ colourWindowCall f t l h w old
+  pub colour-tags : v .size .samples ≡ 3 → (x : Out Colour) → x ≡ run f (colourReading (v .picture .first)) → colouredOf f t l h w old (q .file) x ≡ colourWindowCall f t l h w old
   colour-tags e x d =
-      let s : run f (colourFor (q .file .picture)) ≡ run f (colourReading classic (q .file .picture .first)) = simp (eq-eqb _ 3 (sym samples-is ∙ e), pick-yes) in
-      ap (colouredOf f t l h w old (q .file)) (d ∙ ap (λ (p : Picture). run f (colourReading classic (p .first))) (sym (q .picture)) ∙ sym s) ∙ ap (colourWindowOf f t l h w old) (q .accepted)
+      let s : run f (colourFor (q .file .picture)) ≡ run f (colourReading (q .file .picture .first)) = simp (eq-eqb _ 3 (sym samples-is ∙ e), pick-yes) in
+      ap (colouredOf f t l h w old (q .file)) (d ∙ ap (λ (p : Picture). run f (colourReading (p .first))) (sym (q .picture)) ∙ sym s) ∙ ap (colourWindowOf f t l h w old) (q .accepted)
 
   pub colour-mosaic : (v .size .samples ≡ 3 → ⊥) → refusedWindow 15 0 old ≡ colourWindowCall f t l h w old
   colour-mosaic e =

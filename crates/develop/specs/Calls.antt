@@ -7,7 +7,6 @@ use lib.Ieee.{Float}
 use lib.ListN.{length}
 use Rattle.reading.specs.Reading.{Reading, Reading.answer, andThen, pick, run, runWhole}
 use Rattle.directory.specs.Out.{Out, Out.refused, Out.is, bind}
-use Rattle.directory.specs.Widths.{classic}
 use Rattle.levels.specs.Clip.{plusZero}
 use Rattle.levels.specs.Run.{runOf}
 use Rattle.raw.specs.Raw.{activeRows, activeColumns}
@@ -55,7 +54,7 @@ opened f = runWhole f openReading
 
 -- "for colour then 15 and the colour tags"
 abbrev pub colourFor : Picture → Reading (Out Colour)
-colourFor p = pick (eqb (p .raw .tags .frame .samples) 3) (colourReading classic (p .first)) (answer (refused 15 0))
+colourFor p = pick (eqb (p .raw .tags .frame .samples) 3) (colourReading (p .first)) (answer (refused 15 0))
 
 -- ---- the developed frame
 

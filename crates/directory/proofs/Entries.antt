@@ -1,15 +1,27 @@
--- Laws of entries: a value has at most 8 bytes.
+-- Laws of entries: sizes, products that fit, the types that the rules speak of, and the fields in the file.
 -- Assumes nothing.
-use mathlib.Core.Bool.{Bool, true, _&&_}
+use mathlib.Core.Path.{_≡_, refl, sym, ap, subst, _∙_}
+use mathlib.Core.Bool.{Bool, true, false, _&&_}
 use mathlib.Core.List.{List, [], _∷_}
-use Prim.Native.Nat.{ℕ, zero, suc, _*_, _≤_, _<_, zero-le}
-use native.Mathlib.Nat.{mul-le-mul}
+use mathlib.Core.Logic.{_⊎_, inl, inr, ⊎-elim}
+use Prim.Native.Nat.{ℕ, zero, suc, _+_, _-_, _*_, _≤_, _<_, zero-le}
+use native.Mathlib.Nat.{mul-le-mul, zero-mul, one-mul}
 use native.Mathlib.Omega.{arith}
-use lib.Dec.{T, leb, leb→le}
+use lib.Dec.{T, eqb, leb, leb→le}
+use borrow.Author.Tests.{eqb-true, eqb-false, leb-true, leb-false, eq-eqb, ne-eqb, le-leb, lt-leb}
 use lib.Ieee.Fits.{and-l, and-r}
-use lib.ListN.{getD}
-use Rattle.directory.specs.Entry.{codeOf, sizes, sizeOf}
+use lib.ListN.{getD, List·getD-map}
+use Rattle.reading.specs.Bytes.{part}
+use Rattle.reading.specs.Number.{numberOf, Wide}
+use Rattle.reading.specs.declared.number.Order.{Order}
+use Rattle.reading.proofs.Bytes.{part-part}
+use Rattle.reading.proofs.Reading.{pick-yes, pick-no}
+use Rattle.directory.specs.Widths.{headWidth, entryWidth}
+use Rattle.directory.specs.Entry.{kinds, kindOf, codeOf, plainOf, sizes, sizeOf, headerOf}
+use Rattle.directory.specs.declared.Widths.{Widths}
 use Rattle.directory.specs.declared.entry.Kind.{Kind}
+use Rattle.directory.specs.declared.entry.Kind.the-variants as kind
+use Rattle.directory.specs.declared.entry.Entry.{Entry}
 
 allTo : ℕ → List ℕ → Bool
 allTo n [] = true
@@ -21,11 +33,105 @@ at-most n [] t i = zero-le
 at-most n (x ∷ xs) t zero = leb→le x n (and-l (leb x n) (allTo n xs) t)
 at-most n (x ∷ xs) t (suc i) = at-most n xs (and-r (leb x n) (allTo n xs) t) i
 
-pub size-most : (k : Kind) → sizeOf k ≤ 8
-unfolding sizeOf allTo
-size-most k = at-most 8 sizes tt (codeOf k)
+pub size-listed : (t : ℕ) → getD sizes t 0 ≤ 8
+unfolding allTo
+size-listed t = at-most 8 sizes tt t
 
-pub bytes-most : (s n : ℕ) → s ≤ 8 → n < 0x1_0000_0000 → s * n < 34359738368
-bytes-most s n h k =
-    let l : n ≤ 0xFFFF_FFFF = omega arith in
-    omega (arith, mul-le-mul h l)
+-- the bytes of one value by the type's number, where the layout knows it
+pub size-known : (types t : ℕ) → t ≤ types → getD sizes t 0 ≡ sizeOf (kindOf types t)
+unfolding kindOf sizeOf
+size-known types t h = rw (le-leb _ _ h, pick-yes) (List·getD-map sizeOf kinds t kind.Unknown)
+
+pub size-unknown : (types t : ℕ) → types < t → 0 ≡ sizeOf (kindOf types t)
+unfolding kindOf sizeOf
+size-unknown types t h = rw (lt-leb _ _ h, pick-no)
+
+pub wide-most : (s : ℕ) → Wide s → s ≤ 8
+wide-most s h = ⊎-elim (λ e. omega arith) (λ q. ⊎-elim (λ e. omega arith) (λ e. omega arith) q) h
+
+pub entry-most : (w : Widths) → Wide (w .word) → entryWidth w ≤ 20
+entry-most w h = omega (arith, wide-most (w .word) h)
+
+-- ---- whether so many fit
+pub product-most : (s n room : ℕ) → s ≤ 20 → room ≤ 67108864 → n ≤ room → s * n ≤ 1342177280
+product-most s n room h r k = let l : n ≤ 67108864 = omega arith in mul-le-mul h l
+
+-- of more than there is room for, only those that have no bytes fit
+pub over : (s n room : ℕ) → room < n → eqb s 0 ≡ leb (s * n) room
+over s n room h = go (eqb s 0) refl
+  where
+    go : (b : Bool) → eqb s 0 ≡ b → b ≡ leb (s * n) room
+    go true e = let z : s ≡ 0 = eqb-true s 0 e in let l : s * n ≤ room = rw (z, zero-mul) zero-le in sym (le-leb _ _ l)
+    go false e =
+        let z = eqb-false s 0 e in
+        let o : 1 ≤ s = omega arith in
+        let m : n ≤ n = omega arith in
+        let l : room < s * n = omega (arith, mul-le-mul o m, one-mul n) in
+        sym (lt-leb _ _ l)
+
+-- so many from a place on
+pub from-place : (p n len : ℕ) → p ≤ len → leb n (len - p) ≡ leb (p + n) len
+from-place p n len h = go (leb n (len - p)) refl
+  where
+    go : (b : Bool) → leb n (len - p) ≡ b → b ≡ leb (p + n) len
+    go true e = let l : n ≤ len - p = leb-true _ _ e in let m : p + n ≤ len = omega arith in sym (le-leb _ _ m)
+    go false e = let l : len - p < n = leb-false _ _ e in let m : len < p + n = omega arith in sym (lt-leb _ _ m)
+
+pub past-end : (p n len : ℕ) → len < p → false ≡ leb (p + n) len
+past-end p n len h = let m : len < p + n = omega arith in sym (lt-leb _ _ m)
+
+-- ---- the types that the rules speak of
+pub plain-long : (k : Kind) → codeOf k ≡ 16 → 4 ≡ plainOf k
+unfolding plainOf
+plain-long k e = sym (simp (eq-eqb _ _ e, pick-yes))
+
+module _ (k : Kind) (n : codeOf k ≡ 16 → ⊥) where
+  pub plain-ifd : codeOf k ≡ 18 → 13 ≡ plainOf k
+  unfolding plainOf
+  plain-ifd e = sym (simp (ne-eqb _ _ n, eq-eqb _ _ e, pick-yes, pick-no))
+
+  pub plain-other : (codeOf k ≡ 18 → ⊥) → codeOf k ≡ plainOf k
+  unfolding plainOf
+  plain-other m = sym (simp (ne-eqb _ _ n, ne-eqb _ _ m, pick-no))
+
+-- a type is the one that the rules speak of, or LONG8 for LONG, or IFD8 for IFD
+pub plain-is : (k : Kind) (a : ℕ) → plainOf k ≡ a → (codeOf k ≡ a) ⊎ (((codeOf k ≡ 16) × (a ≡ 4)) ⊎ ((codeOf k ≡ 18) × (a ≡ 13)))
+plain-is k a e = go (eqb (codeOf k) 16) refl (eqb (codeOf k) 18) refl
+  where
+    go : (b : Bool) → eqb (codeOf k) 16 ≡ b → (d : Bool) → eqb (codeOf k) 18 ≡ d →
+        (codeOf k ≡ a) ⊎ (((codeOf k ≡ 16) × (a ≡ 4)) ⊎ ((codeOf k ≡ 18) × (a ≡ 13)))
+    go true p d q = let z = eqb-true _ _ p in inr (inl (z, sym (plain-long k z ∙ e)))
+    go false p true q = let z = eqb-true _ _ q in inr (inr (z, sym (plain-ifd k (eqb-false _ _ p) z ∙ e)))
+    go false p false q = inl (plain-other k (eqb-false _ _ p) (eqb-false _ _ q) ∙ e)
+
+-- what a test of values of a size says of a type's values
+module _ (bytes : ℕ → ℕ) (k : Kind) (s room : ℕ) (b : Bool) (e : s ≡ sizeOf k) (t : b ≡ leb (bytes s) room) where
+  pub fit : b ≡ true → bytes (sizeOf k) ≤ room
+  fit y = subst (λ (m : ℕ). bytes m ≤ room) e (leb-true _ _ (sym t ∙ y))
+
+  pub unfit : b ≡ false → room < bytes (sizeOf k)
+  unfit y = subst (λ (m : ℕ). room < bytes m) e (leb-false _ _ (sym t ∙ y))
+
+-- room for one more of a size
+pub room : (p size n m len : ℕ) → n ≡ m + 1 → p + size * n ≤ len → (p + size ≤ len) × (p + size + size * m ≤ len)
+room p size n m len h l =
+    let z : size * n ≡ size * m + size = rw h (omega arith) in
+    (omega arith, omega arith)
+
+-- ---- the fields of an entry, in the file
+module _ (w : Widths) (f : List ℕ) (o : Order) (at : ℕ) where
+  field : (i n : ℕ) → i + n ≤ headWidth w → numberOf o (part (part f at (headWidth w)) i n) ≡ numberOf o (part f (at + i) n)
+  field i n h = ap (numberOf o) (part-part f at (headWidth w) i n h)
+
+  pub head-tag : headerOf w o (part f at (headWidth w)) .tag ≡ numberOf o (part f at 2)
+  unfolding headerOf
+  head-tag = let z : at + 0 ≡ at = omega arith in field 0 2 (omega arith) ∙ ap (λ (p : ℕ). numberOf o (part f p 2)) z
+
+  pub header-at : (t n : ℕ) (k : Kind) → t ≡ numberOf o (part f at 2) → k ≡ kindOf (w .types) (numberOf o (part f (at + 2) 2)) → n ≡ numberOf o (part f (at + 4) (w .word)) →
+      _≡_ {A = Entry} (record { tag = t; kind = k; count = n }) (headerOf w o (part f at (headWidth w)))
+  unfolding headerOf
+  header-at t n k et ek en =
+      let p = et ∙ sym head-tag in
+      let q = ek ∙ ap (kindOf (w .types)) (sym (field 2 2 (omega arith))) in
+      let r = en ∙ sym (field 4 (w .word) (omega arith)) in
+      λ i. record { tag = p i; kind = q i; count = r i }

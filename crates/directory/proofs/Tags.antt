@@ -12,16 +12,17 @@ use lib.ListN.{length, getD}
 use mir.Val.{hasKey}
 use borrow.Author.Tests.{eqb-true, eqb-false, leb-true, leb-false, ltb-true, ltb-false, le-leb, lt-leb, eq-eqb, ne-eqb}
 use Rattle.reading.specs.Bytes.{part}
-use Rattle.reading.specs.Number.{numberOf}
+use Rattle.reading.specs.Number.{numberOf, Wide}
 use Rattle.reading.specs.Reading.{Reading.answer, Reading.ask, andThen, run, trace, pick, numberAt}
 use Rattle.reading.specs.declared.number.Order.{Order}
 use Rattle.reading.proofs.Reading.{running, run-answer, run-ask, run-then, pick-yes, pick-no, trace-answer}
 use Rattle.directory.specs.Out.{Out, Out.refused, Out.is}
-use Rattle.directory.specs.Widths.{Widths, headWidth, entryWidth}
-use Rattle.directory.specs.Entry.{codeOf, sizes, sizeOf, bytesOf, headerOf}
+use Rattle.directory.specs.Widths.{headWidth, entryWidth}
+use Rattle.directory.specs.Entry.{codeOf, plainOf, sizes, sizeOf, bytesOf, headerOf}
 use Rattle.directory.specs.Shape.{entryReading, shapeFrom}
-use Rattle.directory.specs.Tag.{findFrom, foundReading, allowsOf, valuesAt, noValues, wholeReading, valueReading, testedReading, valuesFound, valuesReading, Placed, Wide, SizeIn, Numeric, Placed-values, required, optional, faultOf, judgedOf, firstReading, eachReading, InRange, NumberIn}
+use Rattle.directory.specs.Tag.{findFrom, foundReading, allowsOf, valuesAt, noValues, wholeReading, valueReading, testedReading, valuesFound, valuesReading, Placed, Long, SizeIn, Numeric, Placed-values, required, optional, faultOf, judgedOf, firstReading, eachReading, InRange, NumberIn}
 use Rattle.directory.specs.declared.Ifd.{Ifd}
+use Rattle.directory.specs.declared.Widths.{Widths}
 use Rattle.directory.specs.declared.Number.{Number}
 use Rattle.directory.specs.declared.Number.the-variants as number
 use Rattle.directory.specs.declared.entry.Kind.{Kind}
@@ -33,6 +34,7 @@ use Rattle.directory.specs.declared.tag.Kinds.the-variants as kinds
 use Rattle.directory.specs.declared.tag.Rule.{Rule}
 use Rattle.directory.specs.declared.tag.Range.{Range}
 use Rattle.directory.specs.declared.tag.Values.{Values}
+use Rattle.directory.proofs.Entries.{plain-is}
 use Rattle.directory.proofs.Outs.{bind-refused, bind-is, not-refused}
 use Rattle.directory.proofs.Shapes.{entry-outside, shape-refused, shape-order, shape-next}
 
@@ -131,20 +133,52 @@ sized : (k : Kind) (t : ℕ) → codeOf k ≡ t → sizeOf k ≡ getD sizes t 0
 unfolding sizeOf
 sized k t e = ap (λ (n : ℕ). getD sizes n 0) e
 
+-- LONG or LONG8, IFD or IFD8, and any other type
+long-code : (k : Kind) → plainOf k ≡ 4 → (codeOf k ≡ 4) ⊎ (codeOf k ≡ 16)
+long-code k e = ⊎-elim inl (λ q. ⊎-elim (λ h. inr (h .0)) (λ h. absurd (let z = h .1 in omega arith)) q) (plain-is k 4 e)
+
+offset-code : (k : Kind) → plainOf k ≡ 13 → (codeOf k ≡ 13) ⊎ (codeOf k ≡ 18)
+offset-code k e = ⊎-elim inl (λ q. ⊎-elim (λ h. absurd (let z = h .1 in omega arith)) (λ h. inr (h .0)) q) (plain-is k 13 e)
+
+other-code : (k : Kind) (a : ℕ) → (a ≡ 4 → ⊥) → (a ≡ 13 → ⊥) → plainOf k ≡ a → codeOf k ≡ a
+other-code k a n m e = ⊎-elim (λ h. h) (λ q. ⊎-elim (λ h. absurd (n (h .1))) (λ h. absurd (m (h .1))) q) (plain-is k a e)
+
+-- the bytes of one value
+long : (k : Kind) → plainOf k ≡ 4 → Long (sizeOf k)
+long k e = ⊎-elim (λ h. inl (sized k 4 h)) (λ h. inr (sized k 16 h)) (long-code k e)
+
+offset : (k : Kind) → plainOf k ≡ 13 → Long (sizeOf k)
+offset k e = ⊎-elim (λ h. inl (sized k 13 h)) (λ h. inr (sized k 18 h)) (offset-code k e)
+
+only : (k : Kind) (a : ℕ) → (a ≡ 4 → ⊥) → (a ≡ 13 → ⊥) → plainOf k ≡ a → sizeOf k ≡ getD sizes a 0
+only k a n m e = sized k a (other-code k a n m e)
+
+-- SHORT, LONG or RATIONAL by their numbers
+pub number-or-fraction : (k : Kind) → allowsOf kinds.ShortLongOrRational k ≡ true →
+    (codeOf k ≡ 3) ⊎ (((codeOf k ≡ 4) ⊎ (codeOf k ≡ 16)) ⊎ (codeOf k ≡ 5))
+number-or-fraction k e =
+    ⊎-elim (λ h. inl (other-code k 3 (λ z. absurd (omega arith)) (λ z. absurd (omega arith)) h))
+    (λ h. inr (⊎-elim (λ q. inl (long-code k q)) (λ q. inr (other-code k 5 (λ z. absurd (omega arith)) (λ z. absurd (omega arith)) (one-key 5 _ q))) (more-keys 4 (5 ∷ []) (plainOf k) h)))
+    (more-keys 3 (4 ∷ 5 ∷ []) (plainOf k) e)
+
 -- the bytes of one value of a type that is allowed
 pub size-in : (ks : Kinds) (k : Kind) → allowsOf ks k ≡ true → SizeIn ks (sizeOf k)
-size-in kinds.Byte k e = sized k 1 (one-key 1 _ e)
-size-in kinds.Short k e = sized k 3 (one-key 3 _ e)
-size-in kinds.Long k e = sized k 4 (one-key 4 _ e)
-size-in kinds.ShortOrLong k e = ⊎-elim (λ h. inl (sized k 3 h)) (λ h. inr (sized k 4 (one-key 4 _ h))) (more-keys 3 (4 ∷ []) (codeOf k) e)
-size-in kinds.LongOrIfd k e = ⊎-elim (λ h. sized k 4 h) (λ h. sized k 13 (one-key 13 _ h)) (more-keys 4 (13 ∷ []) (codeOf k) e)
-size-in kinds.ShortOrRational k e = ⊎-elim (λ h. inl (sized k 3 h)) (λ h. inr (sized k 5 (one-key 5 _ h))) (more-keys 3 (5 ∷ []) (codeOf k) e)
+size-in kinds.Byte k e = only k 1 (λ z. absurd (omega arith)) (λ z. absurd (omega arith)) (one-key 1 _ e)
+size-in kinds.Short k e = only k 3 (λ z. absurd (omega arith)) (λ z. absurd (omega arith)) (one-key 3 _ e)
+size-in kinds.Long k e = long k (one-key 4 _ e)
+size-in kinds.ShortOrLong k e =
+    ⊎-elim (λ h. inl (only k 3 (λ z. absurd (omega arith)) (λ z. absurd (omega arith)) h)) (λ h. inr (long k (one-key 4 _ h))) (more-keys 3 (4 ∷ []) (plainOf k) e)
+size-in kinds.LongOrIfd k e = ⊎-elim (λ h. long k h) (λ h. offset k (one-key 13 _ h)) (more-keys 4 (13 ∷ []) (plainOf k) e)
+size-in kinds.ShortOrRational k e =
+    ⊎-elim (λ h. inl (only k 3 (λ z. absurd (omega arith)) (λ z. absurd (omega arith)) h))
+    (λ h. inr (only k 5 (λ z. absurd (omega arith)) (λ z. absurd (omega arith)) (one-key 5 _ h)))
+    (more-keys 3 (5 ∷ []) (plainOf k) e)
 size-in kinds.ShortLongOrRational k e =
-    ⊎-elim (λ h. inl (sized k 3 h))
-    (λ h. inr (⊎-elim (λ q. inl (sized k 4 q)) (λ q. inr (sized k 5 (one-key 5 _ q))) (more-keys 4 (5 ∷ []) (codeOf k) h)))
-    (more-keys 3 (4 ∷ 5 ∷ []) (codeOf k) e)
-size-in kinds.SignedRational k e = sized k 10 (one-key 10 _ e)
-size-in kinds.Undefined k e = sized k 7 (one-key 7 _ e)
+    ⊎-elim (λ h. inl (only k 3 (λ z. absurd (omega arith)) (λ z. absurd (omega arith)) h))
+    (λ h. inr (⊎-elim (long k) (λ q. inr (only k 5 (λ z. absurd (omega arith)) (λ z. absurd (omega arith)) (one-key 5 _ q))) (more-keys 4 (5 ∷ []) (plainOf k) h)))
+    (more-keys 3 (4 ∷ 5 ∷ []) (plainOf k) e)
+size-in kinds.SignedRational k e = only k 10 (λ z. absurd (omega arith)) (λ z. absurd (omega arith)) (one-key 10 _ e)
+size-in kinds.Undefined k e = only k 7 (λ z. absurd (omega arith)) (λ z. absurd (omega arith)) (one-key 7 _ e)
 
 run-whole : (f : List ℕ) (p : ℕ) (e : Entry) → run f (wholeReading p e) ≡ is (valuesAt p e)
 unfolding wholeReading pick
@@ -185,7 +219,7 @@ module _ (w : Widths) (f : List ℕ) (o : Order) (r : Rule) (p : ℕ) (e : Entry
         elsewhere b v q = simp (running, run-whole, k, le-leb _ _ l, le-leb _ _ m, lt-leb _ _ b, ← q)
 
         values-in : (size v : ℕ) → v + bytesOf e ≤ size → Placed-values size r (valuesAt v e)
-        values-in size v h = record { inside = h; sized = λ _. size-in (r .kinds) (e .kind) k; enough = λ _. l; within = m; present = λ _. l }
+        values-in size v h = record { inside = h; typed = λ _. (k, refl); sized = λ _. size-in (r .kinds) (e .kind) k; enough = λ _. l; within = m; present = λ _. l }
 
         pub inside-entry : (size : ℕ) → p + w .word ≤ size → bytesOf e ≤ w .word → Placed-values size r (valuesAt p e)
         inside-entry size h b = values-in size p (omega arith)
@@ -194,15 +228,16 @@ module _ (w : Widths) (f : List ℕ) (o : Order) (r : Rule) (p : ℕ) (e : Entry
         unfolding Placed
         inside-file b h v q = values-in (length f) v (rw q (h b))
 
-pub values-found : (w : Widths) (f : List ℕ) (d : Ifd) (r : Rule) (fd : Found) → fd ≡ run f (foundReading w d (r .tag)) →
-    run f (valuesReading w d r) ≡ run f (valuesFound w (d .order) r fd)
+pub values-found : (f : List ℕ) (d : Ifd) (r : Rule) (fd : Found) → fd ≡ run f (foundReading d (r .tag)) →
+    run f (valuesReading d r) ≡ run f (valuesFound (d .widths) (d .order) r fd)
 unfolding valuesReading
-values-found w f d r fd e = run-then _ _ _ fd e
+values-found f d r fd e = run-then _ _ _ fd e
 
 pub absent-in : (size : ℕ) (r : Rule) → r .required ≡ false → Placed-values size r noValues
 absent-in size r e =
     record {
       inside = omega arith;
+      typed = λ h. absurd (omega arith);
       sized = λ h. absurd (omega arith);
       enough = λ h. absurd (omega arith);
       within = omega arith;
@@ -237,12 +272,6 @@ judged-is tag r v e = simp (eq-eqb _ _ e, pick-yes)
 pub judged-bad : (tag : ℕ) (r : Range) (v : ℕ) → (faultOf r v ≡ 0 → ⊥) → refused (faultOf r v) tag ≡ judgedOf tag r v
 unfolding judgedOf
 judged-bad tag r v e = simp (ne-eqb _ _ e, pick-no)
-
--- room for one more of a size
-pub room : (p size n m len : ℕ) → n ≡ m + 1 → p + size * n ≤ len → (p + size ≤ len) × (p + size + size * m ≤ len)
-room p size n m len h l =
-    let z : size * n ≡ size * m + size = rw h (omega arith) in
-    (omega arith, omega arith)
 
 -- a number at a place, judged
 pub judged-at : (f : List ℕ) (o : Order) (at size tag : ℕ) (r : Range) (v : ℕ) → v ≡ numberOf o (part f at size) →

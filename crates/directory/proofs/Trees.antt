@@ -3,6 +3,7 @@
 use mathlib.Core.Path.{_≡_, refl, sym, _∙_}
 use mathlib.Core.Bool.{true, false, _&&_}
 use mathlib.Core.List.{List, [], _∷_}
+use mathlib.Core.Logic.{inl, inr}
 use Prim.Native.Nat.{ℕ, _+_, _*_, _≤_, _<_}
 use native.Mathlib.Numerals.{add-one}
 use native.Mathlib.Omega.{arith}
@@ -16,11 +17,12 @@ use Rattle.reading.specs.declared.number.Order.{Order}
 use Rattle.reading.specs.declared.number.Order.the-variants.{Little, Big}
 use Rattle.reading.proofs.Reading.{running, run-answer, run-then, pick-yes, pick-no}
 use Rattle.directory.specs.Out.{Out.refused, Out.is}
-use Rattle.directory.specs.Widths.{Widths, classic}
+use Rattle.directory.specs.Widths.{classic, bigTiff, Laid}
 use Rattle.directory.specs.Shape.{ifdReading}
 use Rattle.directory.specs.Tag.{valuesReading, oneReading, optional, range}
-use Rattle.directory.specs.Tree.{Seen, raw-one, parent, childrenRule, lookReading, versionRule, backwardRule, backwardReading, versionReading, Walked, left, afterLook, afterChild, childrenReading, visitReading, listVisit, rootReading, sameBytes, littleMark, bigMark, treeReading}
+use Rattle.directory.specs.Tree.{Seen, raw-one, parent, childrenRule, lookReading, versionRule, backwardRule, backwardReading, versionReading, Walked, left, afterLook, afterChild, childrenReading, visitReading, listVisit, rootReading, sameBytes, classicMark, bigTiffMark, offsetReading, bigTiffReading, treeReading}
 use Rattle.directory.specs.declared.Ifd.{Ifd}
+use Rattle.directory.specs.declared.Widths.{Widths}
 use Rattle.directory.specs.declared.tag.Kinds.the-variants as kinds
 use Rattle.directory.specs.declared.tag.Values.{Values}
 use Rattle.directory.proofs.Outs.{bind-refused, bind-is}
@@ -35,42 +37,42 @@ module _ (f : List ℕ) (v b : Values) (n : ℕ) where
   unfolding backwardReading
   backward-given h e = simp (ne-eqb _ _ h, running, ← e)
 
-module _ (w : Widths) (f : List ℕ) (d : Ifd) where
-  pub version-refused : (k e : ℕ) → refused k e ≡ run f (valuesReading w d versionRule) → refused k e ≡ run f (versionReading w d)
+module _ (f : List ℕ) (d : Ifd) where
+  pub version-refused : (k e : ℕ) → refused k e ≡ run f (valuesReading d versionRule) → refused k e ≡ run f (versionReading d)
   unfolding versionReading
   version-refused k e h = bind-refused f _ _ k e h
 
-  module _ (v : Values) (version : is v ≡ run f (valuesReading w d versionRule)) where
-    pub backward-refused : (k e : ℕ) → refused k e ≡ run f (valuesReading w d backwardRule) → refused k e ≡ run f (versionReading w d)
+  module _ (v : Values) (version : is v ≡ run f (valuesReading d versionRule)) where
+    pub backward-refused : (k e : ℕ) → refused k e ≡ run f (valuesReading d backwardRule) → refused k e ≡ run f (versionReading d)
     unfolding versionReading
     backward-refused k e h = bind-refused f _ _ k e h ∙ sym (bind-is f _ _ v version)
 
-    module _ (b : Values) (given : is b ≡ run f (valuesReading w d backwardRule)) (n : ℕ) (number : n ≡ run f (backwardReading v b)) where
-      pub version-above : 0x0107_0100 < n → refused 7 0 ≡ run f (versionReading w d)
+    module _ (b : Values) (given : is b ≡ run f (valuesReading d backwardRule)) (n : ℕ) (number : n ≡ run f (backwardReading v b)) where
+      pub version-above : 0x0107_0100 < n → refused 7 0 ≡ run f (versionReading d)
       unfolding versionReading
       version-above h = sym (bind-is f _ _ v version ∙ bind-is f _ _ b given ∙ run-then f _ _ n number ∙ run-answer f _ ∙ rw (lt-ltb _ _ h, pick-yes))
 
-      pub version-is : n ≤ 0x0107_0100 → is n ≡ run f (versionReading w d)
+      pub version-is : n ≤ 0x0107_0100 → is n ≡ run f (versionReading d)
       unfolding versionReading
       version-is h = sym (bind-is f _ _ v version ∙ bind-is f _ _ b given ∙ run-then f _ _ n number ∙ run-answer f _ ∙ rw (le-ltb _ _ h, pick-no))
 
 -- ---- one directory
-module _ (w : Widths) (f : List ℕ) (d : Ifd) where
-  pub look-refused : (k e : ℕ) → refused k e ≡ run f (oneReading w d (optional 254 kinds.Long 1) 0 (range 0 0 0xFFFF_FFFF)) → refused k e ≡ run f (lookReading w d)
+module _ (f : List ℕ) (d : Ifd) where
+  pub look-refused : (k e : ℕ) → refused k e ≡ run f (oneReading d (optional 254 kinds.Long 1) 0 (range 0 0 0xFFFF_FFFF_FFFF_FFFF)) → refused k e ≡ run f (lookReading d)
   unfolding lookReading
   look-refused k e h = bind-refused f _ _ k e h
 
-  module _ (t : ℕ) (subfile : is t ≡ run f (oneReading w d (optional 254 kinds.Long 1) 0 (range 0 0 0xFFFF_FFFF))) where
-    pub look-raw : t ≡ 0 → is raw-one ≡ run f (lookReading w d)
+  module _ (t : ℕ) (subfile : is t ≡ run f (oneReading d (optional 254 kinds.Long 1) 0 (range 0 0 0xFFFF_FFFF_FFFF_FFFF))) where
+    pub look-raw : t ≡ 0 → is raw-one ≡ run f (lookReading d)
     unfolding lookReading
     look-raw h = sym (bind-is f _ _ t subfile ∙ rw (eq-eqb _ _ h, pick-yes) (run-answer f _))
 
     module _ (other : t ≡ 0 → ⊥) where
-      pub children-refused : (k e : ℕ) → refused k e ≡ run f (valuesReading w d childrenRule) → refused k e ≡ run f (lookReading w d)
+      pub children-refused : (k e : ℕ) → refused k e ≡ run f (valuesReading d childrenRule) → refused k e ≡ run f (lookReading d)
       unfolding lookReading
       children-refused k e h = sym (bind-is f _ _ t subfile ∙ rw (ne-eqb _ _ other, pick-no) (sym (bind-refused f _ _ k e h)))
 
-      pub look-into : (v : Values) → is v ≡ run f (valuesReading w d childrenRule) → is (parent (v .place) (v .count)) ≡ run f (lookReading w d)
+      pub look-into : (v : Values) → is v ≡ run f (valuesReading d childrenRule) → is (parent (v .place) (v .size) (v .count)) ≡ run f (lookReading d)
       unfolding lookReading
       look-into v h = sym (bind-is f _ _ t subfile ∙ rw (ne-eqb _ _ other, pick-no) (bind-is f _ _ v h ∙ run-answer f _))
 
@@ -91,27 +93,27 @@ module _ (w : Widths) (f : List ℕ) (size : ℕ) (o : Order) (d at v : ℕ) whe
       visit-refused k e h = rw (deep, add-one m, some, add-one u) (bind-refused f _ _ k e h)
 
       module _ (i : Ifd) (ifd : is i ≡ run f (ifdReading w size o at)) where
-        pub visit-unseen : (k e : ℕ) → refused k e ≡ run f (lookReading w i) → refused k e ≡ run f (visitReading w size o d at v)
+        pub visit-unseen : (k e : ℕ) → refused k e ≡ run f (lookReading i) → refused k e ≡ run f (visitReading w size o d at v)
         unfolding visitReading
         visit-unseen k e h = rw (deep, add-one m, some, add-one u) (bind-refused f _ _ k e h ∙ sym (bind-is f _ _ i ifd))
 
-        pub visit-seen : (s : Seen) → is s ≡ run f (lookReading w i) → run f (visitReading w size o d at v) ≡ run f (afterLook i (λ p n. listVisit w size o m n p u) s)
+        pub visit-seen : (s : Seen) → is s ≡ run f (lookReading i) → run f (visitReading w size o d at v) ≡ run f (afterLook i (λ p s n. listVisit w size o m s n p u) s)
         unfolding visitReading
         visit-seen s h = rw (deep, add-one m, some, add-one u) (bind-is f _ _ i ifd ∙ bind-is f _ _ s h)
 
-module _ (w : Widths) (f : List ℕ) (size : ℕ) (o : Order) (d n p v : ℕ) where
-  pub children-none : n ≡ 0 → is (left v) ≡ run f (listVisit w size o d n p v)
+module _ (w : Widths) (f : List ℕ) (size : ℕ) (o : Order) (d s n p v : ℕ) where
+  pub children-none : n ≡ 0 → is (left v) ≡ run f (listVisit w size o d s n p v)
   unfolding childrenReading
   children-none e = rw (e, run-answer)
 
-  module _ (m at : ℕ) (some : n ≡ m + 1) (offset : at ≡ numberOf o (part f p (w .word))) where
-    pub child-refused : (k e : ℕ) → refused k e ≡ run f (visitReading w size o d at v) → refused k e ≡ run f (listVisit w size o d n p v)
+  module _ (m at : ℕ) (some : n ≡ m + 1) (offset : at ≡ numberOf o (part f p s)) where
+    pub child-refused : (k e : ℕ) → refused k e ≡ run f (visitReading w size o d at v) → refused k e ≡ run f (listVisit w size o d s n p v)
     unfolding childrenReading
     child-refused k e h = rw (some, add-one m) (simp (running, ← offset) (bind-refused f _ _ k e h))
 
-    pub child-is : (s : Walked) → is s ≡ run f (visitReading w size o d at v) → run f (listVisit w size o d n p v) ≡ run f (afterChild (λ u. listVisit w size o d m (p + w .word) u) s)
+    pub child-is : (t : Walked) → is t ≡ run f (visitReading w size o d at v) → run f (listVisit w size o d s n p v) ≡ run f (afterChild (λ u. listVisit w size o d s m (p + s) u) t)
     unfolding childrenReading
-    child-is s h = rw (some, add-one m) (simp (running, ← offset) (bind-is f _ _ s h))
+    child-is t h = rw (some, add-one m) (simp (running, ← offset) (bind-is f _ _ t h))
 
 -- ---- the file
 
@@ -137,6 +139,39 @@ start-is f m h e = rw (four f h) (go m e)
     go (a ∷ b ∷ c ∷ d ∷ []) q = refl
     go (a ∷ b ∷ c ∷ d ∷ x ∷ l) q = absurd (omega arith)
 
+-- the two layouts
+pub classic-laid : Laid classic
+classic-laid = record { entries = inl refl; word = inr (inl refl); types = omega arith }
+
+pub big-tiff-laid : Laid bigTiff
+big-tiff-laid = record { entries = inr (inr refl); word = inr (inr refl); types = omega arith }
+
+-- IFD 0, whose offset stands at a place
+pub first-at : (w : Widths) (f : List ℕ) (size : ℕ) (o : Order) (at p : ℕ) → p ≡ numberOf o (part f at (w .word)) →
+    run f (offsetReading w size o at) ≡ run f (rootReading w size o p)
+unfolding offsetReading
+first-at w f size o at p q = simp (running, ← q)
+
+-- the rest of a 64-bit header
+module _ (f : List ℕ) (size : ℕ) (o : Order) where
+  pub big-tiff-small : size < 16 → refused 1 0 ≡ run f (bigTiffReading size o)
+  unfolding bigTiffReading
+  big-tiff-small h = simp (lt-ltb _ _ h, running)
+
+  module _ (s : 16 ≤ size) (a : ℕ) (eight : a ≡ numberOf o (part f 4 2)) where
+    pub big-tiff-not-8 : (a ≡ 8 → ⊥) → refused 2 0 ≡ run f (bigTiffReading size o)
+    unfolding bigTiffReading
+    big-tiff-not-8 n = simp (le-ltb _ _ s, running, ← eight, ne-eqb _ _ n)
+
+    module _ (e : a ≡ 8) (z : ℕ) (zero : z ≡ numberOf o (part f 6 2)) where
+      pub big-tiff-not-0 : (z ≡ 0 → ⊥) → refused 2 0 ≡ run f (bigTiffReading size o)
+      unfolding bigTiffReading
+      big-tiff-not-0 n = simp (le-ltb _ _ s, running, ← eight, eq-eqb _ _ e, ← zero, ne-eqb _ _ n)
+
+      pub big-tiff-offset : z ≡ 0 → run f (bigTiffReading size o) ≡ run f (offsetReading bigTiff size o 8)
+      unfolding bigTiffReading
+      big-tiff-offset q = simp (le-ltb _ _ s, running, ← eight, eq-eqb _ _ e, ← zero, eq-eqb _ _ q)
+
 module _ (f : List ℕ) (size : ℕ) where
   pub tree-small : size < 8 → refused 1 0 ≡ run f (treeReading size)
   unfolding treeReading
@@ -148,15 +183,25 @@ module _ (f : List ℕ) (size : ℕ) where
     tree-large h = simp (le-ltb _ _ s, lt-ltb _ _ h, running)
 
     module _ (h : size ≤ 67108864) where
-      pub tree-little : sameBytes (take 4 f) littleMark ≡ true → (at : ℕ) → at ≡ numberOf Little (part f 4 4) → run f (treeReading size) ≡ run f (rootReading classic size Little at)
+      pub tree-classic-little : sameBytes (take 4 f) (classicMark Little) ≡ true → run f (treeReading size) ≡ run f (offsetReading classic size Little 4)
       unfolding treeReading
-      tree-little e at q = simp (le-ltb _ _ s, le-ltb _ _ h, running, e, ← q)
+      tree-classic-little e = simp (le-ltb _ _ s, le-ltb _ _ h, running, e)
 
-      module _ (n : sameBytes (take 4 f) littleMark ≡ false) where
-        pub tree-big : sameBytes (take 4 f) bigMark ≡ true → (at : ℕ) → at ≡ numberOf Big (part f 4 4) → run f (treeReading size) ≡ run f (rootReading classic size Big at)
+      module _ (n : sameBytes (take 4 f) (classicMark Little) ≡ false) where
+        pub tree-classic-big : sameBytes (take 4 f) (classicMark Big) ≡ true → run f (treeReading size) ≡ run f (offsetReading classic size Big 4)
         unfolding treeReading
-        tree-big e at q = simp (le-ltb _ _ s, le-ltb _ _ h, running, n, e, ← q)
+        tree-classic-big e = simp (le-ltb _ _ s, le-ltb _ _ h, running, n, e)
 
-        pub tree-neither : sameBytes (take 4 f) bigMark ≡ false → refused 2 0 ≡ run f (treeReading size)
-        unfolding treeReading
-        tree-neither e = simp (le-ltb _ _ s, le-ltb _ _ h, running, n, e)
+        module _ (m : sameBytes (take 4 f) (classicMark Big) ≡ false) where
+          pub tree-big-tiff-little : sameBytes (take 4 f) (bigTiffMark Little) ≡ true → run f (treeReading size) ≡ run f (bigTiffReading size Little)
+          unfolding treeReading
+          tree-big-tiff-little e = simp (le-ltb _ _ s, le-ltb _ _ h, running, n, m, e)
+
+          module _ (k : sameBytes (take 4 f) (bigTiffMark Little) ≡ false) where
+            pub tree-big-tiff-big : sameBytes (take 4 f) (bigTiffMark Big) ≡ true → run f (treeReading size) ≡ run f (bigTiffReading size Big)
+            unfolding treeReading
+            tree-big-tiff-big e = simp (le-ltb _ _ s, le-ltb _ _ h, running, n, m, k, e)
+
+            pub tree-other : sameBytes (take 4 f) (bigTiffMark Big) ≡ false → refused 2 0 ≡ run f (treeReading size)
+            unfolding treeReading
+            tree-other e = simp (le-ltb _ _ s, le-ltb _ _ h, running, n, m, k, e)

@@ -8,16 +8,18 @@ use lib.Dec.{ltb, leb, eqb}
 use lib.ListN.{length}
 use mir.Val.{hasKey}
 use Rattle.reading.specs.Bytes.{part}
-use Rattle.reading.specs.Number.{numberOf}
+use Rattle.reading.specs.Number.{numberOf, Wide}
 use Rattle.reading.specs.Reading.{Reading, Reading.answer, Reading.ask, andThen, pick, numberAt}
 use Rattle.reading.specs.declared.number.Order.{Order}
 use Rattle.directory.specs.Out.{Out, Out.refused, Out.is, bind}
-use Rattle.directory.specs.Widths.{Widths, headWidth, entryWidth}
-use Rattle.directory.specs.Entry.{codeOf, sizeOf, bytesOf, headerOf}
+use Rattle.directory.specs.Widths.{headWidth, entryWidth}
+use Rattle.directory.specs.Entry.{codeOf, plainOf, sizeOf, bytesOf, headerOf}
 use Rattle.directory.specs.declared.Ifd.{Ifd}
+use Rattle.directory.specs.declared.Widths.{Widths}
 use Rattle.directory.specs.declared.Number.{Number}
 use Rattle.directory.specs.declared.Number.the-variants as number
 use Rattle.directory.specs.declared.entry.Kind.{Kind}
+use Rattle.directory.specs.declared.entry.Kind.the-variants as kind
 use Rattle.directory.specs.declared.entry.Entry.{Entry}
 use Rattle.directory.specs.declared.tag.Found.{Found}
 use Rattle.directory.specs.declared.tag.Found.the-variants as found
@@ -38,8 +40,8 @@ findFrom w o (suc n) at tag =
     ask at (headWidth w) (λ bs.
     pick (eqb (headerOf w o bs .tag) tag) (answer (found.At (at + headWidth w) (headerOf w o bs))) (findFrom w o n (at + entryWidth w) tag))
 
-abbrev pub foundReading : Widths → Ifd → ℕ → Reading Found
-foundReading w d tag = findFrom w (d .order) (d .count) (d .at) tag
+abbrev pub foundReading : Ifd → ℕ → Reading Found
+foundReading d tag = findFrom (d .widths) (d .order) (d .count) (d .at) tag
 
 -- ---- type and count
 
@@ -56,14 +58,14 @@ codesOf kinds.SignedRational = 10 ∷ []
 codesOf kinds.Undefined = 7 ∷ []
 
 abbrev pub allowsOf : Kinds → Kind → Bool
-allowsOf ks k = hasKey (codesOf ks) (codeOf k)
+allowsOf ks k = hasKey (codesOf ks) (plainOf k)
 
--- where the values of an entry stand, how wide each is, and how many there are; none of an absent tag
+-- where the values of an entry stand, their type, how wide each is, and how many there are; none of an absent tag
 abbrev pub valuesAt : ℕ → Entry → Values
-valuesAt p e = record { place = p; size = sizeOf (e .kind); count = e .count }
+valuesAt p e = record { place = p; kind = e .kind; size = sizeOf (e .kind); count = e .count }
 
 abbrev pub noValues : Values
-noValues = record { place = 0; size = 0; count = 0 }
+noValues = record { place = 0; kind = kind.Unknown; size = 0; count = 0 }
 
 abbrev pub valuesOut : Given → Out Values
 valuesOut (given.Refused n d) = refused n d
@@ -94,16 +96,16 @@ valuesFound w o r found.Absent = answer (absentOf r)
 valuesFound w o r (found.At p e) = testedReading w o r p e
 
 -- a tag of a directory: presence, type and count
-unfoldable pub valuesReading : Widths → Ifd → Rule → Reading (Out Values)
-valuesReading w d r = andThen (foundReading w d (r .tag)) (valuesFound w (d .order) r)
+unfoldable pub valuesReading : Ifd → Rule → Reading (Out Values)
+valuesReading d r = andThen (foundReading d (r .tag)) (valuesFound (d .widths) (d .order) r)
 
 abbrev pub ifAbsent : ℕ → Found → Reading (Out ℕ)
 ifAbsent tag found.Absent = answer (is 0)
 ifAbsent tag (found.At p e) = answer (refused 8 tag)
 
 -- "if present with any type, not carried"
-unfoldable pub notCarried : Widths → Ifd → ℕ → Reading (Out ℕ)
-notCarried w d tag = andThen (foundReading w d tag) (ifAbsent tag)
+unfoldable pub notCarried : Ifd → ℕ → Reading (Out ℕ)
+notCarried d tag = andThen (foundReading d tag) (ifAbsent tag)
 
 -- ---- value by value
 
@@ -120,8 +122,8 @@ firstReading o tag default r v =
     pick (eqb (v .count) 0) (answer (judgedOf tag r default)) (andThen (numberAt o (v .place) (v .size)) (λ n. answer (judgedOf tag r n)))
 
 -- a tag that holds one number
-unfoldable pub oneReading : Widths → Ifd → Rule → ℕ → Range → Reading (Out ℕ)
-oneReading w d r default range = bind (valuesReading w d r) (firstReading (d .order) (r .tag) default range)
+unfoldable pub oneReading : Ifd → Rule → ℕ → Range → Reading (Out ℕ)
+oneReading d r default range = bind (valuesReading d r) (firstReading (d .order) (r .tag) default range)
 
 -- so many numbers from a place on, in stored order
 unfoldable pub eachReading : Order → ℕ → ℕ → Range → ℕ → ℕ → Reading (Out ℕ)
@@ -130,9 +132,9 @@ eachReading o size tag r (suc n) p =
     bind (andThen (numberAt o p size) (λ v. answer (judgedOf tag r v))) (λ _. eachReading o size tag r n (p + size))
 
 -- a tag whose numbers must all be in a range
-unfoldable pub allReading : Widths → Ifd → Rule → Range → Reading (Out Values)
-allReading w d r range =
-    bind (valuesReading w d r) (λ v. bind (eachReading (d .order) (v .size) (r .tag) range (v .count) (v .place)) (λ _. answer (is v)))
+unfoldable pub allReading : Ifd → Rule → Range → Reading (Out Values)
+allReading d r range =
+    bind (valuesReading d r) (λ v. bind (eachReading (d .order) (v .size) (r .tag) range (v .count) (v .place)) (λ _. answer (is v)))
 
 -- ---- rules
 
@@ -153,26 +155,26 @@ range legal from to = record { legal = legal; from = from; to = to }
 -- ---- what holds of a found entry, and of an accepted tag
 
 -- the value or offset of an entry that was found lies in the file
-abbrev pub FoundIn : ℕ → Found → Type 0
-FoundIn size found.Absent = Unit {0}
-FoundIn size (found.At p e) = (p + 4 ≤ size) × (e .count < 0x1_0000_0000)
+abbrev pub FoundIn : Widths → ℕ → Found → Type 0
+FoundIn w size found.Absent = Unit {0}
+FoundIn w size (found.At p e) = p + w .word ≤ size
 
 -- and so does a value that stands elsewhere
 unfoldable pub Placed : Widths → List ℕ → Order → ℕ → Entry → Type 0
 Placed w f o p e = w .word < bytesOf e → numberOf o (part f p (w .word)) + bytesOf e ≤ length f
 
--- SHORT or LONG
-abbrev pub Wide : ℕ → Type 0
-Wide s = (s ≡ 2) ⊎ (s ≡ 4)
+-- LONG or LONG8
+abbrev pub Long : ℕ → Type 0
+Long s = (s ≡ 4) ⊎ (s ≡ 8)
 
 abbrev pub SizeIn : Kinds → ℕ → Type 0
 SizeIn kinds.Byte s = s ≡ 1
 SizeIn kinds.Short s = s ≡ 2
-SizeIn kinds.Long s = s ≡ 4
+SizeIn kinds.Long s = Long s
 SizeIn kinds.ShortOrLong s = Wide s
-SizeIn kinds.LongOrIfd s = s ≡ 4
+SizeIn kinds.LongOrIfd s = Long s
 SizeIn kinds.ShortOrRational s = (s ≡ 2) ⊎ (s ≡ 8)
-SizeIn kinds.ShortLongOrRational s = (s ≡ 2) ⊎ ((s ≡ 4) ⊎ (s ≡ 8))
+SizeIn kinds.ShortLongOrRational s = Wide s
 SizeIn kinds.SignedRational s = s ≡ 8
 SizeIn kinds.Undefined s = s ≡ 1
 
@@ -190,6 +192,7 @@ Numeric kinds.Undefined = ⊥
 
 pub record Placed-values (size : ℕ) (r : Rule) (v : Values) : Type 0 where
   pub inside : v .place + v .size * v .count ≤ size
+  pub typed : 0 < v .count → (allowsOf (r .kinds) (v .kind) ≡ true) × (v .size ≡ sizeOf (v .kind))
   pub sized : 0 < v .count → SizeIn (r .kinds) (v .size)
   pub enough : 0 < v .count → r .least ≤ v .count
   pub within : v .count ≤ r .most

@@ -1,17 +1,19 @@
 -- The directory tree: refusals 1, 2, 6, 7, and the raw directory.
 use mathlib.Core.List.{List, [], _∷_}
 use mathlib.Core.Bool.{Bool, true, false, _&&_}
-use Prim.Native.Nat.{ℕ, zero, suc, _+_, _*_, _≤_}
+use Prim.Native.Nat.{ℕ, zero, suc, _+_, _*_, _≤_, _<_}
 use lib.Dec.{ltb, eqb}
 use lib.ListN.{length}
+use Rattle.reading.specs.Number.{Wide}
 use Rattle.reading.specs.Reading.{Reading, Reading.answer, Reading.ask, andThen, pick, numberAt}
 use Rattle.reading.specs.declared.number.Order.{Order}
 use Rattle.reading.specs.declared.number.Order.the-variants.{Little, Big}
 use Rattle.directory.specs.Out.{Out, Out.refused, Out.is, bind}
-use Rattle.directory.specs.Widths.{Widths, classic}
+use Rattle.directory.specs.Widths.{classic, bigTiff}
 use Rattle.directory.specs.Shape.{ifdReading, Tested}
 use Rattle.directory.specs.Tag.{valuesReading, oneReading, rule, required, optional, range}
 use Rattle.directory.specs.declared.Ifd.{Ifd}
+use Rattle.directory.specs.declared.Widths.{Widths}
 use Rattle.directory.specs.declared.tag.Kinds.the-variants as kinds
 use Rattle.directory.specs.declared.tag.Rule.{Rule}
 use Rattle.directory.specs.declared.tag.Values.{Values}
@@ -25,26 +27,26 @@ use Rattle.directory.specs.declared.tree.Tree.the-variants as tree
 
 -- ---- one directory
 
--- what a directory is: the raw one, or one with so many children, whose offsets start at a place
+-- what a directory is: the raw one, or one with so many children, whose offsets start at a place and have so many bytes each
 pub data Seen : Type 0 where
   raw-one : Seen
-  parent : ℕ → ℕ → Seen
+  parent : ℕ → ℕ → ℕ → Seen
 
 abbrev pub lookOut : Look → Out Seen
 lookOut look.Raw = is raw-one
 lookOut (look.Refused n d) = refused n d
-lookOut (look.Into p n) = is (parent p n)
+lookOut (look.Into p s n) = is (parent p s n)
 
 -- 330: "LONG or IFD, 1 to 16 of them"
 abbrev pub childrenRule : Rule
 childrenRule = rule false 330 kinds.LongOrIfd 1 16
 
 -- 254: LONG 1, default 0; the raw directory is one where it is 0, and otherwise 330 is tested
-unfoldable pub lookReading : Widths → Ifd → Reading (Out Seen)
-lookReading w d =
-    bind (oneReading w d (optional 254 kinds.Long 1) 0 (range 0 0 0xFFFF_FFFF)) (λ t.
+unfoldable pub lookReading : Ifd → Reading (Out Seen)
+lookReading d =
+    bind (oneReading d (optional 254 kinds.Long 1) 0 (range 0 0 0xFFFF_FFFF_FFFF_FFFF)) (λ t.
     pick (eqb t 0) (answer (is raw-one))
-    (bind (valuesReading w d childrenRule) (λ v. answer (is (parent (v .place) (v .count))))))
+    (bind (valuesReading d childrenRule) (λ v. answer (is (parent (v .place) (v .size) (v .count))))))
 
 -- ---- the version, of IFD 0 only
 
@@ -60,10 +62,10 @@ backwardReading v b =
     pick (eqb (b .count) 0) (andThen (numberAt Big (v .place) 2) (λ n. answer (n * 65536))) (numberAt Big (b .place) 4)
 
 -- 7 where it is above 1.7.1.0
-unfoldable pub versionReading : Widths → Ifd → Reading (Out ℕ)
-versionReading w d =
-    bind (valuesReading w d versionRule) (λ v.
-    bind (valuesReading w d backwardRule) (λ b.
+unfoldable pub versionReading : Ifd → Reading (Out ℕ)
+versionReading d =
+    bind (valuesReading d versionRule) (λ v.
+    bind (valuesReading d backwardRule) (λ b.
     andThen (backwardReading v b) (λ n. answer (pick (ltb 0x0107_0100 n) (refused 7 0) (is n)))))
 
 -- ---- the walk
@@ -78,19 +80,19 @@ walkOut (walk.Raw d) = is (raw d)
 walkOut (walk.Refused n d) = refused n d
 walkOut (walk.Left v) = is (left v)
 
-abbrev pub afterLook : Ifd → (ℕ → ℕ → Reading (Out Walked)) → Seen → Reading (Out Walked)
+abbrev pub afterLook : Ifd → (ℕ → ℕ → ℕ → Reading (Out Walked)) → Seen → Reading (Out Walked)
 afterLook d k raw-one = answer (is (raw d))
-afterLook d k (parent p n) = k p n
+afterLook d k (parent p s n) = k p s n
 
 abbrev pub afterChild : (ℕ → Reading (Out Walked)) → Walked → Reading (Out Walked)
 afterChild k (raw d) = answer (is (raw d))
 afterChild k (left v) = k v
 
--- so many children, whose offsets start at a place, in their order; each is visited with the visits that are left
-unfoldable pub childrenReading : Widths → (ℕ → ℕ → Reading (Out Walked)) → Order → ℕ → ℕ → ℕ → Reading (Out Walked)
-childrenReading w visit o zero p v = answer (is (left v))
-childrenReading w visit o (suc n) p v =
-    andThen (numberAt o p (w .word)) (λ at. bind (visit at v) (afterChild (λ u. childrenReading w visit o n (p + w .word) u)))
+-- so many children, whose offsets of so many bytes start at a place, in their order; each is visited with the visits that are left
+unfoldable pub childrenReading : ℕ → (ℕ → ℕ → Reading (Out Walked)) → Order → ℕ → ℕ → ℕ → Reading (Out Walked)
+childrenReading s visit o zero p v = answer (is (left v))
+childrenReading s visit o (suc n) p v =
+    andThen (numberAt o p s) (λ at. bind (visit at v) (afterChild (λ u. childrenReading s visit o n (p + s) u)))
 
 -- a directory, with so many levels and visits left: 6 where one of them is used up, before anything of it is read
 unfoldable pub visitReading : Widths → ℕ → Order → ℕ → ℕ → ℕ → Reading (Out Walked)
@@ -98,11 +100,11 @@ visitReading w size o zero at v = answer (refused 6 0)
 visitReading w size o (suc d) at zero = answer (refused 6 0)
 visitReading w size o (suc d) at (suc v) =
     bind (ifdReading w size o at) (λ e.
-    bind (lookReading w e) (afterLook e (λ p n. childrenReading w (λ a u. visitReading w size o d a u) o n p v)))
+    bind (lookReading e) (afterLook e (λ p s n. childrenReading s (λ a u. visitReading w size o d a u) o n p v)))
 
 -- the children of a directory
-abbrev pub listVisit : Widths → ℕ → Order → ℕ → ℕ → ℕ → ℕ → Reading (Out Walked)
-listVisit w size o d n p v = childrenReading w (λ a u. visitReading w size o d a u) o n p v
+abbrev pub listVisit : Widths → ℕ → Order → ℕ → ℕ → ℕ → ℕ → ℕ → Reading (Out Walked)
+listVisit w size o d s n p v = childrenReading s (λ a u. visitReading w size o d a u) o n p v
 
 -- ---- the file
 
@@ -119,12 +121,12 @@ afterWalk first (raw d) = answer (is (roots first d))
 afterWalk first (left v) = answer (refused 6 0)
 
 -- from IFD 0, which is at depth 0 and the first of 16 visits: its children may be at depths 1 to 3
-unfoldable pub walkReading : Widths → ℕ → Ifd → Reading (Out Walked)
-walkReading w size e = bind (lookReading w e) (afterLook e (λ p n. listVisit w size (e .order) 3 n p 15))
+unfoldable pub walkReading : ℕ → Ifd → Reading (Out Walked)
+walkReading size e = bind (lookReading e) (afterLook e (λ p s n. listVisit (e .widths) size (e .order) 3 s n p 15))
 
 -- IFD 0 at an offset: shape, version, then the walk
 unfoldable pub rootReading : Widths → ℕ → Order → ℕ → Reading (Out Roots)
-rootReading w size o at = bind (ifdReading w size o at) (λ e. bind (versionReading w e) (λ _. bind (walkReading w size e) (afterWalk e)))
+rootReading w size o at = bind (ifdReading w size o at) (λ e. bind (versionReading e) (λ _. bind (walkReading size e) (afterWalk e)))
 
 -- two lists of bytes are the same
 abbrev pub sameBytes : List ℕ → List ℕ → Bool
@@ -134,11 +136,28 @@ sameBytes (x ∷ xs) [] = false
 sameBytes (x ∷ xs) (y ∷ ys) = eqb x y && sameBytes xs ys
 
 -- 49 49 2A 00 and 4D 4D 00 2A
-abbrev pub littleMark : List ℕ
-littleMark = 0x49 ∷ 0x49 ∷ 0x2A ∷ 0x00 ∷ []
+abbrev pub classicMark : Order → List ℕ
+classicMark Little = 0x49 ∷ 0x49 ∷ 0x2A ∷ 0x00 ∷ []
+classicMark Big = 0x4D ∷ 0x4D ∷ 0x00 ∷ 0x2A ∷ []
 
-abbrev pub bigMark : List ℕ
-bigMark = 0x4D ∷ 0x4D ∷ 0x00 ∷ 0x2A ∷ []
+-- in the 64-bit layout 49 49 2B 00 and 4D 4D 00 2B
+abbrev pub bigTiffMark : Order → List ℕ
+bigTiffMark Little = 0x49 ∷ 0x49 ∷ 0x2B ∷ 0x00 ∷ []
+bigTiffMark Big = 0x4D ∷ 0x4D ∷ 0x00 ∷ 0x2B ∷ []
+
+-- IFD 0, whose offset stands at a place
+unfoldable pub offsetReading : Widths → ℕ → Order → ℕ → Reading (Out Roots)
+offsetReading w size o at = andThen (numberAt o at (w .word)) (rootReading w size o)
+
+-- the rest of a 64-bit header: 1 "in a file under 16 bytes; 2 for an 8 or a 0 that is wrong"
+unfoldable pub bigTiffReading : ℕ → Order → Reading (Out Roots)
+bigTiffReading size o =
+    pick (ltb size 16) (answer (refused 1 0))
+    (andThen (numberAt o 4 2) (λ a.
+    pick (eqb a 8)
+    (andThen (numberAt o 6 2) (λ z.
+    pick (eqb z 0) (offsetReading bigTiff size o 8) (answer (refused 2 0))))
+    (answer (refused 2 0))))
 
 -- 1: "file under 8 or over 67,108,864 bytes"; 2: the first four bytes; then IFD 0, whose offset follows
 unfoldable pub treeReading : ℕ → Reading (Out Roots)
@@ -146,16 +165,18 @@ treeReading size =
     pick (ltb size 8) (answer (refused 1 0))
     (pick (ltb 67108864 size) (answer (refused 1 0))
     (ask 0 4 (λ m.
-    pick (sameBytes m littleMark) (andThen (numberAt Little 4 4) (rootReading classic size Little))
-    (pick (sameBytes m bigMark) (andThen (numberAt Big 4 4) (rootReading classic size Big))
-    (answer (refused 2 0))))))
+    pick (sameBytes m (classicMark Little)) (offsetReading classic size Little 4)
+    (pick (sameBytes m (classicMark Big)) (offsetReading classic size Big 4)
+    (pick (sameBytes m (bigTiffMark Little)) (bigTiffReading size Little)
+    (pick (sameBytes m (bigTiffMark Big)) (bigTiffReading size Big)
+    (answer (refused 2 0))))))))
 
 -- ---- what holds of what was found
 
 abbrev pub LookIn : ℕ → Look → Type 0
 LookIn size look.Raw = Unit {0}
 LookIn size (look.Refused n d) = Unit {0}
-LookIn size (look.Into p n) = (n ≤ 16) × (p + 4 * n ≤ size)
+LookIn size (look.Into p s n) = (n ≤ 16) × (p + s * n ≤ size) × (0 < n → Wide s)
 
 abbrev pub WalkIn : List ℕ → Walk → Type 0
 WalkIn f (walk.Raw d) = Tested f d

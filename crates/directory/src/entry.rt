@@ -1,9 +1,12 @@
 // An entry of a directory.
 ghost use mathlib.Core.Path.{_≡_};
-ghost use Prim.Native.Nat.{_*_, _≤_, _<_};
+ghost use Prim.Native.Nat.{_+_, _*_, _≤_, _<_};
+ghost use lib.Dec.{leb};
 ghost use lib.ListN.{length};
-ghost use Rattle.directory.specs.Widths.{classic};
-ghost use Rattle.directory.specs.Entry.{kindOf, codeOf, sizeOf, headerOf};
+ghost use Rattle.reading.specs.Bytes.{part};
+ghost use Rattle.directory.specs.Widths.{headWidth, Laid};
+ghost use Rattle.directory.specs.Entry.{kindOf, codeOf, plainOf, sizeOf, headerOf};
+use crate::Widths;
 use reading::number;
 use reading::number::Order;
 
@@ -23,6 +26,9 @@ pub enum Kind {
     Float,
     Double,
     Ifd,
+    Long8,
+    SignedLong8,
+    Ifd8,
 }
 
 // An entry's tag, type and count.
@@ -33,7 +39,7 @@ pub struct Entry {
 }
 
 // By the type's number.
-const KINDS: [Kind; 14] = [
+const KINDS: [Kind; 19] = [
     Kind::Unknown,
     Kind::Byte,
     Kind::Ascii,
@@ -48,19 +54,34 @@ const KINDS: [Kind; 14] = [
     Kind::Float,
     Kind::Double,
     Kind::Ifd,
+    Kind::Unknown,
+    Kind::Unknown,
+    Kind::Long8,
+    Kind::SignedLong8,
+    Kind::Ifd8,
 ];
 
-const SIZES: [usize; 14] = [0, 1, 1, 2, 4, 8, 1, 1, 2, 4, 8, 4, 8, 4];
+const SIZES: [u8; 19] = [0, 1, 1, 2, 4, 8, 1, 1, 2, 4, 8, 4, 8, 4, 0, 0, 8, 8, 8];
 
-fn kind_of(t: usize) -> Kind
-    ensures { λ r. ⌜ r ≡ kindOf t ⌝ }
+// The type with a number, where the layout knows it.
+fn kind_of(types: usize, t: usize) -> Kind
+    requires { ⌜ types < 19 ⌝ }
+    ensures { λ r. ⌜ r ≡ kindOf types t ⌝ }
 {
-    if t < 14 { KINDS[t] } else { Kind::Unknown }
+    if t <= types { KINDS[t] } else { Kind::Unknown }
+}
+
+// The bytes of one value of the type with a number; 0 where the layout does not know it.
+pub fn size_of(types: usize, t: usize) -> usize
+    requires { ⌜ types < 19 ⌝ }
+    ensures { λ r. ⌜ (r ≡ sizeOf (kindOf types t)) × (r ≤ 8) ⌝ }
+{
+    if t <= types { SIZES[t] as usize } else { 0 }
 }
 
 // The type's number.
 pub fn code(kind: Kind) -> usize
-    ensures { λ r. ⌜ (r ≡ codeOf kind) × (r < 14) ⌝ }
+    ensures { λ r. ⌜ (r ≡ codeOf kind) × (r < 19) ⌝ }
 {
     match kind {
         Kind::Unknown => 0,
@@ -77,7 +98,21 @@ pub fn code(kind: Kind) -> usize
         Kind::Float => 11,
         Kind::Double => 12,
         Kind::Ifd => 13,
+        Kind::Long8 => 16,
+        Kind::SignedLong8 => 17,
+        Kind::Ifd8 => 18,
     }
+}
+
+// The number of the type that the rules speak of: LONG for LONG8, IFD for IFD8.
+pub fn plain(kind: Kind) -> usize
+    ensures { λ r. ⌜ r ≡ plainOf kind ⌝ }
+{
+    let t = code(kind);
+    if t == 16 {
+        return 4;
+    }
+    if t == 18 { 13 } else { t }
 }
 
 // The bytes of one value; 0 where the type is unknown.
@@ -85,24 +120,40 @@ pub fn size(kind: Kind) -> usize
     ensures { λ r. ⌜ (r ≡ sizeOf kind) × (r ≤ 8) ⌝ }
 {
     let t = code(kind);
-    SIZES[t]
+    SIZES[t] as usize
 }
 
-// The bytes of an entry's values.
-pub fn value_bytes(kind: Kind, count: usize) -> usize
-    requires { ⌜ count < 4294967296 ⌝ }
-    ensures { λ r. ⌜ (r ≡ sizeOf kind * count) × (r < 34359738368) ⌝ }
+// Whether so many values or entries of a size fit.
+pub fn fits(size: usize, count: usize, room: usize) -> bool
+    requires { ⌜ (size ≤ 20) × (room ≤ 67108864) ⌝ }
+    ensures { λ r. ⌜ r ≡ leb (size * count) room ⌝ }
 {
-    size(kind) * count
+    if count <= room {
+        size * count <= room
+    } else {
+        size == 0
+    }
 }
 
-// The entry whose first eight bytes these are.
-pub fn header(bytes: &[u8], order: Order) -> Entry
-    requires { ⌜ length (now bytes) ≡ 8 ⌝ }
-    ensures { λ r. ⌜ (r ≡ headerOf classic order (now (bytes .entry))) × (r .tag < 65536) × (r .count < 4294967296) ⌝ }
+// Whether so many of a size lie in a file of a length, from a place on.
+pub fn inside(place: usize, size: usize, count: usize, len: usize) -> bool
+    requires { ⌜ (size ≤ 20) × (len ≤ 67108864) ⌝ }
+    ensures { λ r. ⌜ r ≡ leb (place + size * count) len ⌝ }
 {
-    let tag = number::short(bytes, order, 0) as usize;
-    let kind = kind_of(number::short(bytes, order, 2) as usize);
-    let count = number::long(bytes, order, 4) as usize;
+    if place <= len {
+        fits(size, count, len - place)
+    } else {
+        false
+    }
+}
+
+// The entry at a place: its bytes before its value.
+pub fn header(file: &[u8], order: Order, widths: Widths, at: usize) -> Entry
+    requires { ⌜ (at + headWidth widths ≤ length (now file)) × Laid widths ⌝ }
+    ensures { λ r. ⌜ (r ≡ headerOf widths order (part (now (file .entry)) at (headWidth widths))) × (r .tag < 65536) ⌝ }
+{
+    let tag = number::short(file, order, at) as usize;
+    let kind = kind_of(widths.types, number::short(file, order, at + 2) as usize);
+    let count = number::value(file, order, widths.word, at + 4);
     Entry { tag, kind, count }
 }

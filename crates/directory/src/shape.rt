@@ -4,31 +4,35 @@ ghost use Prim.Native.Nat.{_+_, _*_, _≤_, _<_};
 ghost use lib.ListN.{length};
 ghost use Rattle.reading.specs.Reading.{run};
 ghost use Rattle.directory.specs.Out.{numberOut};
-ghost use Rattle.directory.specs.Widths.{classic};
+ghost use Rattle.directory.specs.Widths.{entryWidth, Laid};
 ghost use Rattle.directory.specs.Shape.{entryReading, shapeFrom, TagIn, ifdReading, ifdOut, IfdIn};
 use crate::Ifd;
 use crate::Number;
 use crate::Opened;
+use crate::Widths;
 use crate::entry;
 use reading::number;
 use reading::number::Order;
 
-// The tag of the entry at a place, whose value must lie in the file.
-fn placed_tag(file: &[u8], order: Order, at: usize) -> Number
-    requires { ⌜ at + 12 ≤ length (now file) ⌝ }
-    ensures { λ r. ⌜ numberOut r ≡ run (now (file .entry)) (entryReading classic (length (now (file .entry))) order at) ⌝ }
+// The tag of the entry at a place, whose value must lie in the file. The fields are read here one by one, and the size by the
+// type's number: `header` would stay a call in the loop over all entries.
+fn placed_tag(file: &[u8], order: Order, widths: Widths, at: usize) -> Number
+    requires { ⌜ (at + entryWidth widths ≤ length (now file)) × (length (now file) ≤ 67108864) × Laid widths ⌝ }
+    ensures { λ r. ⌜ numberOut r ≡ run (now (file .entry)) (entryReading widths (length (now (file .entry))) order at) ⌝ }
     ensures { λ r. ⌜ TagIn r ⌝ }
 {
-    let e = entry::header(&file[at..at + 8], order);
-    let kind = e.kind;
-    let count = e.count;
-    let bytes = entry::value_bytes(kind, count);
-    if bytes <= 4 {
-        return Number::Is(e.tag);
+    let word = widths.word;
+    let types = widths.types;
+    let head = 4 + word;
+    let tag = number::short(file, order, at) as usize;
+    let size = entry::size_of(types, number::short(file, order, at + 2) as usize);
+    let count = number::value(file, order, word, at + 4);
+    if entry::fits(size, count, word) {
+        return Number::Is(tag);
     }
-    let place = number::long(file, order, at + 8) as usize;
-    if place + bytes <= file.len() {
-        Number::Is(e.tag)
+    let place = number::value(file, order, word, at + head);
+    if entry::inside(place, size, count, file.len()) {
+        Number::Is(tag)
     } else {
         Number::Refused {
             number: 3,
@@ -38,15 +42,17 @@ fn placed_tag(file: &[u8], order: Order, at: usize) -> Number
 }
 
 // So many entries from a place on: their values lie in the file, and their tags ascend strictly.
-fn check_entries(file: &[u8], order: Order, count: usize, at: usize) -> Number
-    requires { ⌜ at + 12 * count ≤ length (now file) ⌝ }
-    ensures { λ r. ⌜ numberOut r ≡ run (now (file .entry)) (shapeFrom classic (length (now (file .entry))) order count at 0) ⌝ }
+fn check_entries(file: &[u8], order: Order, widths: Widths, count: usize, at: usize) -> Number
+    requires { ⌜ (at + entryWidth widths * count ≤ length (now file)) × (length (now file) ≤ 67108864) × Laid widths ⌝ }
+    ensures { λ r. ⌜ numberOut r ≡ run (now (file .entry)) (shapeFrom widths (length (now (file .entry))) order count at 0) ⌝ }
 {
+    let word = widths.word;
+    let step = 4 + word + word;
     let mut left = count;
     let mut p = at;
     let mut low: usize = 0;
     while 0 < left {
-        let tag = match placed_tag(file, order, p) {
+        let tag = match placed_tag(file, order, widths, p) {
             Number::Refused { number, detail } => return Number::Refused { number, detail },
             Number::Is(t) => t,
         };
@@ -57,27 +63,31 @@ fn check_entries(file: &[u8], order: Order, count: usize, at: usize) -> Number
             };
         }
         low = tag + 1;
-        p += 12;
+        p += step;
         left -= 1;
     }
     Number::Is(low)
 }
 
 // The directory at an offset.
-pub fn ifd_at(file: &[u8], order: Order, at: usize) -> Opened
-    requires { ⌜ at < 4294967296 ⌝ }
-    ensures { λ r. ⌜ (ifdOut r ≡ run (now (file .entry)) (ifdReading classic (length (now (file .entry))) order at)) × IfdIn (now (file .entry)) r ⌝ }
+pub fn ifd_at(file: &[u8], order: Order, widths: Widths, at: usize) -> Opened
+    requires { ⌜ (length (now file) ≤ 67108864) × Laid widths ⌝ }
+    ensures { λ r. ⌜ (ifdOut r ≡ run (now (file .entry)) (ifdReading widths (length (now (file .entry))) order at)) × IfdIn (now (file .entry)) r ⌝ }
 {
-    if at + 2 <= file.len() {
-        let count = number::short(file, order, at) as usize;
+    let entries = widths.entries;
+    let word = widths.word;
+    if entry::inside(at, entries, 1, file.len()) {
+        let count = number::value(file, order, entries, at);
+        let first = at + entries;
         if 0 < count {
-            if at + 2 + 12 * count + 4 <= file.len() {
-                return match check_entries(file, order, count, at + 2) {
+            if entry::inside(first + word, 4 + word + word, count, file.len()) {
+                return match check_entries(file, order, widths, count, first) {
                     Number::Refused { number, detail } => Opened::Refused { number, detail },
                     Number::Is(_) => Opened::Is(Ifd {
                         order,
+                        widths,
                         count,
-                        at: at + 2,
+                        at: first,
                     }),
                 };
             }

@@ -2,15 +2,15 @@
 ghost use mathlib.Core.Path.{_≡_};
 ghost use Prim.Native.Nat.{ℕ, _+_, _*_, _≤_, _<_};
 ghost use lib.ListN.{length};
-ghost use Rattle.reading.specs.Bytes.{part};
-ghost use Rattle.reading.specs.Number.{numberOf};
+ghost use Rattle.reading.specs.Number.{Wide};
 ghost use Rattle.reading.specs.Reading.{run};
 ghost use Rattle.directory.specs.Out.{numberOut};
-ghost use Rattle.directory.specs.Widths.{classic};
+ghost use Rattle.directory.specs.Widths.{entryWidth, Laid};
 ghost use Rattle.directory.specs.Shape.{Tested};
-ghost use Rattle.directory.specs.Tag.{findFrom, FoundIn, Placed, allowsOf, valuesOut, absentOf, testedReading, valuesReading, notCarried, ValuesIn, faultOf, Wide, eachReading, oneReading, NumberIn, InRange, Numeric, judgedOf, allReading};
+ghost use Rattle.directory.specs.Tag.{findFrom, FoundIn, Placed, allowsOf, valuesOut, absentOf, testedReading, valuesReading, notCarried, ValuesIn, faultOf, eachReading, oneReading, NumberIn, InRange, Numeric, judgedOf, allReading};
 use crate::Ifd;
 use crate::Number;
+use crate::Widths;
 use crate::entry;
 use crate::entry::Entry;
 use crate::entry::Kind;
@@ -45,9 +45,10 @@ pub struct Rule {
     pub most: usize,
 }
 
-// Where the values of a tag stand, the bytes of one, and how many there are; none where the tag is absent.
+// Where the values of a tag stand, their type, the bytes of one, and how many there are; none where the tag is absent.
 pub struct Values {
     pub place: usize,
+    pub kind: Kind,
     pub size: usize,
     pub count: usize,
 }
@@ -64,22 +65,24 @@ pub struct Range {
     pub to: usize,
 }
 
-// The first of so many entries with a tag.
-fn find(file: &[u8], order: Order, count: usize, at: usize, tag: usize) -> Found
-    requires { ⌜ at + 12 * count ≤ length (now file) ⌝ }
-    ensures { λ r. ⌜ (r ≡ run (now (file .entry)) (findFrom classic order count at tag)) × FoundIn (length (now (file .entry))) r ⌝ }
+// The first of so many entries with a tag: of the others only the tag is read.
+fn find(file: &[u8], order: Order, widths: Widths, count: usize, at: usize, tag: usize) -> Found
+    requires { ⌜ (at + entryWidth widths * count ≤ length (now file)) × Laid widths ⌝ }
+    ensures { λ r. ⌜ (r ≡ run (now (file .entry)) (findFrom widths order count at tag)) × FoundIn widths (length (now (file .entry))) r ⌝ }
 {
+    let word = widths.word;
+    let head = 4 + word;
+    let step = head + word;
     let mut left = count;
     let mut p = at;
     while 0 < left {
-        let e = entry::header(&file[p..p + 8], order);
-        if e.tag == tag {
+        if number::short(file, order, p) as usize == tag {
             return Found::At {
-                place: p + 8,
-                entry: e,
+                place: p + head,
+                entry: entry::header(file, order, widths, p),
             };
         }
-        p += 12;
+        p += step;
         left -= 1;
     }
     Found::Absent
@@ -88,7 +91,7 @@ fn find(file: &[u8], order: Order, count: usize, at: usize, tag: usize) -> Found
 fn allows(kinds: Kinds, kind: Kind) -> bool
     ensures { λ r. ⌜ r ≡ allowsOf kinds kind ⌝ }
 {
-    let t = entry::code(kind);
+    let t = entry::plain(kind);
     match kinds {
         Kinds::Byte => t == 1,
         Kinds::Short => t == 3,
@@ -113,6 +116,7 @@ fn absent(rule: Rule) -> Given
     } else {
         Given::Is(Values {
             place: 0,
+            kind: Kind::Unknown,
             size: 0,
             count: 0,
         })
@@ -120,10 +124,17 @@ fn absent(rule: Rule) -> Given
 }
 
 // The entry of a tag, whose value or offset stands at a place.
-fn tested(file: &[u8], order: Order, rule: Rule, place: usize, entry: Entry) -> Given
-    requires { ⌜ (place + 4 ≤ length (now file)) × (entry .count < 4294967296) ⌝ }
-    requires { ⌜ Placed classic (now file) order place entry ⌝ }
-    ensures { λ r. ⌜ (valuesOut r ≡ run (now (file .entry)) (testedReading classic order rule place entry)) × ValuesIn (length (now (file .entry))) rule r ⌝ }
+fn tested(
+    file: &[u8],
+    order: Order,
+    widths: Widths,
+    rule: Rule,
+    place: usize,
+    entry: Entry,
+) -> Given
+    requires { ⌜ (place + widths .word ≤ length (now file)) × Laid widths ⌝ }
+    requires { ⌜ Placed widths (now file) order place entry ⌝ }
+    ensures { λ r. ⌜ (valuesOut r ≡ run (now (file .entry)) (testedReading widths order rule place entry)) × ValuesIn (length (now (file .entry))) rule r ⌝ }
 {
     let kind = entry.kind;
     let count = entry.count;
@@ -138,11 +149,18 @@ fn tested(file: &[u8], order: Order, rule: Rule, place: usize, entry: Entry) -> 
             return Given::Refused { number: 4, detail };
         }
         let size = entry::size(kind);
-        if entry::value_bytes(kind, count) <= 4 {
-            Given::Is(Values { place, size, count })
+        let word = widths.word;
+        if entry::fits(size, count, word) {
+            Given::Is(Values {
+                place,
+                kind,
+                size,
+                count,
+            })
         } else {
             Given::Is(Values {
-                place: number::long(file, order, place) as usize,
+                place: number::value(file, order, word, place),
+                kind,
                 size,
                 count,
             })
@@ -155,23 +173,25 @@ fn tested(file: &[u8], order: Order, rule: Rule, place: usize, entry: Entry) -> 
 // A tag by its rule.
 pub fn look_up(file: &[u8], ifd: Ifd, rule: Rule) -> Given
     requires { ⌜ Tested (now file) ifd ⌝ }
-    ensures { λ r. ⌜ (valuesOut r ≡ run (now (file .entry)) (valuesReading classic ifd rule)) × ValuesIn (length (now (file .entry))) rule r ⌝ }
+    ensures { λ r. ⌜ (valuesOut r ≡ run (now (file .entry)) (valuesReading ifd rule)) × ValuesIn (length (now (file .entry))) rule r ⌝ }
 {
     let order = ifd.order;
-    let found = find(file, order, ifd.count, ifd.at, rule.tag);
+    let widths = ifd.widths;
+    let found = find(file, order, widths, ifd.count, ifd.at, rule.tag);
     match found {
         Found::Absent => absent(rule),
-        Found::At { place, entry } => tested(file, order, rule, place, entry),
+        Found::At { place, entry } => tested(file, order, widths, rule, place, entry),
     }
 }
 
 // A tag that must not be there.
 pub fn not_carried(file: &[u8], ifd: Ifd, tag: usize) -> Number
     requires { ⌜ Tested (now file) ifd ⌝ }
-    ensures { λ r. ⌜ numberOut r ≡ run (now (file .entry)) (notCarried classic ifd tag) ⌝ }
+    ensures { λ r. ⌜ numberOut r ≡ run (now (file .entry)) (notCarried ifd tag) ⌝ }
 {
     let order = ifd.order;
-    let found = find(file, order, ifd.count, ifd.at, tag);
+    let widths = ifd.widths;
+    let found = find(file, order, widths, ifd.count, ifd.at, tag);
     match found {
         Found::Absent => Number::Is(0),
         Found::At { place: _, entry: _ } => Number::Refused {
@@ -209,18 +229,6 @@ pub fn judged(tag: usize, range: Range, v: usize) -> Number
     }
 }
 
-// A SHORT or a LONG.
-pub fn value(file: &[u8], order: Order, size: usize, place: usize) -> usize
-    requires { ⌜ (place + size ≤ length (now file)) × Wide size ⌝ }
-    ensures { λ r. ⌜ (r ≡ numberOf order (part (now (file .entry)) place size)) × (r < 4294967296) ⌝ }
-{
-    if size == 2 {
-        number::short(file, order, place) as usize
-    } else {
-        number::long(file, order, place) as usize
-    }
-}
-
 // So many numbers from a place on, each in a range.
 pub fn each(
     file: &[u8],
@@ -237,7 +245,7 @@ pub fn each(
     let mut left = count;
     let mut p = place;
     while 0 < left {
-        match judged(tag, range, value(file, order, size, p)) {
+        match judged(tag, range, number::value(file, order, size, p)) {
             Number::Refused { number, detail } => return Number::Refused { number, detail },
             Number::Is(_) => {}
         }
@@ -251,7 +259,7 @@ pub fn each(
 pub fn one(file: &[u8], ifd: Ifd, rule: Rule, default: usize, range: Range) -> Number
     requires { ⌜ Tested (now file) ifd ⌝ }
     requires { ⌜ Numeric (rule .kinds) ⌝ }
-    ensures { λ r. ⌜ (numberOut r ≡ run (now (file .entry)) (oneReading classic ifd rule default range)) × NumberIn range r ⌝ }
+    ensures { λ r. ⌜ (numberOut r ≡ run (now (file .entry)) (oneReading ifd rule default range)) × NumberIn range r ⌝ }
 {
     let v = match look_up(file, ifd, rule) {
         Given::Refused { number, detail } => return Number::Refused { number, detail },
@@ -264,14 +272,14 @@ pub fn one(file: &[u8], ifd: Ifd, rule: Rule, default: usize, range: Range) -> N
     let size = v.size;
     let place = v.place;
     let order = ifd.order;
-    judged(rule.tag, range, value(file, order, size, place))
+    judged(rule.tag, range, number::value(file, order, size, place))
 }
 
 // A tag whose numbers must all be in a range.
 pub fn all(file: &[u8], ifd: Ifd, rule: Rule, range: Range) -> Given
     requires { ⌜ Tested (now file) ifd ⌝ }
     requires { ⌜ Numeric (rule .kinds) ⌝ }
-    ensures { λ r. ⌜ (valuesOut r ≡ run (now (file .entry)) (allReading classic ifd rule range)) × ValuesIn (length (now (file .entry))) rule r ⌝ }
+    ensures { λ r. ⌜ (valuesOut r ≡ run (now (file .entry)) (allReading ifd rule range)) × ValuesIn (length (now (file .entry))) rule r ⌝ }
 {
     let v = match look_up(file, ifd, rule) {
         Given::Refused { number, detail } => return Given::Refused { number, detail },

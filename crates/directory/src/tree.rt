@@ -2,15 +2,17 @@
 ghost use mathlib.Core.Path.{_≡_};
 ghost use Prim.Native.Nat.{_+_, _*_, _≤_, _<_};
 ghost use lib.ListN.{length, take};
+ghost use Rattle.reading.specs.Number.{Wide};
 ghost use Rattle.reading.specs.Reading.{run, runWhole};
 ghost use Rattle.directory.specs.Out.{numberOut};
-ghost use Rattle.directory.specs.Widths.{classic};
+ghost use Rattle.directory.specs.Widths.{Laid};
 ghost use Rattle.directory.specs.Shape.{Tested};
 ghost use Rattle.directory.specs.Tag.{Placed-values};
-ghost use Rattle.directory.specs.Tree.{lookOut, lookReading, LookIn, versionRule, backwardRule, backwardReading, versionReading, walkOut, visitReading, listVisit, WalkIn, treeOut, walkReading, rootReading, TreeIn, sameBytes, treeReading};
+ghost use Rattle.directory.specs.Tree.{lookOut, lookReading, LookIn, versionRule, backwardRule, backwardReading, versionReading, walkOut, visitReading, listVisit, WalkIn, treeOut, walkReading, rootReading, TreeIn, sameBytes, offsetReading, bigTiffReading, treeReading};
 use crate::Ifd;
 use crate::Number;
 use crate::Opened;
+use crate::Widths;
 use crate::shape;
 use crate::tag;
 use crate::tag::Given;
@@ -21,11 +23,18 @@ use crate::tag::Values;
 use reading::number;
 use reading::number::Order;
 
-// What a directory is: the raw one, or one with so many children, whose offsets start at a place.
+// What a directory is: the raw one, or one with so many children, whose offsets start at a place and have so many bytes.
 pub enum Look {
     Raw,
-    Refused { number: usize, detail: usize },
-    Into { place: usize, count: usize },
+    Refused {
+        number: usize,
+        detail: usize,
+    },
+    Into {
+        place: usize,
+        size: usize,
+        count: usize,
+    },
 }
 
 // What a walk finds: the raw directory, or none and so many visits left.
@@ -49,7 +58,7 @@ pub enum Tree {
 // 254 and 330.
 fn inspect(file: &[u8], ifd: Ifd) -> Look
     requires { ⌜ Tested (now file) ifd ⌝ }
-    ensures { λ r. ⌜ (lookOut r ≡ run (now (file .entry)) (lookReading classic ifd)) × LookIn (length (now (file .entry))) r ⌝ }
+    ensures { λ r. ⌜ (lookOut r ≡ run (now (file .entry)) (lookReading ifd)) × LookIn (length (now (file .entry))) r ⌝ }
 {
     let subfile = Rule {
         tag: 254,
@@ -61,7 +70,7 @@ fn inspect(file: &[u8], ifd: Ifd) -> Look
     let any = Range {
         legal: 0,
         from: 0,
-        to: 4294967295,
+        to: 18446744073709551615,
     };
     let t = match tag::one(file, ifd, subfile, 0, any) {
         Number::Refused { number, detail } => return Look::Refused { number, detail },
@@ -81,6 +90,7 @@ fn inspect(file: &[u8], ifd: Ifd) -> Look
         Given::Refused { number, detail } => Look::Refused { number, detail },
         Given::Is(v) => Look::Into {
             place: v.place,
+            size: v.size,
             count: v.count,
         },
     }
@@ -103,7 +113,7 @@ fn backward(file: &[u8], version: Values, given: Values) -> usize
 // 50706, 50707 and refusal 7.
 fn check_version(file: &[u8], ifd: Ifd) -> Number
     requires { ⌜ Tested (now file) ifd ⌝ }
-    ensures { λ r. ⌜ numberOut r ≡ run (now (file .entry)) (versionReading classic ifd) ⌝ }
+    ensures { λ r. ⌜ numberOut r ≡ run (now (file .entry)) (versionReading ifd) ⌝ }
 {
     let version = match tag::look_up(
         file,
@@ -145,9 +155,9 @@ fn check_version(file: &[u8], ifd: Ifd) -> Number
 }
 
 // Visits the directory at an offset, with so many levels and visits left.
-fn visit(file: &[u8], order: Order, depth: usize, at: usize, visits: usize) -> Walk
-    requires { ⌜ at < 4294967296 ⌝ }
-    ensures { λ r. ⌜ (walkOut r ≡ run (now (file .entry)) (visitReading classic (length (now (file .entry))) order depth at visits)) × WalkIn (now (file .entry)) r ⌝ }
+fn visit(file: &[u8], order: Order, widths: Widths, depth: usize, at: usize, visits: usize) -> Walk
+    requires { ⌜ (length (now file) ≤ 67108864) × Laid widths ⌝ }
+    ensures { λ r. ⌜ (walkOut r ≡ run (now (file .entry)) (visitReading widths (length (now (file .entry))) order depth at visits)) × WalkIn (now (file .entry)) r ⌝ }
 {
     if depth == 0 {
         return Walk::Refused {
@@ -161,17 +171,19 @@ fn visit(file: &[u8], order: Order, depth: usize, at: usize, visits: usize) -> W
             detail: 0,
         };
     }
-    let ifd = match shape::ifd_at(file, order, at) {
+    let ifd = match shape::ifd_at(file, order, widths, at) {
         Opened::Refused { number, detail } => return Walk::Refused { number, detail },
         Opened::Is(d) => d,
     };
     match inspect(file, ifd) {
         Look::Raw => Walk::Raw(ifd),
         Look::Refused { number, detail } => Walk::Refused { number, detail },
-        Look::Into { place, count } => visit_children(
+        Look::Into { place, size, count } => visit_children(
             file,
             order,
+            widths,
             depth - 1,
+            size,
             count,
             place,
             visits - 1,
@@ -179,48 +191,70 @@ fn visit(file: &[u8], order: Order, depth: usize, at: usize, visits: usize) -> W
     }
 }
 
-// Visits so many children, whose offsets start at a place.
+// Visits so many children, whose offsets of so many bytes start at a place.
 fn visit_children(
     file: &[u8],
     order: Order,
+    widths: Widths,
     depth: usize,
+    size: usize,
     count: usize,
     place: usize,
     visits: usize,
 ) -> Walk
-    requires { ⌜ (count ≤ 16) × (place + 4 * count ≤ length (now file)) ⌝ }
-    ensures { λ r. ⌜ (walkOut r ≡ run (now (file .entry)) (listVisit classic (length (now (file .entry))) order depth count place visits)) × WalkIn (now (file .entry)) r ⌝ }
+    requires { ⌜ (length (now file) ≤ 67108864) × Laid widths ⌝ }
+    requires { ⌜ (count ≤ 16) × (place + size * count ≤ length (now file)) × (0 < count → Wide size) ⌝ }
+    ensures { λ r. ⌜ (walkOut r ≡ run (now (file .entry)) (listVisit widths (length (now (file .entry))) order depth size count place visits)) × WalkIn (now (file .entry)) r ⌝ }
 {
     if count == 0 {
         return Walk::Left(visits);
     }
-    let at = number::long(file, order, place) as usize;
-    match visit(file, order, depth, at, visits) {
+    let at = number::value(file, order, size, place);
+    match visit(file, order, widths, depth, at, visits) {
         Walk::Raw(d) => Walk::Raw(d),
         Walk::Refused { number, detail } => Walk::Refused { number, detail },
-        Walk::Left(v) => visit_children(file, order, depth, count - 1, place + 4, v),
+        Walk::Left(v) => visit_children(
+            file,
+            order,
+            widths,
+            depth,
+            size,
+            count - 1,
+            place + size,
+            v,
+        ),
     }
 }
 
 // What stands at or below IFD 0: levels 1 to 3 and fifteen visits are left.
 fn walk_from(file: &[u8], first: Ifd) -> Walk
-    requires { ⌜ Tested (now file) first ⌝ }
-    ensures { λ r. ⌜ (walkOut r ≡ run (now (file .entry)) (walkReading classic (length (now (file .entry))) first)) × WalkIn (now (file .entry)) r ⌝ }
+    requires { ⌜ (length (now file) ≤ 67108864) × Tested (now file) first ⌝ }
+    ensures { λ r. ⌜ (walkOut r ≡ run (now (file .entry)) (walkReading (length (now (file .entry))) first)) × WalkIn (now (file .entry)) r ⌝ }
 {
     let order = first.order;
+    let widths = first.widths;
     match inspect(file, first) {
         Look::Raw => Walk::Raw(first),
         Look::Refused { number, detail } => Walk::Refused { number, detail },
-        Look::Into { place, count } => visit_children(file, order, 3, count, place, 15),
+        Look::Into { place, size, count } => visit_children(
+            file,
+            order,
+            widths,
+            3,
+            size,
+            count,
+            place,
+            15,
+        ),
     }
 }
 
 // IFD 0 at an offset, its version, and the walk from it.
-fn root(file: &[u8], order: Order, at: usize) -> Tree
-    requires { ⌜ (at < 4294967296) × (length (now file) ≤ 67108864) ⌝ }
-    ensures { λ r. ⌜ (treeOut r ≡ run (now (file .entry)) (rootReading classic (length (now (file .entry))) order at)) × TreeIn (now (file .entry)) r ⌝ }
+fn root(file: &[u8], order: Order, widths: Widths, at: usize) -> Tree
+    requires { ⌜ (length (now file) ≤ 67108864) × Laid widths ⌝ }
+    ensures { λ r. ⌜ (treeOut r ≡ run (now (file .entry)) (rootReading widths (length (now (file .entry))) order at)) × TreeIn (now (file .entry)) r ⌝ }
 {
-    let first = match shape::ifd_at(file, order, at) {
+    let first = match shape::ifd_at(file, order, widths, at) {
         Opened::Refused { number, detail } => return Tree::Refused { number, detail },
         Opened::Is(d) => d,
     };
@@ -255,6 +289,46 @@ fn starts_with(file: &[u8], mark: &[u8; 4]) -> bool
     file[3] == mark[3]
 }
 
+// IFD 0, whose offset stands at a place.
+fn root_from(file: &[u8], order: Order, widths: Widths, place: usize) -> Tree
+    requires { ⌜ (length (now file) ≤ 67108864) × Laid widths × (place + widths .word ≤ length (now file)) ⌝ }
+    ensures { λ r. ⌜ (treeOut r ≡ run (now (file .entry)) (offsetReading widths (length (now (file .entry))) order place)) × TreeIn (now (file .entry)) r ⌝ }
+{
+    let word = widths.word;
+    root(file, order, widths, number::value(file, order, word, place))
+}
+
+// The 64-bit layout: the rest of its header first.
+fn big_tiff_root(file: &[u8], order: Order) -> Tree
+    requires { ⌜ length (now file) ≤ 67108864 ⌝ }
+    ensures { λ r. ⌜ (treeOut r ≡ run (now (file .entry)) (bigTiffReading (length (now (file .entry))) order)) × TreeIn (now (file .entry)) r ⌝ }
+{
+    if file.len() < 16 {
+        return Tree::Refused {
+            number: 1,
+            detail: 0,
+        };
+    }
+    if number::short(file, order, 4) != 8 {
+        return Tree::Refused {
+            number: 2,
+            detail: 0,
+        };
+    }
+    if number::short(file, order, 6) != 0 {
+        return Tree::Refused {
+            number: 2,
+            detail: 0,
+        };
+    }
+    let widths = Widths {
+        entries: 8,
+        word: 8,
+        types: 18,
+    };
+    root_from(file, order, widths, 8)
+}
+
 // The tree of a file: IFD 0 and the raw directory, or the first refusal of 1, 2 and the tree.
 pub fn open(file: &[u8]) -> Tree
     ensures { λ r. ⌜ (treeOut r ≡ runWhole (now (file .entry)) treeReading) × TreeIn (now (file .entry)) r ⌝ }
@@ -271,13 +345,22 @@ pub fn open(file: &[u8]) -> Tree
             detail: 0,
         };
     }
+    let classic = Widths {
+        entries: 2,
+        word: 4,
+        types: 13,
+    };
     if starts_with(file, b"II*\0") {
-        let at = number::long(file, Order::Little, 4) as usize;
-        return root(file, Order::Little, at);
+        return root_from(file, Order::Little, classic, 4);
     }
     if starts_with(file, b"MM\0*") {
-        let at = number::long(file, Order::Big, 4) as usize;
-        return root(file, Order::Big, at);
+        return root_from(file, Order::Big, classic, 4);
+    }
+    if starts_with(file, b"II+\0") {
+        return big_tiff_root(file, Order::Little);
+    }
+    if starts_with(file, b"MM\0+") {
+        return big_tiff_root(file, Order::Big);
     }
     Tree::Refused {
         number: 2,

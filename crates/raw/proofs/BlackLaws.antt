@@ -2,6 +2,7 @@
 -- Assumes nothing.
 use mathlib.Core.Path.{_≡_, sym, ap, subst, _∙_}
 use mathlib.Core.List.{List}
+use mathlib.Core.Bool.{true}
 use mathlib.Core.Logic.{⊎-elim}
 use Prim.Native.Nat.{ℕ, _+_, _*_, _≤_, _<_}
 use native.Mathlib.Nat.{mul-le-mul}
@@ -9,17 +10,19 @@ use native.Mathlib.Omega.{arith}
 use lib.ListN.{length}
 use Rattle.levels.proofs.Runs.{within}
 use Rattle.reading.specs.Bytes.{part}
-use Rattle.reading.specs.Fraction.{widthOf, fractionOf}
 use Rattle.reading.specs.Number.{numberOf}
 use Rattle.reading.specs.Reading.{run, pick}
 use Rattle.reading.specs.declared.number.Order.{Order}
-use Rattle.reading.specs.declared.fraction.FractionKind.{FractionKind}
-use Rattle.reading.specs.declared.fraction.FractionKind.the-variants as kind
+use Rattle.levels.specs.declared.black.BlackKind.{BlackKind}
+use Rattle.levels.specs.declared.black.BlackKind.the-variants as kind
 use Rattle.reading.proofs.Bytes.{part-part}
 use Rattle.reading.proofs.Reading.{running, run-answer}
 use Rattle.directory.specs.Out.{Out.is}
-use Rattle.directory.specs.Widths.{Widths}
-use Rattle.directory.specs.Tag.{SizeIn, valuesOut, ValuesIn, range, allReading}
+use Rattle.directory.specs.declared.Widths.{Widths}
+use Rattle.directory.specs.Entry.{sizeOf}
+use Rattle.directory.specs.declared.entry.Kind.{Kind}
+use Rattle.directory.proofs.Tags.{number-or-fraction}
+use Rattle.directory.specs.Tag.{allowsOf, valuesOut, ValuesIn, range, allReading}
 use Rattle.directory.specs.declared.Ifd.{Ifd}
 use Rattle.directory.specs.declared.tag.Kinds.the-variants as kinds
 use Rattle.directory.specs.declared.tag.Values.{Values}
@@ -27,7 +30,7 @@ use Rattle.directory.specs.declared.tag.Given.{Given}
 use Rattle.directory.specs.declared.tag.Given.the-variants as given
 use Rattle.directory.proofs.Outs.{bind-inverse}
 use Rattle.levels.specs.Run.{runOf}
-use Rattle.levels.specs.Black.{blackOf, blackAt, greatestOf}
+use Rattle.levels.specs.Black.{blackOf, widthOf, valueOf, blackAt, greatestOf}
 use Rattle.levels.specs.declared.black.Black.{Black}
 use Rattle.levels.specs.declared.black.Black.the-variants.{Parts, Illegal}
 use Rattle.levels.proofs.Runs.{run-same, run-at, length-run}
@@ -37,13 +40,14 @@ use Rattle.raw.specs.White.{whiteReading, whiteRule, WhitesIn}
 use Rattle.raw.proofs.Ranges.{each-to}
 
 -- the bytes of the type
-pub width-for : (s : ℕ) → SizeIn kinds.ShortLongOrRational s → s ≡ widthOf (kindFor s)
-unfolding kindFor pick
-width-for s h = ⊎-elim (λ e. rw e) (λ h′. ⊎-elim (λ e. rw e) (λ e. rw e) h′) h
+pub width-for : (k : Kind) → allowsOf kinds.ShortLongOrRational k ≡ true → sizeOf k ≡ widthOf (kindFor k)
+unfolding kindFor pick sizeOf
+width-for k h = ⊎-elim (λ e. rw e) (λ q. ⊎-elim (λ r. ⊎-elim (λ e. rw e) (λ e. rw e) r) (λ e. rw e) q) (number-or-fraction k h)
 
-pub width-most : (k : FractionKind) → widthOf k ≤ 8
+pub width-most : (k : BlackKind) → widthOf k ≤ 8
 width-most kind.Short = omega arith
 width-most kind.Long = omega arith
+width-most kind.Long8 = omega arith
 width-most kind.Rational = omega arith
 width-most kind.SignedRational = omega arith
 
@@ -53,7 +57,7 @@ cells-fit r c s a b d = mul-le-mul (mul-le-mul a b) d
 pub pair-fits : (r c : ℕ) → r ≤ 8 → c ≤ 8 → r * c ≤ 64
 pair-fits r c a b = mul-le-mul a b
 
-module _ (f : List ℕ) (o : Order) (k : FractionKind) (size n p : ℕ) (sized : 0 < n → size ≡ widthOf k) where
+module _ (f : List ℕ) (o : Order) (k : BlackKind) (size n p : ℕ) (sized : 0 < n → size ≡ widthOf k) where
   -- a tag's values are the same in its bytes and in the file
   same-run : runOf (blackAt k o (part f p (size * n))) size 0 n ≡ runOf (blackAt k o f) size p n
   unfolding blackAt
@@ -62,14 +66,14 @@ module _ (f : List ℕ) (o : Order) (k : FractionKind) (size n p : ℕ) (sized :
       let e : size ≡ widthOf k = sized (omega arith) in
       let b : 0 + size * i + widthOf k ≤ size * n = omega (arith, within size n i h) in
       let g : p + (0 + size * i) ≡ p + size * i = omega arith in
-      ap (λ (bs : List ℕ). blackOf (fractionOf k o bs)) (part-part f p (size * n) (0 + size * i) (widthOf k) b ∙ ap (λ (q : ℕ). part f q (widthOf k)) g))
+      ap (λ (bs : List ℕ). blackOf (valueOf k o bs)) (part-part f p (size * n) (0 + size * i) (widthOf k) b ∙ ap (λ (q : ℕ). part f q (widthOf k)) g))
 
   pub blacks-test : (tag : ℕ) (b : Black) → b ≡ greatestOf (runOf (blackAt k o f) size p n) → blackOut tag b ≡ run f (blacksTest o tag k size n p)
   unfolding blacksTest
   blacks-test tag b e = ap (blackOut tag) (e ∙ sym (ap greatestOf same-run)) ∙ sym (simp running)
 
 -- where the greatest is there, every value is carried
-pub run-carried : (f : List ℕ) (o : Order) (k : FractionKind) (size n p : ℕ) (b : _) → Parts b ≡ greatestOf (runOf (blackAt k o f) size p n) → CarriedRun f o k size n p
+pub run-carried : (f : List ℕ) (o : Order) (k : BlackKind) (size n p : ℕ) (b : _) → Parts b ≡ greatestOf (runOf (blackAt k o f) size p n) → CarriedRun f o k size n p
 run-carried f o k size n p b e i h =
     let g = greatest-carried (runOf (blackAt k o f) size p n) b (sym e) i (subst (λ (m : ℕ). i < m) (sym (length-run (blackAt k o f) size p n)) h) in
     rw (run-at (blackAt k o f) size p n i Illegal h) at g
@@ -81,7 +85,7 @@ same-value v u e = cc
 abbrev Most : List ℕ → Order → Values → Type 0
 Most f o v = (i : ℕ) → i < v .count → numberOf o (part f (v .place + v .size * i) (v .size)) ≤ 65535
 
-pub whites-in : (w : Widths) (f : List ℕ) (d : Ifd) (s : ℕ) (r : Given) → valuesOut r ≡ run f (whiteReading w d s) → ValuesIn (length f) (whiteRule s) r → WhitesIn f (d .order) (whiteRule s) r
+pub whites-in : (w : Widths) (f : List ℕ) (d : Ifd) (s : ℕ) (r : Given) → valuesOut r ≡ run f (whiteReading d s) → ValuesIn (length f) (whiteRule s) r → WhitesIn f (d .order) (whiteRule s) r
 unfolding whiteReading allReading
 whites-in w f d s (given.Refused n t) e q = tt
 whites-in w f d s (given.Is v) e q =

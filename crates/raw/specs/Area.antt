@@ -4,7 +4,7 @@ use lib.Dec.{eqb, leb, ltb}
 use Rattle.reading.specs.Reading.{Reading, Reading.answer, andThen, pick, numberAt}
 use Rattle.reading.specs.declared.number.Order.{Order}
 use Rattle.directory.specs.Out.{Out, Out.refused, Out.is, bind}
-use Rattle.directory.specs.Widths.{Widths}
+use Rattle.directory.specs.declared.Widths.{Widths}
 use Rattle.directory.specs.Tag.{valuesReading, optional}
 use Rattle.directory.specs.declared.Ifd.{Ifd}
 use Rattle.directory.specs.declared.tag.Kinds.the-variants as kinds
@@ -43,8 +43,8 @@ fourReading o f v =
     answer (croppedOf f (area t l b r)))))))
 
 -- 50829: SHORT or LONG 4
-unfoldable pub areaReading : Widths → Ifd → Frame → Reading (Out Area)
-areaReading w d f = bind (valuesReading w d (optional 50829 kinds.ShortOrLong 4)) (fourReading (d .order) f)
+unfoldable pub areaReading : Ifd → Frame → Reading (Out Area)
+areaReading d f = bind (valuesReading d (optional 50829 kinds.ShortOrLong 4)) (fourReading (d .order) f)
 
 pub record Cropped-in (f : Frame) (a : Area) : Type 0 where
   pub rows : a .top < a .bottom

@@ -6,11 +6,13 @@ use lib.Dec.{eqb}
 use lib.ListN.{length}
 use Rattle.reading.specs.Reading.{Reading, Reading.answer, Reading.ask, pick}
 use Rattle.reading.specs.declared.number.Order.{Order}
-use Rattle.reading.specs.declared.fraction.FractionKind.{FractionKind}
-use Rattle.reading.specs.declared.fraction.FractionKind.the-variants as kind
+use Rattle.levels.specs.declared.black.BlackKind.{BlackKind}
+use Rattle.levels.specs.declared.black.BlackKind.the-variants as kind
 use Rattle.directory.specs.Out.{Out, Out.refused, Out.is, bind}
-use Rattle.directory.specs.Widths.{Widths}
+use Rattle.directory.specs.declared.Widths.{Widths}
 use Rattle.directory.specs.Tag.{valuesReading, optional, Placed-values}
+use Rattle.directory.specs.Entry.{codeOf}
+use Rattle.directory.specs.declared.entry.Kind.{Kind}
 use Rattle.directory.specs.declared.Ifd.{Ifd}
 use Rattle.directory.specs.declared.Number.{Number}
 use Rattle.directory.specs.declared.Number.the-variants as number
@@ -25,9 +27,9 @@ use Rattle.levels.specs.declared.black.Black.{Black}
 use Rattle.levels.specs.declared.black.Black.the-variants as black
 use Rattle.raw.specs.declared.repeat.Repeat.{Repeat}
 
--- the type of a black level by its bytes
-unfoldable pub kindFor : ℕ → FractionKind
-kindFor s = pick (eqb s 2) kind.Short (pick (eqb s 4) kind.Long kind.Rational)
+-- the type of a black level by its entry's: SHORT, LONG, LONG8, or else RATIONAL
+unfoldable pub kindFor : Kind → BlackKind
+kindFor k = pick (eqb (codeOf k) 3) kind.Short (pick (eqb (codeOf k) 4) kind.Long (pick (eqb (codeOf k) 16) kind.Long8 kind.Rational))
 
 -- illegal is 4, not carried is 8
 abbrev pub blackOut : ℕ → Black → Out ℕ
@@ -36,39 +38,39 @@ blackOut tag black.Illegal = refused 4 tag
 blackOut tag black.NotCarried = refused 8 tag
 
 -- so many values of a size from a place on, in stored order: the first that is illegal or not carried refuses
-unfoldable pub blacksTest : Order → ℕ → FractionKind → ℕ → ℕ → ℕ → Reading (Out ℕ)
+unfoldable pub blacksTest : Order → ℕ → BlackKind → ℕ → ℕ → ℕ → Reading (Out ℕ)
 blacksTest o tag k size n p = ask p (size * n) (λ bs. answer (blackOut tag (greatestOf (runOf (blackAt k o bs) size 0 n))))
 
 abbrev pub blackRule : Repeat → ℕ → Rule
 blackRule r s = optional 50714 kinds.ShortLongOrRational (r .rows * r .columns * s)
 
 -- 50714: "SHORT, LONG or RATIONAL, count rows x columns x samples of the repeat"
-unfoldable pub blackReading : Widths → Ifd → Repeat → ℕ → Reading (Out Values)
-blackReading w d r s =
-    bind (valuesReading w d (blackRule r s)) (λ v.
-    bind (blacksTest (d .order) 50714 (kindFor (v .size)) (v .size) (v .count) (v .place)) (λ _. answer (is v)))
+unfoldable pub blackReading : Ifd → Repeat → ℕ → Reading (Out Values)
+blackReading d r s =
+    bind (valuesReading d (blackRule r s)) (λ v.
+    bind (blacksTest (d .order) 50714 (kindFor (v .kind)) (v .size) (v .count) (v .place)) (λ _. answer (is v)))
 
 abbrev pub deltaRule : ℕ → ℕ → Rule
 deltaRule tag n = optional tag kinds.SignedRational n
 
 -- 50715: "SRATIONAL, one per active column". 50716: "SRATIONAL, one per active row"
-unfoldable pub deltaReading : Widths → Ifd → ℕ → ℕ → Reading (Out Values)
-deltaReading w d tag n =
-    bind (valuesReading w d (deltaRule tag n)) (λ v.
+unfoldable pub deltaReading : Ifd → ℕ → ℕ → Reading (Out Values)
+deltaReading d tag n =
+    bind (valuesReading d (deltaRule tag n)) (λ v.
     bind (blacksTest (d .order) tag kind.SignedRational (v .size) (v .count) (v .place)) (λ _. answer (is v)))
 
 -- every value is carried
-abbrev pub CarriedRun : List ℕ → Order → FractionKind → ℕ → ℕ → ℕ → Type 0
+abbrev pub CarriedRun : List ℕ → Order → BlackKind → ℕ → ℕ → ℕ → Type 0
 CarriedRun f o k size n p = (i : ℕ) → i < n → blackAt k o f (p + size * i) ≡ black.Parts (partsOf (blackAt k o f (p + size * i)))
 
-abbrev pub AllCarried : List ℕ → Order → FractionKind → ℕ → ℕ → ℕ → Number → Type 0
+abbrev pub AllCarried : List ℕ → Order → BlackKind → ℕ → ℕ → ℕ → Number → Type 0
 AllCarried f o k size n p (number.Refused a b) = Unit {0}
 AllCarried f o k size n p (number.Is z) = CarriedRun f o k size n p
 
-pub record Blacks-in (f : List ℕ) (o : Order) (r : Rule) (k : ℕ → FractionKind) (v : Values) : Type 0 where
+pub record Blacks-in (f : List ℕ) (o : Order) (r : Rule) (k : Kind → BlackKind) (v : Values) : Type 0 where
   pub placed : Placed-values (length f) r v
-  pub carried : CarriedRun f o (k (v .size)) (v .size) (v .count) (v .place)
+  pub carried : CarriedRun f o (k (v .kind)) (v .size) (v .count) (v .place)
 
-abbrev pub BlacksIn : List ℕ → Order → Rule → (ℕ → FractionKind) → Given → Type 0
+abbrev pub BlacksIn : List ℕ → Order → Rule → (Kind → BlackKind) → Given → Type 0
 BlacksIn f o r k (given.Refused n d) = Unit {0}
 BlacksIn f o r k (given.Is v) = Blacks-in f o r k v

@@ -5,7 +5,7 @@ use Prim.Native.Nat.{ℕ, _≤_}
 use lib.Dec.{eqb}
 use Rattle.reading.specs.Reading.{Reading, Reading.answer, pick}
 use Rattle.directory.specs.Out.{Out, Out.refused, Out.is, bind}
-use Rattle.directory.specs.Widths.{Widths}
+use Rattle.directory.specs.declared.Widths.{Widths}
 use Rattle.directory.specs.Tag.{oneReading, required, optional, range}
 use Rattle.directory.specs.declared.Ifd.{Ifd}
 use Rattle.directory.specs.declared.Number.{Number}
@@ -24,8 +24,8 @@ abbrev pub dimensionRange : Range
 dimensionRange = range 1 1 16384
 
 -- 256, 257: "SHORT or LONG 1, required; 0 is illegal, above 16,384 not carried"
-unfoldable pub dimensionReading : Widths → Ifd → ℕ → Reading (Out ℕ)
-dimensionReading w d tag = oneReading w d (required tag kinds.ShortOrLong 1) 0 dimensionRange
+unfoldable pub dimensionReading : Ifd → ℕ → Reading (Out ℕ)
+dimensionReading d tag = oneReading d (required tag kinds.ShortOrLong 1) 0 dimensionRange
 
 -- the samples of a mosaic and of LinearRaw; 0 of anything else
 unfoldable pub samplesOf : ℕ → ℕ
@@ -37,17 +37,17 @@ PlanesIn (number.Refused n d) = Unit {0}
 PlanesIn (number.Is v) = (v ≡ 1) ⊎ (v ≡ 3)
 
 -- 262: "SHORT 1, required; 32803 or 34892 carried". 277: "SHORT 1, default 1; 1 for 32803, 3 for 34892, else not carried"
-unfoldable pub planesReading : Widths → Ifd → Reading (Out ℕ)
-planesReading w d =
-    bind (oneReading w d (required 262 kinds.Short 1) 0 (range 0 0 65535)) (λ p.
+unfoldable pub planesReading : Ifd → Reading (Out ℕ)
+planesReading d =
+    bind (oneReading d (required 262 kinds.Short 1) 0 (range 0 0 65535)) (λ p.
     pick (eqb (samplesOf p) 0) (answer (refused 8 262))
-    (oneReading w d (optional 277 kinds.Short 1) 1 (range 0 (samplesOf p) (samplesOf p))))
+    (oneReading d (optional 277 kinds.Short 1) 1 (range 0 (samplesOf p) (samplesOf p))))
 
-unfoldable pub frameReading : Widths → Ifd → Reading (Out Frame)
-frameReading w d =
-    bind (dimensionReading w d 256) (λ columns.
-    bind (dimensionReading w d 257) (λ rows.
-    bind (planesReading w d) (λ s.
+unfoldable pub frameReading : Ifd → Reading (Out Frame)
+frameReading d =
+    bind (dimensionReading d 256) (λ columns.
+    bind (dimensionReading d 257) (λ rows.
+    bind (planesReading d) (λ s.
     answer (is (record { width = columns; length = rows; samples = s })))))
 
 pub record Framed-in (v : Frame) : Type 0 where

@@ -6,10 +6,10 @@ use lib.ListN.{length}
 use Rattle.reading.specs.Reading.{Reading, Reading.answer, andThen, run}
 use Rattle.reading.specs.declared.number.Order.{Order}
 use Rattle.directory.specs.Out.{Out, Out.refused, Out.is, bind}
-use Rattle.directory.specs.Widths.{Widths, classic}
 use Rattle.directory.specs.Shape.{Tested}
 use Rattle.directory.specs.Tree.{treeReading}
 use Rattle.directory.specs.declared.Ifd.{Ifd}
+use Rattle.directory.specs.declared.Widths.{Widths}
 use Rattle.raw.specs.Raw.{tagsReading, Tags-in}
 use Rattle.raw.specs.Stored.{levelsReading}
 use Rattle.raw.specs.Spans.{spannedOf, Spans-in}
@@ -30,9 +30,9 @@ abbrev pub rawWith : Tags → Spans → Raw
 rawWith t s = record { tags = t; spans = s }
 
 -- "the raw tags, 9": S is worked out from the values that the tags hold
-unfoldable pub rawReading : Widths → ℕ → Ifd → Reading (Out Raw)
-rawReading w size d =
-    bind (tagsReading w size d) (λ t.
+unfoldable pub rawReading : ℕ → Ifd → Reading (Out Raw)
+rawReading size d =
+    bind (tagsReading size d) (λ t.
     bind (andThen (levelsReading (d .order) t) (λ l. answer (spannedOf l))) (λ s.
     answer (is (rawWith t s))))
 
@@ -46,7 +46,7 @@ pictureOf first d r = record { first = first; order = d .order; raw = r }
 -- "1, 2, the tree, the raw tags, 9"
 unfoldable pub frontReading : ℕ → Reading (Out Picture)
 frontReading size =
-    bind (treeReading size) (λ roots. bind (rawReading classic size (roots .raw)) (λ r. answer (is (pictureOf (roots .first) (roots .raw) r))))
+    bind (treeReading size) (λ roots. bind (rawReading size (roots .raw)) (λ r. answer (is (pictureOf (roots .first) (roots .raw) r))))
 
 pub record Raw-in (f : List ℕ) (o : Order) (r : Raw) : Type 0 where
   pub tags : Tags-in f o (r .tags)

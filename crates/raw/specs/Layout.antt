@@ -3,7 +3,7 @@ use Prim.Native.Nat.{ℕ, _≤_}
 use lib.Dec.{eqb}
 use Rattle.reading.specs.Reading.{Reading, Reading.answer, andThen, pick, numberAt}
 use Rattle.directory.specs.Out.{Out, Out.refused, Out.is, bind}
-use Rattle.directory.specs.Widths.{Widths}
+use Rattle.directory.specs.declared.Widths.{Widths}
 use Rattle.directory.specs.Tag.{valuesReading, oneReading, allReading, eachReading, required, optional, range}
 use Rattle.directory.specs.declared.Ifd.{Ifd}
 use Rattle.directory.specs.declared.tag.Kinds.{Kinds}
@@ -28,38 +28,38 @@ depthFrom d v n =
     (bind (eachReading (d .order) (v .size) 258 (range 0 n n) (v .count) (v .place)) (λ _. answer (is (bytesPer n))))
 
 -- 258: "SHORT, one per sample, required; all 8 or all 16 carried"
-unfoldable pub depthReading : Widths → Ifd → ℕ → Reading (Out ℕ)
-depthReading w d s = bind (valuesReading w d (required 258 kinds.Short s)) (λ v. andThen (numberAt (d .order) (v .place) (v .size)) (depthFrom d v))
+unfoldable pub depthReading : Ifd → ℕ → Reading (Out ℕ)
+depthReading d s = bind (valuesReading d (required 258 kinds.Short s)) (λ v. andThen (numberAt (d .order) (v .place) (v .size)) (depthFrom d v))
 
 -- "default 1 .. only 1 carried"
-unfoldable pub onlyOne : Widths → Ifd → ℕ → Kinds → ℕ → Reading (Out ℕ)
-onlyOne w d tag k legal = oneReading w d (optional tag k 1) 1 (range legal 1 1)
+unfoldable pub onlyOne : Ifd → ℕ → Kinds → ℕ → Reading (Out ℕ)
+onlyOne d tag k legal = oneReading d (optional tag k 1) 1 (range legal 1 1)
 
 -- 339: "SHORT, one per sample, default 1; only 1 carried"
-unfoldable pub formatReading : Widths → Ifd → ℕ → Reading (Out Values)
-formatReading w d s = allReading w d (optional 339 kinds.Short s) (range 0 1 1)
+unfoldable pub formatReading : Ifd → ℕ → Reading (Out Values)
+formatReading d s = allReading d (optional 339 kinds.Short s) (range 0 1 1)
 
--- 278: "SHORT or LONG 1, default 4,294,967,295; 0 illegal"
-unfoldable pub stripRowsReading : Widths → Ifd → Reading (Out ℕ)
-stripRowsReading w d = oneReading w d (optional 278 kinds.ShortOrLong 1) 4294967295 (range 1 1 4294967295)
+-- 278: "SHORT or LONG 1, default 4,294,967,295; 0 illegal"; any other number is carried
+unfoldable pub stripRowsReading : Ifd → Reading (Out ℕ)
+stripRowsReading d = oneReading d (optional 278 kinds.ShortOrLong 1) 4294967295 (range 1 1 0xFFFF_FFFF_FFFF_FFFF)
 
 -- 259, 284: SHORT 1. 50975, 52547: "SHORT or LONG 1, default 1; 0 illegal, only 1 carried"
-unfoldable pub layoutReading : Widths → Ifd → ℕ → Reading (Out Layout)
-layoutReading w d s =
-    bind (depthReading w d s) (λ b.
-    bind (onlyOne w d 259 kinds.Short 0) (λ _.
-    bind (onlyOne w d 284 kinds.Short 0) (λ _.
-    bind (formatReading w d s) (λ _.
-    bind (onlyOne w d 50975 kinds.ShortOrLong 1) (λ _.
-    bind (onlyOne w d 52547 kinds.ShortOrLong 1) (λ _.
-    bind (stripRowsReading w d) (λ r.
+unfoldable pub layoutReading : Ifd → ℕ → Reading (Out Layout)
+layoutReading d s =
+    bind (depthReading d s) (λ b.
+    bind (onlyOne d 259 kinds.Short 0) (λ _.
+    bind (onlyOne d 284 kinds.Short 0) (λ _.
+    bind (formatReading d s) (λ _.
+    bind (onlyOne d 50975 kinds.ShortOrLong 1) (λ _.
+    bind (onlyOne d 52547 kinds.ShortOrLong 1) (λ _.
+    bind (stripRowsReading d) (λ r.
     answer (is (record { bytes = b; rows = r })))))))))
 
 pub record Laid-in (v : Layout) : Type 0 where
   pub some-bytes : 1 ≤ v .bytes
   pub bytes : v .bytes ≤ 2
   pub some-rows : 1 ≤ v .rows
-  pub rows : v .rows ≤ 4294967295
+  pub rows : v .rows ≤ 0xFFFF_FFFF_FFFF_FFFF
 
 abbrev pub LayoutIn : Laid → Type 0
 LayoutIn (laid.Refused n d) = Unit {0}

@@ -4,9 +4,9 @@ use Prim.Native.Nat.{ℕ}
 use lib.ListN.{length}
 use Rattle.reading.specs.Reading.{Reading, Reading.answer}
 use Rattle.reading.specs.declared.number.Order.{Order}
-use Rattle.reading.specs.declared.fraction.FractionKind.the-variants as kind
+use Rattle.levels.specs.declared.black.BlackKind.the-variants as kind
 use Rattle.directory.specs.Out.{Out, Out.refused, Out.is, bind}
-use Rattle.directory.specs.Widths.{Widths}
+use Rattle.directory.specs.declared.Widths.{Widths}
 use Rattle.directory.specs.Tag.{Placed-values}
 use Rattle.directory.specs.declared.Ifd.{Ifd}
 use Rattle.raw.specs.Repeat.{repeatReading, Repeated-in}
@@ -21,14 +21,14 @@ levelTagsOut (leveled.Refused n d) = refused n d
 levelTagsOut (leveled.Is v) = is v
 
 -- of so many samples, active rows and active columns
-unfoldable pub levelTagsReading : Widths → Ifd → ℕ → ℕ → ℕ → Reading (Out LevelTags)
-levelTagsReading w d s rows columns =
-    bind (tableReading w d) (λ t.
-    bind (repeatReading w d) (λ r.
-    bind (blackReading w d r s) (λ b.
-    bind (deltaReading w d 50715 columns) (λ cs.
-    bind (deltaReading w d 50716 rows) (λ rs.
-    bind (whiteReading w d s) (λ v.
+unfoldable pub levelTagsReading : Ifd → ℕ → ℕ → ℕ → Reading (Out LevelTags)
+levelTagsReading d s rows columns =
+    bind (tableReading d) (λ t.
+    bind (repeatReading d) (λ r.
+    bind (blackReading d r s) (λ b.
+    bind (deltaReading d 50715 columns) (λ cs.
+    bind (deltaReading d 50716 rows) (λ rs.
+    bind (whiteReading d s) (λ v.
     answer (is (record { table = t; repeat = r; black = b; «column_deltas» = cs; «row_deltas» = rs; white = v }))))))))
 
 pub record Leveled-in (f : List ℕ) (o : Order) (s rows columns : ℕ) (v : LevelTags) : Type 0 where

@@ -2,7 +2,7 @@
 use mathlib.Core.Bool.{false}
 use Rattle.reading.specs.Reading.{Reading}
 use Rattle.directory.specs.Out.{Out, bind}
-use Rattle.directory.specs.Widths.{Widths}
+use Rattle.directory.specs.declared.Widths.{Widths}
 use Rattle.directory.specs.Tag.{valuesReading, notCarried, rule}
 use Rattle.directory.specs.declared.Ifd.{Ifd}
 use Rattle.directory.specs.declared.tag.Kinds.the-variants as kinds
@@ -13,5 +13,5 @@ abbrev pub listRule : Rule
 listRule = rule false 51009 kinds.Undefined 4 0xFFFF_FFFF
 
 -- "51008, 51022: if present with any type, not carried. 51009: UNDEFINED, 4 bytes or more"
-unfoldable pub listReading : Widths → Ifd → Reading (Out Values)
-listReading w d = bind (notCarried w d 51008) (λ _. bind (notCarried w d 51022) (λ _. valuesReading w d listRule))
+unfoldable pub listReading : Ifd → Reading (Out Values)
+listReading d = bind (notCarried d 51008) (λ _. bind (notCarried d 51022) (λ _. valuesReading d listRule))

@@ -5,7 +5,7 @@ use lib.ListN.{length}
 use Rattle.reading.specs.Reading.{Reading, Reading.answer}
 use Rattle.reading.specs.declared.number.Order.{Order}
 use Rattle.directory.specs.Out.{Out, Out.refused, Out.is, bind}
-use Rattle.directory.specs.Widths.{Widths}
+use Rattle.directory.specs.declared.Widths.{Widths}
 use Rattle.directory.specs.Tag.{Placed-values}
 use Rattle.directory.specs.declared.Ifd.{Ifd}
 use Rattle.raw.specs.Frame.{frameReading, Framed-in}
@@ -29,14 +29,14 @@ activeRows a = a .bottom - a .top
 abbrev pub activeColumns : Area → ℕ
 activeColumns a = a .right - a .left
 
-unfoldable pub tagsReading : Widths → ℕ → Ifd → Reading (Out Tags)
-tagsReading w size d =
-    bind (frameReading w d) (λ f.
-    bind (layoutReading w d (f .samples)) (λ l.
-    bind (stripsReading w size d f l) (λ s.
-    bind (areaReading w d f) (λ a.
-    bind (levelTagsReading w d (f .samples) (activeRows a) (activeColumns a)) (λ v.
-    bind (listReading w d) (λ o.
+unfoldable pub tagsReading : ℕ → Ifd → Reading (Out Tags)
+tagsReading size d =
+    bind (frameReading d) (λ f.
+    bind (layoutReading d (f .samples)) (λ l.
+    bind (stripsReading size d f l) (λ s.
+    bind (areaReading d f) (λ a.
+    bind (levelTagsReading d (f .samples) (activeRows a) (activeColumns a)) (λ v.
+    bind (listReading d) (λ o.
     answer (is (record { frame = f; layout = l; strips = s; area = a; levels = v; list = o }))))))))
 
 pub record Tags-in (f : List ℕ) (o : Order) (r : Tags) : Type 0 where

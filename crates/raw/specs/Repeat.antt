@@ -4,7 +4,7 @@ use lib.Dec.{eqb}
 use Rattle.reading.specs.Reading.{Reading, Reading.answer, andThen, pick, numberAt}
 use Rattle.reading.specs.declared.number.Order.{Order}
 use Rattle.directory.specs.Out.{Out, Out.refused, Out.is, bind}
-use Rattle.directory.specs.Widths.{Widths}
+use Rattle.directory.specs.declared.Widths.{Widths}
 use Rattle.directory.specs.Tag.{valuesReading, optional, judgedOf, range}
 use Rattle.directory.specs.declared.Ifd.{Ifd}
 use Rattle.directory.specs.declared.tag.Kinds.the-variants as kinds
@@ -29,8 +29,8 @@ pairReading o v =
     answer (is (record { rows = m; columns = n })))))
 
 -- 50713: "SHORT 2, default 1, 1"
-unfoldable pub repeatReading : Widths → Ifd → Reading (Out Repeat)
-repeatReading w d = bind (valuesReading w d (optional 50713 kinds.Short 2)) (pairReading (d .order))
+unfoldable pub repeatReading : Ifd → Reading (Out Repeat)
+repeatReading d = bind (valuesReading d (optional 50713 kinds.Short 2)) (pairReading (d .order))
 
 pub record Repeated-in (v : Repeat) : Type 0 where
   pub some-rows : 1 ≤ v .rows

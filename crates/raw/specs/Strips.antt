@@ -8,7 +8,7 @@ use Rattle.reading.specs.Number.{numberOf}
 use Rattle.reading.specs.Reading.{Reading, Reading.answer, andThen, pick, numberAt}
 use Rattle.reading.specs.declared.number.Order.{Order}
 use Rattle.directory.specs.Out.{Out, Out.refused, Out.is, bind}
-use Rattle.directory.specs.Widths.{Widths}
+use Rattle.directory.specs.declared.Widths.{Widths}
 use Rattle.directory.specs.Tag.{valuesReading, required, Placed-values}
 use Rattle.directory.specs.declared.Ifd.{Ifd}
 use Rattle.directory.specs.declared.tag.Kinds.the-variants as kinds
@@ -19,9 +19,9 @@ use Rattle.directory.specs.declared.tag.Given.the-variants as given
 use Rattle.raw.specs.declared.frame.Frame.{Frame}
 use Rattle.raw.specs.declared.layout.Layout.{Layout}
 
--- "length / rows per strip, rounded up"
+-- "length / rows per strip, rounded up", of a length that is not 0
 abbrev pub stripCount : Frame → Layout → ℕ
-stripCount f l = (f .length + l .rows - 1) / l .rows
+stripCount f l = (f .length - 1) / l .rows + 1
 
 abbrev pub rowBytes : Frame → Layout → ℕ
 rowBytes f l = f .width * f .samples * l .bytes
@@ -44,10 +44,10 @@ abbrev pub countsRule : Frame → Layout → Rule
 countsRule f l = required 279 kinds.ShortOrLong (stripCount f l)
 
 -- 273, 279: "SHORT or LONG, required, count = length / rows per strip, rounded up. Then strip by strip"
-unfoldable pub stripsReading : Widths → ℕ → Ifd → Frame → Layout → Reading (Out Values)
-stripsReading w size d f l =
-    bind (valuesReading w d (offsetsRule f l)) (λ os.
-    bind (valuesReading w d (countsRule f l)) (λ cs.
+unfoldable pub stripsReading : ℕ → Ifd → Frame → Layout → Reading (Out Values)
+stripsReading size d f l =
+    bind (valuesReading d (offsetsRule f l)) (λ os.
+    bind (valuesReading d (countsRule f l)) (λ cs.
     bind (stripFrom size (d .order) (os .size) (cs .size) (l .rows) (rowBytes f l) (stripCount f l) (os .place) (cs .place) (f .length)) (λ _.
     answer (is os))))
 

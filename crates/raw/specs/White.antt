@@ -8,7 +8,7 @@ use Rattle.reading.specs.Number.{numberOf}
 use Rattle.reading.specs.Reading.{Reading}
 use Rattle.reading.specs.declared.number.Order.{Order}
 use Rattle.directory.specs.Out.{Out}
-use Rattle.directory.specs.Widths.{Widths}
+use Rattle.directory.specs.declared.Widths.{Widths}
 use Rattle.directory.specs.Tag.{valuesReading, allReading, rule, optional, range, Placed-values}
 use Rattle.directory.specs.declared.Ifd.{Ifd}
 use Rattle.directory.specs.declared.tag.Kinds.the-variants as kinds
@@ -21,15 +21,15 @@ abbrev pub tableRule : Rule
 tableRule = rule false 50712 kinds.Short 1 65536
 
 -- 50712: "SHORT, 1 to 65,536 entries"
-unfoldable pub tableReading : Widths → Ifd → Reading (Out Values)
-tableReading w d = valuesReading w d tableRule
+unfoldable pub tableReading : Ifd → Reading (Out Values)
+tableReading d = valuesReading d tableRule
 
 abbrev pub whiteRule : ℕ → Rule
 whiteRule s = optional 50717 kinds.ShortOrLong s
 
 -- 50717: "SHORT or LONG, one per sample .. up to 65,535 carried"
-unfoldable pub whiteReading : Widths → Ifd → ℕ → Reading (Out Values)
-whiteReading w d s = allReading w d (whiteRule s) (range 0 0 65535)
+unfoldable pub whiteReading : Ifd → ℕ → Reading (Out Values)
+whiteReading d s = allReading d (whiteRule s) (range 0 0 65535)
 
 pub record Whites-in (f : List ℕ) (o : Order) (r : Rule) (v : Values) : Type 0 where
   pub placed : Placed-values (length f) r v

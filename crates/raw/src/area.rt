@@ -2,7 +2,6 @@
 ghost use mathlib.Core.Path.{_≡_};
 ghost use Prim.Native.Nat.{_+_, _≤_};
 ghost use Rattle.reading.specs.Reading.{run};
-ghost use Rattle.directory.specs.Widths.{classic};
 ghost use Rattle.directory.specs.Shape.{Tested};
 ghost use Rattle.raw.specs.Frame.{Framed-in};
 ghost use Rattle.raw.specs.Area.{areaOut, AreaIn, croppedOf, areaReading};
@@ -12,6 +11,7 @@ use directory::tag;
 use directory::tag::Given;
 use directory::tag::Kinds;
 use directory::tag::Rule;
+use reading::number;
 
 pub struct StoredRow(pub usize);
 
@@ -72,7 +72,7 @@ fn crop(frame: Frame, area: Area) -> Cropped
 pub fn area_of(file: &[u8], ifd: Ifd, frame: Frame) -> Cropped
     requires { ⌜ Tested (now file) ifd ⌝ }
     requires { ⌜ Framed-in frame ⌝ }
-    ensures { λ r. ⌜ (areaOut r ≡ run (now (file .entry)) (areaReading classic ifd frame)) × AreaIn frame r ⌝ }
+    ensures { λ r. ⌜ (areaOut r ≡ run (now (file .entry)) (areaReading ifd frame)) × AreaIn frame r ⌝ }
 {
     let rule = Rule {
         tag: 50829,
@@ -97,10 +97,10 @@ pub fn area_of(file: &[u8], ifd: Ifd, frame: Frame) -> Cropped
     let size = v.size;
     let place = v.place;
     let order = ifd.order;
-    let top = tag::value(file, order, size, place);
-    let left = tag::value(file, order, size, place + size);
-    let bottom = tag::value(file, order, size, place + 2 * size);
-    let right = tag::value(file, order, size, place + 3 * size);
+    let top = number::value(file, order, size, place);
+    let left = number::value(file, order, size, place + size);
+    let bottom = number::value(file, order, size, place + 2 * size);
+    let right = number::value(file, order, size, place + 3 * size);
     crop(
         frame,
         Area {

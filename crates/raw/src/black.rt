@@ -3,9 +3,8 @@ ghost use mathlib.Core.Path.{_≡_};
 ghost use Prim.Native.Nat.{_+_, _*_, _≤_, _<_};
 ghost use lib.ListN.{length};
 ghost use Rattle.reading.specs.Reading.{run};
-ghost use Rattle.reading.specs.Fraction.{widthOf};
+ghost use Rattle.levels.specs.Black.{widthOf};
 ghost use Rattle.directory.specs.Out.{numberOut};
-ghost use Rattle.directory.specs.Widths.{classic};
 ghost use Rattle.directory.specs.Shape.{Tested};
 ghost use Rattle.directory.specs.Tag.{valuesOut};
 ghost use Rattle.raw.specs.Repeat.{Repeated-in};
@@ -13,26 +12,33 @@ ghost use Rattle.raw.specs.Black.{kindFor, blacksTest, AllCarried, black
 use crate::repeat::Repeat;
 use directory::Ifd;
 use directory::Number;
+use directory::entry;
 use directory::tag;
 use directory::tag::Given;
 use directory::tag::Kinds;
 use directory::tag::Rule;
+use directory::tag::Values;
 use levels::black;
 use levels::black::Black;
-use reading::fraction::FractionKind;
+use levels::black::BlackKind;
 use reading::number::Order;
 
-// The type of a black level by its bytes.
-pub fn kind_for(size: usize) -> FractionKind
-    ensures { λ r. ⌜ r ≡ kindFor size ⌝ }
+// The type of a black level by its entry's.
+pub fn kind_for(values: Values) -> BlackKind
+    ensures { λ r. ⌜ r ≡ kindFor (values .kind) ⌝ }
 {
-    if size == 2 {
-        return FractionKind::Short;
+    let kind = values.kind;
+    let t = entry::code(kind);
+    if t == 3 {
+        return BlackKind::Short;
     }
-    if size == 4 {
-        FractionKind::Long
+    if t == 4 {
+        return BlackKind::Long;
+    }
+    if t == 16 {
+        BlackKind::Long8
     } else {
-        FractionKind::Rational
+        BlackKind::Rational
     }
 }
 
@@ -41,7 +47,7 @@ fn check_blacks(
     file: &[u8],
     order: Order,
     tag: usize,
-    kind: FractionKind,
+    kind: BlackKind,
     size: usize,
     count: usize,
     place: usize,
@@ -66,7 +72,7 @@ fn check_blacks(
 pub fn black_of(file: &[u8], ifd: Ifd, repeat: Repeat, samples: usize) -> Given
     requires { ⌜ Tested (now file) ifd ⌝ }
     requires { ⌜ Repeated-in repeat × (samples ≤ 3) ⌝ }
-    ensures { λ r. ⌜ (valuesOut r ≡ run (now (file .entry)) (blackReading classic ifd repeat samples)) × BlacksIn (now (file .entry)) (ifd .order) (blackRule repeat samples) kindFor r ⌝ }
+    ensures { λ r. ⌜ (valuesOut r ≡ run (now (file .entry)) (blackReading ifd repeat samples)) × BlacksIn (now (file .entry)) (ifd .order) (blackRule repeat samples) kindFor r ⌝ }
 {
     let cells = repeat.rows * repeat.columns * samples;
     let rule = Rule {
@@ -84,7 +90,7 @@ pub fn black_of(file: &[u8], ifd: Ifd, repeat: Repeat, samples: usize) -> Given
     let place = v.place;
     let count = v.count;
     let order = ifd.order;
-    let kind = kind_for(size);
+    let kind = kind_for(v);
     match check_blacks(file, order, 50714, kind, size, count, place) {
         Number::Refused { number, detail } => Given::Refused { number, detail },
         Number::Is(_) => Given::Is(v),
@@ -94,7 +100,7 @@ pub fn black_of(file: &[u8], ifd: Ifd, repeat: Repeat, samples: usize) -> Given
 // 50715 or 50716.
 pub fn delta_of(file: &[u8], ifd: Ifd, tag: usize, many: usize) -> Given
     requires { ⌜ Tested (now file) ifd ⌝ }
-    ensures { λ r. ⌜ (valuesOut r ≡ run (now (file .entry)) (deltaReading classic ifd tag many)) × BlacksIn (now (file .entry)) (ifd .order) (deltaRule tag many) (λ _. FractionKind.SignedRational) r ⌝ }
+    ensures { λ r. ⌜ (valuesOut r ≡ run (now (file .entry)) (deltaReading ifd tag many)) × BlacksIn (now (file .entry)) (ifd .order) (deltaRule tag many) (λ _. BlackKind.SignedRational) r ⌝ }
 {
     let rule = Rule {
         tag,
@@ -115,7 +121,7 @@ pub fn delta_of(file: &[u8], ifd: Ifd, tag: usize, many: usize) -> Given
         file,
         order,
         tag,
-        FractionKind::SignedRational,
+        BlackKind::SignedRational,
         size,
         count,
         place,

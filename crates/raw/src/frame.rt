@@ -3,7 +3,6 @@ ghost use mathlib.Core.Path.{_≡_};
 ghost use mathlib.Core.Logic.{_⊎_};
 ghost use Rattle.reading.specs.Reading.{run};
 ghost use Rattle.directory.specs.Out.{numberOut};
-ghost use Rattle.directory.specs.Widths.{classic};
 ghost use Rattle.directory.specs.Shape.{Tested};
 ghost use Rattle.directory.specs.Tag.{NumberIn};
 ghost use Rattle.raw.specs.Frame.{frameOut, FrameIn, samplesOf, planesReading, PlanesIn, dimensionReading, dimensionRange, frameReading};
@@ -39,7 +38,7 @@ fn samples_of(photometric: usize) -> usize
 // 262 and 277.
 fn planes(file: &[u8], ifd: Ifd) -> Number
     requires { ⌜ Tested (now file) ifd ⌝ }
-    ensures { λ r. ⌜ (numberOut r ≡ run (now (file .entry)) (planesReading classic ifd)) × PlanesIn r ⌝ }
+    ensures { λ r. ⌜ (numberOut r ≡ run (now (file .entry)) (planesReading ifd)) × PlanesIn r ⌝ }
 {
     let photometric = Rule {
         tag: 262,
@@ -82,7 +81,7 @@ fn planes(file: &[u8], ifd: Ifd) -> Number
 // 256 or 257.
 fn dimension(file: &[u8], ifd: Ifd, tag: usize) -> Number
     requires { ⌜ Tested (now file) ifd ⌝ }
-    ensures { λ r. ⌜ (numberOut r ≡ run (now (file .entry)) (dimensionReading classic ifd tag)) × NumberIn dimensionRange r ⌝ }
+    ensures { λ r. ⌜ (numberOut r ≡ run (now (file .entry)) (dimensionReading ifd tag)) × NumberIn dimensionRange r ⌝ }
 {
     let rule = Rule {
         tag,
@@ -101,7 +100,7 @@ fn dimension(file: &[u8], ifd: Ifd, tag: usize) -> Number
 
 pub fn frame_of(file: &[u8], ifd: Ifd) -> Framed
     requires { ⌜ Tested (now file) ifd ⌝ }
-    ensures { λ r. ⌜ (frameOut r ≡ run (now (file .entry)) (frameReading classic ifd)) × FrameIn r ⌝ }
+    ensures { λ r. ⌜ (frameOut r ≡ run (now (file .entry)) (frameReading ifd)) × FrameIn r ⌝ }
 {
     let width = match dimension(file, ifd, 256) {
         Number::Refused { number, detail } => return Framed::Refused { number, detail },

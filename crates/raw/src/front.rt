@@ -2,7 +2,6 @@
 ghost use mathlib.Core.Path.{_≡_};
 ghost use lib.ListN.{length};
 ghost use Rattle.reading.specs.Reading.{run, runWhole};
-ghost use Rattle.directory.specs.Widths.{classic};
 ghost use Rattle.directory.specs.Shape.{Tested};
 ghost use Rattle.raw.specs.Front.{rawOut, RawIn, rawReading, frontOut, FrontIn, frontReading};
 use crate::Tagged;
@@ -41,7 +40,7 @@ pub enum Front {
 // The raw tags, then refusal 9.
 fn raw_of(file: &[u8], ifd: Ifd) -> Read
     requires { ⌜ Tested (now file) ifd ⌝ }
-    ensures { λ r. ⌜ (rawOut r ≡ run (now (file .entry)) (rawReading classic (length (now (file .entry))) ifd)) × RawIn (now (file .entry)) (ifd .order) r ⌝ }
+    ensures { λ r. ⌜ (rawOut r ≡ run (now (file .entry)) (rawReading (length (now (file .entry))) ifd)) × RawIn (now (file .entry)) (ifd .order) r ⌝ }
 {
     let order = ifd.order;
     let tags = match crate::tags_of(file, ifd) {

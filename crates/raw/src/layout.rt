@@ -3,7 +3,6 @@ ghost use mathlib.Core.Path.{_≡_};
 ghost use Prim.Native.Nat.{_≤_};
 ghost use Rattle.reading.specs.Reading.{run};
 ghost use Rattle.directory.specs.Out.{numberOut};
-ghost use Rattle.directory.specs.Widths.{classic};
 ghost use Rattle.directory.specs.Shape.{Tested};
 ghost use Rattle.directory.specs.Tag.{Numeric, NumberIn, valuesOut, range};
 ghost use Rattle.raw.specs.Layout.{layoutOut, LayoutIn, bytesPer, depthReading, onlyOne, formatReading, stripRowsReading, layoutReading};
@@ -14,6 +13,7 @@ use directory::tag::Given;
 use directory::tag::Kinds;
 use directory::tag::Range;
 use directory::tag::Rule;
+use reading::number;
 
 // Bytes per sample, and rows per strip.
 pub struct Layout {
@@ -40,7 +40,7 @@ fn bytes_per(bits: usize) -> usize
 fn depth(file: &[u8], ifd: Ifd, samples: usize) -> Number
     requires { ⌜ Tested (now file) ifd ⌝ }
     requires { ⌜ 1 ≤ samples ⌝ }
-    ensures { λ r. ⌜ (numberOut r ≡ run (now (file .entry)) (depthReading classic ifd samples)) × NumberIn (range 1 1 2) r ⌝ }
+    ensures { λ r. ⌜ (numberOut r ≡ run (now (file .entry)) (depthReading ifd samples)) × NumberIn (range 1 1 2) r ⌝ }
 {
     let rule = Rule {
         tag: 258,
@@ -57,7 +57,7 @@ fn depth(file: &[u8], ifd: Ifd, samples: usize) -> Number
     let place = v.place;
     let count = v.count;
     let order = ifd.order;
-    let bits = tag::value(file, order, size, place);
+    let bits = number::value(file, order, size, place);
     let bytes = bytes_per(bits);
     if bytes == 0 {
         return Number::Refused {
@@ -80,7 +80,7 @@ fn depth(file: &[u8], ifd: Ifd, samples: usize) -> Number
 fn only_one(file: &[u8], ifd: Ifd, tag: usize, kinds: Kinds, legal: usize) -> Number
     requires { ⌜ Tested (now file) ifd ⌝ }
     requires { ⌜ Numeric kinds ⌝ }
-    ensures { λ r. ⌜ numberOut r ≡ run (now (file .entry)) (onlyOne classic ifd tag kinds legal) ⌝ }
+    ensures { λ r. ⌜ numberOut r ≡ run (now (file .entry)) (onlyOne ifd tag kinds legal) ⌝ }
 {
     let rule = Rule {
         tag,
@@ -100,7 +100,7 @@ fn only_one(file: &[u8], ifd: Ifd, tag: usize, kinds: Kinds, legal: usize) -> Nu
 // 339.
 fn format(file: &[u8], ifd: Ifd, samples: usize) -> Given
     requires { ⌜ Tested (now file) ifd ⌝ }
-    ensures { λ r. ⌜ valuesOut r ≡ run (now (file .entry)) (formatReading classic ifd samples) ⌝ }
+    ensures { λ r. ⌜ valuesOut r ≡ run (now (file .entry)) (formatReading ifd samples) ⌝ }
 {
     let rule = Rule {
         tag: 339,
@@ -120,7 +120,7 @@ fn format(file: &[u8], ifd: Ifd, samples: usize) -> Given
 // 278.
 fn strip_rows(file: &[u8], ifd: Ifd) -> Number
     requires { ⌜ Tested (now file) ifd ⌝ }
-    ensures { λ r. ⌜ (numberOut r ≡ run (now (file .entry)) (stripRowsReading classic ifd)) × NumberIn (range 1 1 4294967295) r ⌝ }
+    ensures { λ r. ⌜ (numberOut r ≡ run (now (file .entry)) (stripRowsReading ifd)) × NumberIn (range 1 1 0xFFFF_FFFF_FFFF_FFFF) r ⌝ }
 {
     let rule = Rule {
         tag: 278,
@@ -132,7 +132,7 @@ fn strip_rows(file: &[u8], ifd: Ifd) -> Number
     let some = Range {
         legal: 1,
         from: 1,
-        to: 4294967295,
+        to: 18446744073709551615,
     };
     tag::one(file, ifd, rule, 4294967295, some)
 }
@@ -140,7 +140,7 @@ fn strip_rows(file: &[u8], ifd: Ifd) -> Number
 pub fn layout_of(file: &[u8], ifd: Ifd, samples: usize) -> Laid
     requires { ⌜ Tested (now file) ifd ⌝ }
     requires { ⌜ 1 ≤ samples ⌝ }
-    ensures { λ r. ⌜ (layoutOut r ≡ run (now (file .entry)) (layoutReading classic ifd samples)) × LayoutIn r ⌝ }
+    ensures { λ r. ⌜ (layoutOut r ≡ run (now (file .entry)) (layoutReading ifd samples)) × LayoutIn r ⌝ }
 {
     let bytes = match depth(file, ifd, samples) {
         Number::Refused { number, detail } => return Laid::Refused { number, detail },

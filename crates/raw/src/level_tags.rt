@@ -2,7 +2,6 @@
 ghost use mathlib.Core.Path.{_≡_};
 ghost use Prim.Native.Nat.{_≤_};
 ghost use Rattle.reading.specs.Reading.{run};
-ghost use Rattle.directory.specs.Widths.{classic};
 ghost use Rattle.directory.specs.Shape.{Tested};
 ghost use Rattle.raw.specs.LevelTags.{levelTagsOut, LevelTagsIn, levelTagsReading};
 use crate::black;
@@ -31,7 +30,7 @@ pub enum Leveled {
 pub fn level_tags_of(file: &[u8], ifd: Ifd, samples: usize, rows: usize, columns: usize) -> Leveled
     requires { ⌜ Tested (now file) ifd ⌝ }
     requires { ⌜ samples ≤ 3 ⌝ }
-    ensures { λ r. ⌜ (levelTagsOut r ≡ run (now (file .entry)) (levelTagsReading classic ifd samples rows columns)) × LevelTagsIn (now (file .entry)) (ifd .order) samples rows columns r ⌝ }
+    ensures { λ r. ⌜ (levelTagsOut r ≡ run (now (file .entry)) (levelTagsReading ifd samples rows columns)) × LevelTagsIn (now (file .entry)) (ifd .order) samples rows columns r ⌝ }
 {
     let table = match white::table_of(file, ifd) {
         Given::Refused { number, detail } => return Leveled::Refused { number, detail },

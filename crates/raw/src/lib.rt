@@ -2,7 +2,6 @@
 ghost use mathlib.Core.Path.{_≡_};
 ghost use lib.ListN.{length};
 ghost use Rattle.reading.specs.Reading.{run};
-ghost use Rattle.directory.specs.Widths.{classic};
 ghost use Rattle.directory.specs.Shape.{Tested};
 ghost use Rattle.raw.specs.Raw.{tagsOut, TagsIn, tagsReading};
 use area::Area;
@@ -48,7 +47,7 @@ pub enum Tagged {
 // The tags, in order of test.
 pub fn tags_of(file: &[u8], ifd: Ifd) -> Tagged
     requires { ⌜ Tested (now file) ifd ⌝ }
-    ensures { λ r. ⌜ (tagsOut r ≡ run (now (file .entry)) (tagsReading classic (length (now (file .entry))) ifd)) × TagsIn (now (file .entry)) (ifd .order) r ⌝ }
+    ensures { λ r. ⌜ (tagsOut r ≡ run (now (file .entry)) (tagsReading (length (now (file .entry))) ifd)) × TagsIn (now (file .entry)) (ifd .order) r ⌝ }
 {
     let frame = match frame::frame_of(file, ifd) {
         Framed::Refused { number, detail } => return Tagged::Refused { number, detail },

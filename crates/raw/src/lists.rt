@@ -2,7 +2,6 @@
 ghost use mathlib.Core.Path.{_≡_};
 ghost use lib.ListN.{length};
 ghost use Rattle.reading.specs.Reading.{run};
-ghost use Rattle.directory.specs.Widths.{classic};
 ghost use Rattle.directory.specs.Shape.{Tested};
 ghost use Rattle.directory.specs.Tag.{valuesOut, ValuesIn};
 ghost use Rattle.raw.specs.Lists.{listRule, listReading};
@@ -15,7 +14,7 @@ use directory::tag::Rule;
 
 pub fn list_of(file: &[u8], ifd: Ifd) -> Given
     requires { ⌜ Tested (now file) ifd ⌝ }
-    ensures { λ r. ⌜ (valuesOut r ≡ run (now (file .entry)) (listReading classic ifd)) × ValuesIn (length (now (file .entry))) listRule r ⌝ }
+    ensures { λ r. ⌜ (valuesOut r ≡ run (now (file .entry)) (listReading ifd)) × ValuesIn (length (now (file .entry))) listRule r ⌝ }
 {
     match tag::not_carried(file, ifd, 51008) {
         Number::Refused { number, detail } => return Given::Refused { number, detail },

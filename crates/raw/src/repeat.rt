@@ -1,7 +1,6 @@
 // The repeat of the black levels: 50713.
 ghost use mathlib.Core.Path.{_≡_};
 ghost use Rattle.reading.specs.Reading.{run};
-ghost use Rattle.directory.specs.Widths.{classic};
 ghost use Rattle.directory.specs.Shape.{Tested};
 ghost use Rattle.raw.specs.Repeat.{repeatOut, RepeatIn, repeatReading};
 use directory::Ifd;
@@ -11,6 +10,7 @@ use directory::tag::Given;
 use directory::tag::Kinds;
 use directory::tag::Range;
 use directory::tag::Rule;
+use reading::number;
 
 pub struct Repeat {
     pub rows: usize,
@@ -24,7 +24,7 @@ pub enum Repeated {
 
 pub fn repeat_of(file: &[u8], ifd: Ifd) -> Repeated
     requires { ⌜ Tested (now file) ifd ⌝ }
-    ensures { λ r. ⌜ (repeatOut r ≡ run (now (file .entry)) (repeatReading classic ifd)) × RepeatIn r ⌝ }
+    ensures { λ r. ⌜ (repeatOut r ≡ run (now (file .entry)) (repeatReading ifd)) × RepeatIn r ⌝ }
 {
     let rule = Rule {
         tag: 50713,
@@ -52,11 +52,11 @@ pub fn repeat_of(file: &[u8], ifd: Ifd) -> Repeated
         from: 1,
         to: 8,
     };
-    let rows = match tag::judged(50713, range, tag::value(file, order, size, place)) {
+    let rows = match tag::judged(50713, range, number::value(file, order, size, place)) {
         Number::Refused { number, detail } => return Repeated::Refused { number, detail },
         Number::Is(n) => n,
     };
-    let columns = match tag::judged(50713, range, tag::value(file, order, size, place + size)) {
+    let columns = match tag::judged(50713, range, number::value(file, order, size, place + size)) {
         Number::Refused { number, detail } => return Repeated::Refused { number, detail },
         Number::Is(n) => n,
     };

@@ -4,9 +4,9 @@ ghost use Prim.Native.Nat.{_+_, _*_, _≤_, _<_, min};
 ghost use lib.ListN.{length};
 ghost use Rattle.reading.specs.Reading.{run};
 ghost use Rattle.directory.specs.Out.{numberOut};
-ghost use Rattle.directory.specs.Widths.{classic};
 ghost use Rattle.directory.specs.Shape.{Tested};
-ghost use Rattle.directory.specs.Tag.{Wide, valuesOut};
+ghost use Rattle.reading.specs.Number.{Wide};
+ghost use Rattle.directory.specs.Tag.{valuesOut};
 ghost use Rattle.raw.specs.Frame.{Framed-in};
 ghost use Rattle.raw.specs.Layout.{Laid-in};
 ghost use Rattle.raw.specs.Strips.{stripFrom, stripsReading, StripsIn};
@@ -18,6 +18,7 @@ use directory::tag;
 use directory::tag::Given;
 use directory::tag::Kinds;
 use directory::tag::Rule;
+use reading::number;
 use reading::number::Order;
 
 // Where the numbers of one tag stand and how wide they are.
@@ -56,15 +57,21 @@ fn check_strips(
     let mut rest = lines;
     while 0 < left {
         let here = smaller(rows, rest);
-        let bytes = tag::value(file, order, breadth, q);
+        let bytes = number::value(file, order, breadth, q);
         if bytes != here * row {
             return Number::Refused {
                 number: 4,
                 detail: 279,
             };
         }
-        let place = tag::value(file, order, width, p);
-        if file.len() < place + bytes {
+        let place = number::value(file, order, width, p);
+        if file.len() < place {
+            return Number::Refused {
+                number: 4,
+                detail: 273,
+            };
+        }
+        if file.len() - place < bytes {
             return Number::Refused {
                 number: 4,
                 detail: 273,
@@ -82,10 +89,10 @@ fn check_strips(
 pub fn strips_of(file: &[u8], ifd: Ifd, frame: Frame, layout: Layout) -> Given
     requires { ⌜ Tested (now file) ifd ⌝ }
     requires { ⌜ Framed-in frame × Laid-in layout ⌝ }
-    ensures { λ r. ⌜ (valuesOut r ≡ run (now (file .entry)) (stripsReading classic (length (now (file .entry))) ifd frame layout)) × StripsIn (now (file .entry)) (ifd .order) frame layout r ⌝ }
+    ensures { λ r. ⌜ (valuesOut r ≡ run (now (file .entry)) (stripsReading (length (now (file .entry))) ifd frame layout)) × StripsIn (now (file .entry)) (ifd .order) frame layout r ⌝ }
 {
     let rows = layout.rows;
-    let count = (frame.length + rows - 1) / rows;
+    let count = (frame.length - 1) / rows + 1;
     let row = frame.width * frame.samples * layout.bytes;
     let offsets_rule = Rule {
         tag: 273,

@@ -2,7 +2,6 @@
 ghost use mathlib.Core.Path.{_≡_};
 ghost use lib.ListN.{length};
 ghost use Rattle.reading.specs.Reading.{run};
-ghost use Rattle.directory.specs.Widths.{classic};
 ghost use Rattle.directory.specs.Shape.{Tested};
 ghost use Rattle.directory.specs.Tag.{valuesOut, ValuesIn};
 ghost use Rattle.raw.specs.White.{whiteRule, whiteReading, tableRule, tableReading, WhitesIn};
@@ -16,7 +15,7 @@ use directory::tag::Rule;
 // 50717.
 pub fn white_of(file: &[u8], ifd: Ifd, samples: usize) -> Given
     requires { ⌜ Tested (now file) ifd ⌝ }
-    ensures { λ r. ⌜ (valuesOut r ≡ run (now (file .entry)) (whiteReading classic ifd samples)) × WhitesIn (now (file .entry)) (ifd .order) (whiteRule samples) r ⌝ }
+    ensures { λ r. ⌜ (valuesOut r ≡ run (now (file .entry)) (whiteReading ifd samples)) × WhitesIn (now (file .entry)) (ifd .order) (whiteRule samples) r ⌝ }
 {
     let rule = Rule {
         tag: 50717,
@@ -36,7 +35,7 @@ pub fn white_of(file: &[u8], ifd: Ifd, samples: usize) -> Given
 // 50712.
 pub fn table_of(file: &[u8], ifd: Ifd) -> Given
     requires { ⌜ Tested (now file) ifd ⌝ }
-    ensures { λ r. ⌜ (valuesOut r ≡ run (now (file .entry)) (tableReading classic ifd)) × ValuesIn (length (now (file .entry))) tableRule r ⌝ }
+    ensures { λ r. ⌜ (valuesOut r ≡ run (now (file .entry)) (tableReading ifd)) × ValuesIn (length (now (file .entry))) tableRule r ⌝ }
 {
     let rule = Rule {
         tag: 50712,

@@ -1,39 +1,62 @@
-use mathlib.Core.Path.{sym, ap, _∙_}
+use mathlib.Core.Path.{_≡_, sym, ap, _∙_}
+use Prim.Native.Nat.{_+_, _*_, _≤_, _<_}
 use native.Mathlib.Omega.{arith}
 use denote.Ref.{now}
+use lib.ListN.{length}
+use borrow.Author.Tests.{leb-true, leb-false}
 use Rattle.directory.specs.Out.{numberOut}
-use Rattle.directory.specs.Widths.{classic}
+use Rattle.directory.specs.Widths.{entryWidth}
+use Rattle.directory.proofs.Entries.{wide-most, entry-most}
 use Rattle.directory.proofs.Shapes.{ifd-outside, ifd-empty, ifd-cut, ifd-refused, ifd-is}
 use borrow.Author.Needs.{needs}
 use Rattle.directory.proofs.shape.ifd_at.Statement.{statement}
 use Rattle.directory.proofs.shape.ifd_at.Tie as tie
 
-add-if1 : tie.Need-add-if1
-add-if1 c = search needs
+inside-requires : tie.Need-inside-requires
+inside-requires c κs = let a = c .before in (omega (arith, wide-most _ (a .pre .1 .entries)), a .pre .0)
 
-short-requires : tie.Need-short-requires
-short-requires c κs = search needs
+-- the count lies in the file
+counted : (c : tie.Then1) → let a = c .before .before .before .args in a .at + a .widths .entries ≤ length (now (a .file))
+counted c =
+    let a = c .before .before .before .args in
+    let h : a .at + a .widths .entries * 1 ≤ length (now (a .file)) = leb-true _ _ (sym (c .before .inside .ensures) ∙ c .if1 .taken) in
+    omega arith
 
-cast-count : tie.Need-cast-count
-cast-count c = search needs
+value-requires : tie.Need-value-requires
+value-requires c κs = (counted c, c .before .before .before .pre .1 .entries)
 
-add-if3 : tie.Need-add-if3
-add-if3 c = search needs
+add-first : tie.Need-add-first
+add-first c = omega (arith, counted (c .before), c .before .before .before .before .pre .0)
 
-mul-if3 : tie.Need-mul-if3
-mul-if3 c = search needs
+add-inside : tie.Need-add-inside
+add-inside c = let a = c .before .before .before .before .before in omega (arith, counted (c .before .before), a .pre .0, wide-most _ (a .pre .1 .word))
 
-add-if3-2 : tie.Need-add-if3-2
-add-if3-2 c = search needs
+add-inside-2 : tie.Need-add-inside-2
+add-inside-2 c = omega (arith, wide-most _ (c .before .before .before .before .before .pre .1 .word))
 
-add-if3-3 : tie.Need-add-if3-3
-add-if3-3 c = search needs
+add-inside-3 : tie.Need-add-inside-3
+add-inside-3 c = omega (arith, wide-most _ (c .before .before .before .before .before .pre .1 .word))
 
-add-check-entries : tie.Need-add-check-entries
-add-check-entries c = search needs
+inside-requires-2 : tie.Need-inside-requires-2
+inside-requires-2 c κs =
+    let a = c .before .before .before .before .before in
+    (entry-most (a .args .widths) (a .pre .1 .word), a .pre .0)
+
+-- the entries and the next offset lie in the file
+room : (c : tie.Then3) → let v = c .before .before .before in let a = v .before .before .before .before .args in
+    a .at + a .widths .entries + entryWidth (a .widths) * v .value .result + a .widths .word ≤ length (now (a .file))
+room c =
+    let v = c .before .before .before in
+    let a = v .before .before .before .before .args in
+    let n = v .value .result in
+    let h : a .at + a .widths .entries + a .widths .word + entryWidth (a .widths) * n ≤ length (now (a .file)) =
+        leb-true _ _ (sym (c .before .inside2 .ensures) ∙ c .if3 .taken) in
+    omega (arith, h)
 
 check-entries-requires : tie.Need-check-entries-requires
-check-entries-requires c κs = search needs
+check-entries-requires c κs =
+    let a = c .before .before .before .before .before .before .before in
+    (omega (arith, room c), a .pre .0, a .pre .1)
 
 enum-known-number : tie.Need-enum-known-number
 enum-known-number c = search needs
@@ -41,36 +64,46 @@ enum-known-number c = search needs
 enum-told : tie.Need-enum-told
 enum-told c = search needs
 
-add-t21 : tie.Need-add-t21
-add-t21 c = search needs
-
 returns : tie.Need-returns
 returns c =
     let k = c .before .before .before in
     let i = k .before in
-    let s = i .before .before in
-    (ifd-refused classic (now (s .before .before .before .args .file)) _ _ _ (s .before .if1 .taken) _ (s .short .ensures) (i .before .if2 .taken) (i .if3 .taken) _ _ (ap numberOut (sym (c .before .number .given .1)) ∙ k .check-entries .ensures), tt)
+    let v = i .before .before .before in
+    let a = v .before .before .before .before .args in
+    let e = ap numberOut (sym (c .before .number .given .1)) ∙ k .check-entries .ensures in
+    (ifd-refused (a .widths) (now (a .file)) _ _ _ (counted (v .before)) _ (v .value .ensures) (i .before .before .if2 .taken) (room i) _ _ e, tt)
 
 returns-2 : tie.Need-returns-2
 returns-2 c =
     let k = c .before .before in
     let i = k .before in
-    let s = i .before .before in
-    let e = ap numberOut (sym (c .enum-told .given .1)) ∙ k .check-entries .ensures in
-    (ifd-is classic (now (s .before .before .before .args .file)) _ _ _ (s .before .if1 .taken) _ (s .short .ensures) (i .before .if2 .taken) (i .if3 .taken) _ e, record { inside = omega arith; next = _; shape = e })
+    let v = i .before .before .before in
+    let a = v .before .before .before .before in
+    let e = ap numberOut (sym (c .enum-told .given .1)) ∙ k .check-entries .ensures in (
+      ifd-is (a .args .widths) (now (a .args .file)) _ _ _ (counted (v .before)) _ (v .value .ensures) (i .before .before .if2 .taken) (room i) _ e,
+      record { laid = a .pre .1; inside = omega (arith, room i); next = _; shape = e },
+    )
 
 returns-3 : tie.Need-returns-3
 returns-3 c =
-    let s = c .before .before in
-    (ifd-cut classic (now (s .before .before .before .args .file)) _ _ _ (s .before .if1 .taken) _ (s .short .ensures) (c .before .if2 .taken) (c .if3 .left), tt)
+    let v = c .before .before .before in
+    let a = v .before .before .before .before .args in
+    let n = v .value .result in
+    let h : length (now (a .file)) < a .at + a .widths .entries + a .widths .word + entryWidth (a .widths) * n =
+        leb-false _ _ (sym (c .before .inside2 .ensures) ∙ c .if3 .left) in
+    (ifd-cut (a .widths) (now (a .file)) _ _ _ (counted (v .before)) _ (v .value .ensures) (c .before .before .if2 .taken) (omega (arith, h)), tt)
 
 returns-4 : tie.Need-returns-4
 returns-4 c =
-    let s = c .before in
-    (ifd-empty classic (now (s .before .before .before .args .file)) _ _ _ (s .before .if1 .taken) _ (s .short .ensures) (c .if2 .left), tt)
+    let v = c .before in
+    let a = v .before .before .before .before .args in
+    (ifd-empty (a .widths) (now (a .file)) _ _ _ (counted (v .before)) _ (v .value .ensures) (c .if2 .left), tt)
 
 returns-5 : tie.Need-returns-5
-returns-5 c = (ifd-outside classic (now (c .before .before .args .file)) _ _ _ (c .if1 .left), tt)
+returns-5 c =
+    let a = c .before .before .before .args in
+    let h : length (now (a .file)) < a .at + a .widths .entries * 1 = leb-false _ _ (sym (c .before .inside .ensures) ∙ c .if1 .left) in
+    (ifd-outside (a .widths) (now (a .file)) _ _ _ (omega (arith, h)), tt)
 
 pub ifd-at-spec : {M : Type 1} → statement M
-ifd-at-spec = tie.close (tie.spec add-if1 short-requires cast-count add-if3 mul-if3 add-if3-2 add-if3-3 add-check-entries check-entries-requires enum-known-number enum-told add-t21 returns returns-2 returns-3 returns-4 returns-5)
+ifd-at-spec = tie.close (tie.spec inside-requires value-requires add-first add-inside add-inside-2 add-inside-3 inside-requires-2 check-entries-requires enum-known-number enum-told returns returns-2 returns-3 returns-4 returns-5)

@@ -1,63 +1,95 @@
 use mathlib.Core.Path.{_≡_, ap, _∙_}
+use Prim.Native.Nat.{ℕ, _+_, _*_}
 use native.Mathlib.Omega.{arith}
 use denote.Ref.{now}
 use Rattle.reading.specs.Bytes.{part}
-use Rattle.reading.proofs.Bytes.{cut}
-use Rattle.directory.specs.Widths.{classic}
-use Rattle.directory.specs.Entry.{headerOf}
+use Rattle.directory.specs.Widths.{headWidth}
+use Rattle.directory.specs.Entry.{kindOf, headerOf}
+use Rattle.directory.specs.declared.entry.Entry.{Entry}
+use Rattle.directory.proofs.Entries.{wide-most, fit, unfit, header-at}
 use Rattle.directory.proofs.Shapes.{entry-within, entry-inside, entry-outside}
 use borrow.Author.Needs.{needs}
 use Rattle.directory.proofs.shape.placed_tag.Statement.{statement}
 use Rattle.directory.proofs.shape.placed_tag.Tie as tie
 
-add-header : tie.Need-add-header
-add-header c = search needs
+add-head : tie.Need-add-head
+add-head c = search needs
 
-sub-header : tie.Need-sub-header
-sub-header c = search needs
+short-requires : tie.Need-short-requires
+short-requires c κs = omega arith
 
-part-header-start : tie.Need-part-header-start
-part-header-start c = search needs
+cast-tag : tie.Need-cast-tag
+cast-tag c = search needs
 
-part-header-end : tie.Need-part-header-end
-part-header-end c = search needs
+add-short : tie.Need-add-short
+add-short c = search needs
 
-header-requires : tie.Need-header-requires
-header-requires c κs = search needs
+short-requires-2 : tie.Need-short-requires-2
+short-requires-2 c κs = omega arith
 
-value-bytes-requires : tie.Need-value-bytes-requires
-value-bytes-requires c κs = search needs
+cast-size-of : tie.Need-cast-size-of
+cast-size-of c = search needs
 
--- what the first eight bytes are
-head : (c : tie.After-header) → c .header .result ≡ headerOf classic (c .before .before .before .args .order) (part (now (c .before .before .before .args .file)) (c .before .before .before .args .at) 8)
-head c = let a = c .before .before .before .args in c .header .ensures .0 ∙ ap (headerOf classic (a .order)) (cut (now (a .file)) (a .at) 8)
+size-of-requires : tie.Need-size-of-requires
+size-of-requires c κs = c .before .before .before .pre .2 .types
+
+add-value : tie.Need-add-value
+add-value c = search needs
+
+value-requires : tie.Need-value-requires
+value-requires c κs = (omega arith, c .before .before .before .before .pre .2 .word)
+
+fits-requires : tie.Need-fits-requires
+fits-requires c κs = let w = wide-most _ (c .before .before .before .before .before .pre .2 .word) in (omega arith, omega arith)
+
+-- the entry whose fields were read
+abbrev entry : tie.After-value → Entry
+entry c =
+    let s = c .before .before in
+    record { tag = s .before .short .result; kind = kindOf (s .before .before .before .args .widths .types) (s .short2 .result); count = c .value .result }
+
+head : (c : tie.After-value) → let a = c .before .before .before .before .before .args in
+    entry c ≡ headerOf (a .widths) (a .order) (part (now (a .file)) (a .at) (headWidth (a .widths)))
+head c =
+    let s = c .before .before in
+    let a = s .before .before .before .args in
+    header-at (a .widths) (now (a .file)) (a .order) (a .at) _ _ _ (s .before .short .ensures) (ap (kindOf (a .widths .types)) (s .short2 .ensures)) (c .value .ensures)
 
 returns : tie.Need-returns
 returns c =
     let h = c .before .before in
-    (entry-within classic (now (h .before .before .before .args .file)) _ _ _ _ (head h) (omega arith), h .header .ensures .1)
+    let a = h .before .before .before .before .before .args in
+    let b = fit (λ (m : ℕ). m * h .value .result) (entry h .kind) _ _ _ (h .before .size-of .ensures .0) (c .before .fits2 .ensures) (c .if1 .taken) in
+    (entry-within (a .widths) (now (a .file)) _ _ _ (entry h) (head h) b, omega arith)
 
-add-long : tie.Need-add-long
-add-long c = search needs
+add-value-2 : tie.Need-add-value-2
+add-value-2 c = search needs
 
-long-requires : tie.Need-long-requires
-long-requires c κs = search needs
+value-requires-2 : tie.Need-value-requires-2
+value-requires-2 c κs = (omega arith, c .before .before .before .before .before .before .before .pre .2 .word)
 
-cast-place : tie.Need-cast-place
-cast-place c = search needs
-
-add-if2 : tie.Need-add-if2
-add-if2 c = search needs
+inside-requires : tie.Need-inside-requires
+inside-requires c κs = (omega arith, c .before .before .before .before .before .before .before .before .pre .1)
 
 returns-2 : tie.Need-returns-2
 returns-2 c =
-    let h = c .before .before .before .before in
-    (entry-inside classic (now (h .before .before .before .args .file)) _ _ _ _ (head h) (omega arith) _ (c .before .long .ensures) (omega arith), h .header .ensures .1)
+    let v = c .before .before in
+    let h = v .before .before .before in
+    let a = h .before .before .before .before .before .args in
+    let s = h .before .size-of .ensures .0 in
+    let b = unfit (λ (m : ℕ). m * h .value .result) (entry h .kind) _ _ _ s (v .before .before .fits2 .ensures) (v .before .if1 .left) in
+    let r = fit (λ (m : ℕ). v .value2 .result + m * h .value .result) (entry h .kind) _ _ _ s (c .before .inside .ensures) (c .if2 .taken) in
+    (entry-inside (a .widths) (now (a .file)) _ _ _ (entry h) (head h) b _ (v .value2 .ensures) r, omega arith)
 
 returns-3 : tie.Need-returns-3
 returns-3 c =
-    let h = c .before .before .before .before in
-    (entry-outside classic (now (h .before .before .before .args .file)) _ _ _ _ (head h) (omega arith) _ (c .before .long .ensures) (omega arith), tt)
+    let v = c .before .before in
+    let h = v .before .before .before in
+    let a = h .before .before .before .before .before .args in
+    let s = h .before .size-of .ensures .0 in
+    let b = unfit (λ (m : ℕ). m * h .value .result) (entry h .kind) _ _ _ s (v .before .before .fits2 .ensures) (v .before .if1 .left) in
+    let r = unfit (λ (m : ℕ). v .value2 .result + m * h .value .result) (entry h .kind) _ _ _ s (c .before .inside .ensures) (c .if2 .left) in
+    (entry-outside (a .widths) (now (a .file)) _ _ _ (entry h) (head h) b _ (v .value2 .ensures) r, tt)
 
 pub placed-tag-spec : {M : Type 1} → statement M
-placed-tag-spec = tie.close (tie.spec add-header sub-header part-header-start part-header-end header-requires value-bytes-requires returns add-long long-requires cast-place add-if2 returns-2 returns-3)
+placed-tag-spec = tie.close (tie.spec add-head short-requires cast-tag add-short short-requires-2 cast-size-of size-of-requires add-value value-requires fits-requires returns add-value-2 value-requires-2 inside-requires returns-2 returns-3)

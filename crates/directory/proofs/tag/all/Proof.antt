@@ -3,7 +3,6 @@ use denote.Ref.{now}
 use lib.ListN.{length}
 use Rattle.reading.specs.Reading.{run}
 use Rattle.directory.specs.Out.{numberOut, Out.is}
-use Rattle.directory.specs.Widths.{classic}
 use Rattle.directory.specs.Tag.{valuesOut, ValuesIn, Placed-values, valuesReading, allReading}
 use Rattle.directory.proofs.Outs.{bind-refused, bind-is}
 use Rattle.directory.proofs.Tags.{wide}
@@ -26,7 +25,7 @@ enum-known-v : tie.Need-enum-known-v
 enum-known-v c = search needs
 
 -- the tag's values, and what holds of them
-given : (c : tie.After-known-told2) → is (c .before .v .given .0 .0) ≡ run (now (c .before .before .before .before .before .args .file)) (valuesReading classic (c .before .before .before .before .before .args .ifd) (c .before .before .before .before .before .args .rule))
+given : (c : tie.After-known-told2) → is (c .before .v .given .0 .0) ≡ run (now (c .before .before .before .before .before .args .file)) (valuesReading (c .before .before .before .before .before .args .ifd) (c .before .before .before .before .before .args .rule))
 given c = ap valuesOut (sym (c .before .v .given .1)) ∙ c .before .before .before .look-up .ensures .0
 
 placed : (c : tie.After-known-told2) → Placed-values (length (now (c .before .before .before .before .before .args .file))) (c .before .before .before .before .before .args .rule) (c .before .v .given .0 .0)

@@ -1,61 +1,68 @@
-use mathlib.Core.Path.{_≡_, sym, ap, _∙_}
+use mathlib.Core.Path.{_≡_, refl, sym, ap, _∙_}
 use Prim.Native.Nat.{_+_, _-_, _*_, _≤_}
 use native.Mathlib.Omega.{arith}
 use denote.Ref.{now}
 use lib.ListN.{length}
 use Rattle.reading.specs.Bytes.{part}
 use Rattle.reading.specs.Reading.{run}
-use Rattle.reading.proofs.Bytes.{cut}
-use Rattle.directory.specs.Widths.{classic}
+use Rattle.directory.specs.Widths.{headWidth, entryWidth}
 use Rattle.directory.specs.Entry.{headerOf}
 use Rattle.directory.specs.Tag.{findFrom}
+use Rattle.directory.proofs.Entries.{entry-most, room, head-tag}
 use Rattle.directory.proofs.Tags.{find-none, find-here, find-later}
+use Rattle.directory.specs.declared.entry.Entry.{Entry}
 use borrow.Author.Needs.{needs}
 use Rattle.directory.proofs.tag.find.Statement.{statement}
 use Rattle.directory.proofs.tag.find.Tie as tie
 
 abbrev Inv-loop : tie.InvT-loop
-Inv-loop file order count at tag left₀ p₀ left p =
-    (run file (findFrom classic order count at tag) ≡ run file (findFrom classic order left p tag)) × (p + 12 * left ≤ length file)
+Inv-loop file order widths count at tag word head step left₀ p₀ left p =
+    (run file (findFrom widths order count at tag) ≡ run file (findFrom widths order left p tag)) × (p + entryWidth widths * left ≤ length file)
 
 abbrev μ-loop : tie.MeasureT-loop
-μ-loop file order count at tag left₀ p₀ left p = left
+μ-loop file order widths count at tag word head step left₀ p₀ left p = left
+
+add-head : tie.Need-add-head Inv-loop μ-loop
+add-head c = omega (arith, entry-most (c .before .args .widths) (c .before .pre .1 .word))
+
+add-step : tie.Need-add-step Inv-loop μ-loop
+add-step c = omega (arith, entry-most (c .before .args .widths) (c .before .pre .1 .word))
 
 loop-holds : tie.Need-loop-holds Inv-loop μ-loop
-loop-holds c = search needs
+loop-holds c = (refl, c .before .pre .0)
 
-add-header : tie.Need-add-header Inv-loop μ-loop
-add-header c = search needs
+-- one more entry lies in the file, and so do the others after it
+spaced : (c : tie.In-loop Inv-loop μ-loop) → (c .before .loop .p + entryWidth (c .before .before .before .args .widths) ≤ length (now (c .before .before .before .args .file)))
+    × (c .before .loop .p + entryWidth (c .before .before .before .args .widths) + entryWidth (c .before .before .before .args .widths) * (c .before .loop .left - 1) ≤ length (now (c .before .before .before .args .file)))
+spaced c = let l = c .before .loop in room (l .p) (entryWidth (c .before .before .before .args .widths)) (l .left) (l .left - 1) _ (omega arith) (l .inv .1)
 
-sub-header : tie.Need-sub-header Inv-loop μ-loop
-sub-header c = search needs
+short-requires : tie.Need-short-requires Inv-loop μ-loop
+short-requires c κs = omega (arith, spaced c .0)
 
-part-header-start : tie.Need-part-header-start Inv-loop μ-loop
-part-header-start c = search needs
-
-part-header-end : tie.Need-part-header-end Inv-loop μ-loop
-part-header-end c = search needs
-
-header-requires : tie.Need-header-requires Inv-loop μ-loop
-header-requires c κs = search needs
-
-head : (c : tie.After-header Inv-loop μ-loop) → c .header .result ≡ headerOf classic (c .before .before .before .before .before .args .order) (part (now (c .before .before .before .before .before .args .file)) (c .before .before .before .loop .p) 8)
-head c =
-    let a = c .before .before .before .before .before .args in
-    c .header .ensures .0 ∙ ap (headerOf classic (a .order)) (cut (now (a .file)) (c .before .before .before .loop .p) 8)
+cast-if1 : tie.Need-cast-if1 Inv-loop μ-loop
+cast-if1 c = search needs
 
 add-t15 : tie.Need-add-t15 Inv-loop μ-loop
-add-t15 c = search needs
+add-t15 c = omega (arith, spaced (c .before .before) .0)
+
+header-requires : tie.Need-header-requires Inv-loop μ-loop
+header-requires c κs = (omega (arith, spaced (c .before .before) .0), c .before .before .before .before .before .pre .1)
+
+-- the tag of the entry at p
+tag-is : (c : tie.After-short Inv-loop μ-loop) → headerOf (c .before .before .before .before .args .widths) (c .before .before .before .before .args .order) (part (now (c .before .before .before .before .args .file)) (c .before .before .loop .p) (headWidth (c .before .before .before .before .args .widths))) .tag ≡ c .short .result
+tag-is c = let a = c .before .before .before .before .args in head-tag (a .widths) (now (a .file)) (a .order) (c .before .before .loop .p) ∙ sym (c .short .ensures)
 
 returns : tie.Need-returns Inv-loop μ-loop
 returns c =
-    let h = c .before .before in
-    let l = h .before .before .before in
+    let t = c .before in
+    let l = t .before .before .before in
     let a = l .before .before .args in
-    (find-here classic (now (a .file)) _ _ _ (l .loop .left) (l .loop .left - 1) (omega arith) _ (head h) (c .if1 .taken) ∙ sym (l .loop .inv .0), (search needs, search needs))
+    let head = c .header .ensures .0 in
+    let e = ap (λ (x : Entry). x .tag) head ∙ tag-is (t .before) ∙ t .if1 .taken in
+    (find-here (a .widths) (now (a .file)) _ _ _ (l .loop .left) (l .loop .left - 1) (omega arith) _ head e ∙ sym (l .loop .inv .0), omega (arith, spaced (t .before .before) .0))
 
 add-p : tie.Need-add-p Inv-loop μ-loop
-add-p c = search needs
+add-p c = omega (arith, spaced (c .before .before) .0)
 
 sub-left : tie.Need-sub-left Inv-loop μ-loop
 sub-left c = search needs
@@ -65,16 +72,15 @@ loop-less c = search needs
 
 loop-again : tie.Need-loop-again Inv-loop μ-loop
 loop-again c =
-    let h = c .before .before in
-    let l = h .before .before .before in
+    let l = c .before .before .before in
     let a = l .before .before .args in
-    (l .loop .inv .0 ∙ find-later classic (now (a .file)) _ _ _ (l .loop .left) (l .loop .left - 1) (omega arith) _ (head h) (c .if1 .left), omega arith)
+    (l .loop .inv .0 ∙ find-later (a .widths) (now (a .file)) _ _ _ (l .loop .left) (l .loop .left - 1) (omega arith) _ refl (λ h. c .if1 .left (sym (tag-is (c .before)) ∙ h)), spaced (c .before .before) .1)
 
 returns-2 : tie.Need-returns-2 Inv-loop μ-loop
 returns-2 c =
     let l = c .before in
     let z : l .loop .left ≡ 0 = omega arith in
-    (find-none classic (now (l .before .before .args .file)) _ _ _ ∙ sym (rw z at (l .loop .inv .0)), tt)
+    (find-none (l .before .before .args .widths) (now (l .before .before .args .file)) _ _ _ ∙ sym (rw z at (l .loop .inv .0)), tt)
 
 pub find-spec : {M : Type 1} → statement M
-find-spec = tie.close (tie.spec Inv-loop μ-loop loop-holds add-header sub-header part-header-start part-header-end header-requires add-t15 returns add-p sub-left loop-less loop-again returns-2)
+find-spec = tie.close (tie.spec Inv-loop μ-loop add-head add-step loop-holds short-requires cast-if1 add-t15 header-requires returns add-p sub-left loop-less loop-again returns-2)

@@ -5,10 +5,10 @@ use denote.Ref.{now}
 use lib.ListN.{length}
 use Rattle.reading.specs.Reading.{run}
 use Rattle.directory.specs.Out.{Out.is}
-use Rattle.directory.specs.Widths.{classic}
 use Rattle.directory.specs.Tag.{valuesOut, ValuesIn, Placed-values, valuesReading, oneReading}
 use Rattle.directory.proofs.Outs.{bind-refused, bind-is}
-use Rattle.directory.proofs.Tags.{room, wide, first-default, first-is}
+use Rattle.directory.proofs.Entries.{room}
+use Rattle.directory.proofs.Tags.{wide, first-default, first-is}
 use borrow.Author.Needs.{needs}
 use Rattle.directory.proofs.tag.one.Statement.{statement}
 use Rattle.directory.proofs.tag.one.Tie as tie
@@ -27,7 +27,7 @@ enum-known-v : tie.Need-enum-known-v
 enum-known-v c = search needs
 
 -- the tag's values, and what holds of them
-given : (c : tie.After-known-told2) → is (c .before .v .given .0 .0) ≡ run (now (c .before .before .before .before .before .args .file)) (valuesReading classic (c .before .before .before .before .before .args .ifd) (c .before .before .before .before .before .args .rule))
+given : (c : tie.After-known-told2) → is (c .before .v .given .0 .0) ≡ run (now (c .before .before .before .before .before .args .file)) (valuesReading (c .before .before .before .before .before .args .ifd) (c .before .before .before .before .before .args .rule))
 given c = ap valuesOut (sym (c .before .v .given .1)) ∙ c .before .before .before .look-up .ensures .0
 
 placed : (c : tie.After-known-told2) → Placed-values (length (now (c .before .before .before .before .before .args .file))) (c .before .before .before .before .before .args .rule) (c .before .v .given .0 .0)
@@ -56,7 +56,7 @@ returns-3 : tie.Need-returns-3
 unfolding oneReading
 returns-3 c =
     let g = c .before .before .before in
-    (c .judged2 .ensures .0 ∙ first-is _ _ _ _ _ _ (c .before .before .if1 .left) _ (c .before .value .ensures .0) ∙ sym (bind-is _ _ _ _ (given g)), c .judged2 .ensures .1)
+    (c .judged2 .ensures .0 ∙ first-is _ _ _ _ _ _ (c .before .before .if1 .left) _ (c .before .value .ensures) ∙ sym (bind-is _ _ _ _ (given g)), c .judged2 .ensures .1)
 
 pub one-spec : {M : Type 1} → statement M
 one-spec = tie.close (tie.spec look-up-requires enum-known-number returns enum-known-v judged-requires returns-2 value-requires judged-requires-2 returns-3)

@@ -3,7 +3,6 @@ use denote.Ref.{now}
 use lib.ListN.{length}
 use Rattle.reading.specs.Reading.{run}
 use Rattle.directory.specs.Out.{Out.is}
-use Rattle.directory.specs.Widths.{classic}
 use Rattle.directory.specs.Tag.{valuesOut, ValuesIn, valuesReading}
 use Rattle.directory.specs.Tree.{versionRule, backwardRule}
 use Rattle.directory.proofs.Trees.{version-refused, backward-refused, version-above, version-is}
@@ -18,7 +17,7 @@ enum-known-number : tie.Need-enum-known-number
 enum-known-number c = search needs
 
 returns : tie.Need-returns
-returns c = (version-refused classic _ _ _ _ (ap valuesOut (sym (c .before .number .given .1)) ∙ c .before .before .before .look-up .ensures .0))
+returns c = (version-refused _ _ _ _ (ap valuesOut (sym (c .before .number .given .1)) ∙ c .before .before .before .look-up .ensures .0))
 
 enum-known-v : tie.Need-enum-known-v
 enum-known-v c = search needs
@@ -29,13 +28,13 @@ look-up-requires-2 c κs = search needs
 enum-known-number-2 : tie.Need-enum-known-number-2
 enum-known-number-2 c = search needs
 
-version : (c : tie.After-known-told2) → is (c .before .v .given .0 .0) ≡ run (now (c .before .before .before .before .before .args .file)) (valuesReading classic (c .before .before .before .before .before .args .ifd) versionRule)
+version : (c : tie.After-known-told2) → is (c .before .v .given .0 .0) ≡ run (now (c .before .before .before .before .before .args .file)) (valuesReading (c .before .before .before .before .before .args .ifd) versionRule)
 version c = ap valuesOut (sym (c .before .v .given .1)) ∙ c .before .before .before .look-up .ensures .0
 
 returns-2 : tie.Need-returns-2
 returns-2 c =
     let k = c .before .before .before in
-    backward-refused classic _ _ _ (version (k .before)) _ _ (ap valuesOut (sym (c .before .number2 .given .1)) ∙ k .look-up2 .ensures .0)
+    backward-refused _ _ _ (version (k .before)) _ _ (ap valuesOut (sym (c .before .number2 .given .1)) ∙ k .look-up2 .ensures .0)
 
 enum-known-v-2 : tie.Need-enum-known-v-2
 enum-known-v-2 c = search needs
@@ -47,18 +46,18 @@ backward-requires c κs =
     let n = length (now (g .before .before .before .before .before .args .file)) in
     (subst (ValuesIn n versionRule) (g .before .v .given .1) (g .before .before .before .look-up .ensures .1), subst (ValuesIn n backwardRule) (c .before .v2 .given .1) (k .look-up2 .ensures .1))
 
-backward-values : (c : tie.After-known-told4) → is (c .before .v2 .given .0 .0) ≡ run (now (c .before .before .before .before .before .before .before .before .before .args .file)) (valuesReading classic (c .before .before .before .before .before .before .before .before .before .args .ifd) backwardRule)
+backward-values : (c : tie.After-known-told4) → is (c .before .v2 .given .0 .0) ≡ run (now (c .before .before .before .before .before .before .before .before .before .args .file)) (valuesReading (c .before .before .before .before .before .before .before .before .before .args .ifd) backwardRule)
 backward-values c = ap valuesOut (sym (c .before .v2 .given .1)) ∙ c .before .before .before .look-up2 .ensures .0
 
 returns-3 : tie.Need-returns-3
 returns-3 c =
     let g = c .before .before in
-    version-above classic _ _ _ (version (g .before .before .before .before)) _ (backward-values g) _ (c .before .backward .ensures) (c .if1 .taken)
+    version-above _ _ _ (version (g .before .before .before .before)) _ (backward-values g) _ (c .before .backward .ensures) (c .if1 .taken)
 
 returns-4 : tie.Need-returns-4
 returns-4 c =
     let g = c .before .before in
-    version-is classic _ _ _ (version (g .before .before .before .before)) _ (backward-values g) _ (c .before .backward .ensures) (c .if1 .left)
+    version-is _ _ _ (version (g .before .before .before .before)) _ (backward-values g) _ (c .before .backward .ensures) (c .if1 .left)
 
 pub check-version-spec : {M : Type 1} → statement M
 check-version-spec = tie.close (tie.spec look-up-requires enum-known-number returns enum-known-v look-up-requires-2 enum-known-number-2 returns-2 enum-known-v-2 backward-requires returns-3 returns-4)

@@ -4,7 +4,6 @@ use lib.ListN.{length}
 use Rattle.reading.specs.Reading.{run}
 use Rattle.reading.proofs.Reading.{run-answer}
 use Rattle.directory.specs.Out.{Out.is, bind, numberOut}
-use Rattle.directory.specs.Widths.{classic}
 use Rattle.directory.specs.Shape.{ifdReading, ifdOut, IfdIn, Tested}
 use Rattle.directory.specs.Tree.{raw, left, walkOut, WalkIn, afterWalk, walkReading, rootReading}
 use Rattle.directory.proofs.Outs.{bind-refused, bind-is}
@@ -25,7 +24,7 @@ returns c = (bind-refused _ _ _ _ _ (ap ifdOut (sym (c .before .number .given .1
 enum-known-d : tie.Need-enum-known-d
 enum-known-d c = search needs
 
-opened : (c : tie.After-known-told2) → is (c .before .d .given .0 .0) ≡ run (now (c .before .before .before .before .before .args .file)) (ifdReading classic (length (now (c .before .before .before .before .before .args .file))) (c .before .before .before .before .before .args .order) (c .before .before .before .before .before .args .at))
+opened : (c : tie.After-known-told2) → is (c .before .d .given .0 .0) ≡ run (now (c .before .before .before .before .before .args .file)) (ifdReading (c .before .before .before .before .before .args .widths) (length (now (c .before .before .before .before .before .args .file))) (c .before .before .before .before .before .args .order) (c .before .before .before .before .before .args .at))
 opened c = ap ifdOut (sym (c .before .d .given .1)) ∙ c .before .before .before .ifd-at .ensures .0
 
 tested : (c : tie.After-known-told2) → Tested (now (c .before .before .before .before .before .args .file)) (c .before .d .given .0 .0)
@@ -47,7 +46,7 @@ enum-told : tie.Need-enum-told
 enum-told c = search needs
 
 walk-from-requires : tie.Need-walk-from-requires
-walk-from-requires c κs = tested (c .before .before .before)
+walk-from-requires c κs = (c .before .before .before .before .before .before .before .before .pre .0, tested (c .before .before .before))
 
 enum-known-raw : tie.Need-enum-known-raw
 enum-known-raw c = search needs
@@ -59,8 +58,8 @@ enum-told-2 : tie.Need-enum-told-2
 enum-told-2 c = search needs
 
 -- past the version: what follows is the walk
-walked : (c : tie.After-walk-from) → run (now (c .before .before .before .before .before .before .before .before .before .args .file)) (rootReading classic (length (now (c .before .before .before .before .before .before .before .before .before .args .file))) (c .before .before .before .before .before .before .before .before .before .args .order) (c .before .before .before .before .before .before .before .before .before .args .at))
-    ≡ run (now (c .before .before .before .before .before .before .before .before .before .args .file)) (bind (walkReading classic (length (now (c .before .before .before .before .before .before .before .before .before .args .file))) (c .before .before .before .before .before .d .given .0 .0)) (afterWalk (c .before .before .before .before .before .d .given .0 .0)))
+walked : (c : tie.After-walk-from) → run (now (c .before .before .before .before .before .before .before .before .before .args .file)) (rootReading (c .before .before .before .before .before .before .before .before .before .args .widths) (length (now (c .before .before .before .before .before .before .before .before .before .args .file))) (c .before .before .before .before .before .before .before .before .before .args .order) (c .before .before .before .before .before .before .before .before .before .args .at))
+    ≡ run (now (c .before .before .before .before .before .before .before .before .before .args .file)) (bind (walkReading (length (now (c .before .before .before .before .before .before .before .before .before .args .file))) (c .before .before .before .before .before .d .given .0 .0)) (afterWalk (c .before .before .before .before .before .d .given .0 .0)))
 unfolding rootReading
 walked c =
     bind-is _ _ _ _ (opened (c .before .before .before .before)) ∙ bind-is _ _ _ _ (ap numberOut (sym (c .before .enum-told .given .1)) ∙ c .before .before .before .check-version .ensures)
@@ -73,7 +72,7 @@ returns-3 c =
     let a = k .before .before .before .before .before .before in (
       sym (walked n ∙ bind-is _ _ _ (raw _) (ap walkOut (sym (c .before .raw .given .1)) ∙ n .walk-from .ensures .0) ∙ run-answer _ _),
       record {
-        size = a .pre .1;
+        size = a .pre .0;
         first = tested (k .before);
         raw = subst (WalkIn (now (a .args .file))) (c .before .raw .given .1) (n .walk-from .ensures .1);
       },
