@@ -4,8 +4,8 @@ use mathlib.Core.Path.{_≡_, refl, sym, ap, subst, _∙_}
 use mathlib.Core.Bool.{Bool, true, false, _&&_}
 use mathlib.Core.List.{List, [], _∷_}
 use mathlib.Core.Logic.{_⊎_, inl, inr, ⊎-elim}
-use Prim.Native.Nat.{ℕ, zero, suc, _+_, _-_, _*_, _≤_, _<_, zero-le}
-use native.Mathlib.Nat.{mul-le-mul, zero-mul, one-mul}
+use Prim.Native.Nat.{ℕ, zero, suc, _+_, _-_, _*_, _≤_, _<_, min, zero-le}
+use native.Mathlib.Nat.{mul-le-mul, zero-mul, suc-mul, min-le-right, min-eq-left}
 use native.Mathlib.Omega.{arith}
 use lib.Dec.{T, eqb, leb, leb→le}
 use borrow.Author.Tests.{eqb-true, eqb-false, leb-true, leb-false, eq-eqb, ne-eqb, le-leb, lt-leb}
@@ -53,21 +53,26 @@ pub entry-most : (w : Widths) → Wide (w .word) → entryWidth w ≤ 20
 entry-most w h = omega (arith, wide-most (w .word) h)
 
 -- ---- whether so many fit
-pub product-most : (s n room : ℕ) → s ≤ 20 → room ≤ 67108864 → n ≤ room → s * n ≤ 1342177280
-product-most s n room h r k = let l : n ≤ 67108864 = omega arith in mul-le-mul h l
+pub product-most : (s n : ℕ) → s ≤ 20 → s * min n 67108865 ≤ 1342177300
+product-most s n h = mul-le-mul h (min-le-right n 67108865)
 
 -- of more than there is room for, only those that have no bytes fit
-pub over : (s n room : ℕ) → room < n → eqb s 0 ≡ leb (s * n) room
-over s n room h = go (eqb s 0) refl
+over : (s n room : ℕ) → room < n → leb (s * n) room ≡ eqb s 0
+over zero n room h = let l : 0 ≤ room = zero-le in rw (zero-mul n) (le-leb 0 room l)
+over (suc s) n room h =
+    let l : room < suc s * n = omega (arith, suc-mul s n) in
+    let z : suc s ≡ 0 → ⊥ = λ e. absurd (omega arith) in
+    lt-leb _ _ l ∙ sym (ne-eqb _ _ z)
+
+pub capped : (s n room : ℕ) → room ≤ 67108864 → leb (s * min n 67108865) room ≡ leb (s * n) room
+capped s n room h = go (leb n 67108865) refl
   where
-    go : (b : Bool) → eqb s 0 ≡ b → b ≡ leb (s * n) room
-    go true e = let z : s ≡ 0 = eqb-true s 0 e in let l : s * n ≤ room = rw (z, zero-mul) zero-le in sym (le-leb _ _ l)
+    go : (b : Bool) → leb n 67108865 ≡ b → leb (s * min n 67108865) room ≡ leb (s * n) room
+    go true e = ap (λ (m : ℕ). leb (s * m) room) (min-eq-left (leb-true _ _ e))
     go false e =
-        let z = eqb-false s 0 e in
-        let o : 1 ≤ s = omega arith in
-        let m : n ≤ n = omega arith in
-        let l : room < s * n = omega (arith, mul-le-mul o m, one-mul n) in
-        sym (lt-leb _ _ l)
+        let l : 67108865 < n = leb-false _ _ e in
+        let m : room < min n 67108865 = omega arith in
+        over s _ room m ∙ sym (over s n room (omega arith))
 
 -- so many from a place on
 pub from-place : (p n len : ℕ) → p ≤ len → leb n (len - p) ≡ leb (p + n) len

@@ -123,16 +123,12 @@ pub fn size(kind: Kind) -> usize
     SIZES[t] as usize
 }
 
-// Whether so many values or entries of a size fit.
+// Whether so many values or entries of a size fit. More than any file has bytes count as one more than that.
 pub fn fits(size: usize, count: usize, room: usize) -> bool
     requires { ⌜ (size ≤ 20) × (room ≤ 67108864) ⌝ }
     ensures { λ r. ⌜ r ≡ leb (size * count) room ⌝ }
 {
-    if count <= room {
-        size * count <= room
-    } else {
-        size == 0
-    }
+    size * number::smaller(count, 67108865) <= room
 }
 
 // Whether so many of a size lie in a file of a length, from a place on.

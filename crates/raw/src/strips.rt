@@ -27,12 +27,6 @@ pub struct Run {
     pub size: usize,
 }
 
-fn smaller(a: usize, b: usize) -> usize
-    ensures { λ r. ⌜ r ≡ min a b ⌝ }
-{
-    if a < b { a } else { b }
-}
-
 // Strip by strip: its byte count (4, 279), then its place (4, 273).
 fn check_strips(
     file: &[u8],
@@ -56,7 +50,7 @@ fn check_strips(
     let mut q = counts.place;
     let mut rest = lines;
     while 0 < left {
-        let here = smaller(rows, rest);
+        let here = number::smaller(rows, rest);
         let bytes = number::value(file, order, breadth, q);
         if bytes != here * row {
             return Number::Refused {
