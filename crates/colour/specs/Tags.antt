@@ -7,7 +7,6 @@ use Rattle.reading.specs.declared.number.Order.{Order}
 use Rattle.reading.specs.declared.fraction.FractionKind.{FractionKind}
 use Rattle.reading.specs.declared.fraction.FractionKind.the-variants as kind
 use Rattle.directory.specs.Out.{Out, Out.refused, Out.is, bind}
-use Rattle.directory.specs.declared.Widths.{Widths}
 use Rattle.directory.specs.Tag.{valuesReading, notCarried, required}
 use Rattle.directory.specs.declared.Ifd.{Ifd}
 use Rattle.directory.specs.declared.tag.Kinds.the-variants as kinds

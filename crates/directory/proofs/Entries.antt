@@ -74,17 +74,6 @@ capped s n room h = go (leb n 67108865) refl
         let m : room < min n 67108865 = omega arith in
         over s _ room m ∙ sym (over s n room (omega arith))
 
--- so many from a place on
-pub from-place : (p n len : ℕ) → p ≤ len → leb n (len - p) ≡ leb (p + n) len
-from-place p n len h = go (leb n (len - p)) refl
-  where
-    go : (b : Bool) → leb n (len - p) ≡ b → b ≡ leb (p + n) len
-    go true e = let l : n ≤ len - p = leb-true _ _ e in let m : p + n ≤ len = omega arith in sym (le-leb _ _ m)
-    go false e = let l : len - p < n = leb-false _ _ e in let m : len < p + n = omega arith in sym (lt-leb _ _ m)
-
-pub past-end : (p n len : ℕ) → len < p → false ≡ leb (p + n) len
-past-end p n len h = let m : len < p + n = omega arith in sym (lt-leb _ _ m)
-
 -- ---- the types that the rules speak of
 pub plain-long : (k : Kind) → codeOf k ≡ 16 → 4 ≡ plainOf k
 unfolding plainOf

@@ -132,7 +132,7 @@ pub fn fits(size: usize, count: usize, room: usize) -> bool
 }
 
 // Whether so many of a size lie in a file of a length, from a place on.
-pub fn inside(place: usize, size: usize, count: usize, len: usize) -> bool
+pub fn many_inside(place: usize, size: usize, count: usize, len: usize) -> bool
     requires { ⌜ (size ≤ 20) × (len ≤ 67108864) ⌝ }
     ensures { λ r. ⌜ r ≡ leb (place + size * count) len ⌝ }
 {

@@ -31,7 +31,7 @@ fn placed_tag(file: &[u8], order: Order, widths: Widths, at: usize) -> Number
         return Number::Is(tag);
     }
     let place = number::value(file, order, word, at + head);
-    if entry::inside(place, size, count, file.len()) {
+    if entry::many_inside(place, size, count, file.len()) {
         Number::Is(tag)
     } else {
         Number::Refused {
@@ -76,11 +76,11 @@ pub fn ifd_at(file: &[u8], order: Order, widths: Widths, at: usize) -> Opened
 {
     let entries = widths.entries;
     let word = widths.word;
-    if entry::inside(at, entries, 1, file.len()) {
+    if number::inside(at, entries, file.len()) {
         let count = number::value(file, order, entries, at);
         let first = at + entries;
         if 0 < count {
-            if entry::inside(first + word, 4 + word + word, count, file.len()) {
+            if entry::many_inside(first + word, 4 + word + word, count, file.len()) {
                 return match check_entries(file, order, widths, count, first) {
                     Number::Refused { number, detail } => Opened::Refused { number, detail },
                     Number::Is(_) => Opened::Is(Ifd {

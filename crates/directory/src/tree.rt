@@ -70,7 +70,7 @@ fn inspect(file: &[u8], ifd: Ifd) -> Look
     let any = Range {
         legal: 0,
         from: 0,
-        to: 18446744073709551615,
+        to: 0xFFFF_FFFF_FFFF_FFFF,
     };
     let t = match tag::one(file, ifd, subfile, 0, any) {
         Number::Refused { number, detail } => return Look::Refused { number, detail },

@@ -18,7 +18,6 @@ use Rattle.levels.specs.declared.black.BlackKind.the-variants as kind
 use Rattle.reading.proofs.Bytes.{part-part}
 use Rattle.reading.proofs.Reading.{running, run-answer}
 use Rattle.directory.specs.Out.{Out.is}
-use Rattle.directory.specs.declared.Widths.{Widths}
 use Rattle.directory.specs.Entry.{sizeOf}
 use Rattle.directory.specs.declared.entry.Kind.{Kind}
 use Rattle.directory.proofs.Tags.{number-or-fraction}
@@ -85,10 +84,10 @@ same-value v u e = cc
 abbrev Most : List ℕ → Order → Values → Type 0
 Most f o v = (i : ℕ) → i < v .count → numberOf o (part f (v .place + v .size * i) (v .size)) ≤ 65535
 
-pub whites-in : (w : Widths) (f : List ℕ) (d : Ifd) (s : ℕ) (r : Given) → valuesOut r ≡ run f (whiteReading d s) → ValuesIn (length f) (whiteRule s) r → WhitesIn f (d .order) (whiteRule s) r
+pub whites-in : (f : List ℕ) (d : Ifd) (s : ℕ) (r : Given) → valuesOut r ≡ run f (whiteReading d s) → ValuesIn (length f) (whiteRule s) r → WhitesIn f (d .order) (whiteRule s) r
 unfolding whiteReading allReading
-whites-in w f d s (given.Refused n t) e q = tt
-whites-in w f d s (given.Is v) e q =
+whites-in f d s (given.Refused n t) e q = tt
+whites-in f d s (given.Is v) e q =
     let a = bind-inverse f _ _ v e in
     let b = bind-inverse f _ _ v (a .2) in
     let u : Values = a .0 in

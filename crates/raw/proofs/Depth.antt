@@ -9,7 +9,6 @@ use Rattle.reading.specs.Number.{numberOf}
 use Rattle.reading.specs.Reading.{run}
 use Rattle.reading.proofs.Reading.{running, run-answer, pick-no}
 use Rattle.directory.specs.Out.{Out.refused, Out.is}
-use Rattle.directory.specs.declared.Widths.{Widths}
 use Rattle.directory.specs.Tag.{valuesReading, eachReading, required, range}
 use Rattle.directory.specs.declared.Ifd.{Ifd}
 use Rattle.directory.specs.declared.tag.Kinds.the-variants as kinds
@@ -17,7 +16,7 @@ use Rattle.directory.specs.declared.tag.Values.{Values}
 use Rattle.directory.proofs.Outs.{bind-refused, bind-is}
 use Rattle.raw.specs.Layout.{bytesPer, depthFrom, depthReading}
 
-module _ (w : Widths) (f : List ℕ) (d : Ifd) (s : ℕ) (v : Values) (e : is v ≡ run f (valuesReading d (required 258 kinds.Short s)))
+module _ (f : List ℕ) (d : Ifd) (s : ℕ) (v : Values) (e : is v ≡ run f (valuesReading d (required 258 kinds.Short s)))
     (n : ℕ) (q : n ≡ numberOf (d .order) (part f (v .place) (v .size))) where
   depth-from : run f (depthReading d s) ≡ run f (depthFrom d v n)
   unfolding depthReading

@@ -9,7 +9,6 @@ use Rattle.reading.specs.declared.number.Order.{Order}
 use Rattle.levels.specs.declared.black.BlackKind.{BlackKind}
 use Rattle.levels.specs.declared.black.BlackKind.the-variants as kind
 use Rattle.directory.specs.Out.{Out, Out.refused, Out.is, bind}
-use Rattle.directory.specs.declared.Widths.{Widths}
 use Rattle.directory.specs.Tag.{valuesReading, optional, Placed-values}
 use Rattle.directory.specs.Entry.{codeOf}
 use Rattle.directory.specs.declared.entry.Kind.{Kind}

@@ -9,7 +9,6 @@ use Rattle.directory.specs.Out.{Out, Out.refused, Out.is, bind}
 use Rattle.directory.specs.Shape.{Tested}
 use Rattle.directory.specs.Tree.{treeReading}
 use Rattle.directory.specs.declared.Ifd.{Ifd}
-use Rattle.directory.specs.declared.Widths.{Widths}
 use Rattle.raw.specs.Raw.{tagsReading, Tags-in}
 use Rattle.raw.specs.Stored.{levelsReading}
 use Rattle.raw.specs.Spans.{spannedOf, Spans-in}

@@ -6,7 +6,6 @@ use Rattle.reading.specs.Reading.{Reading, Reading.answer}
 use Rattle.reading.specs.declared.number.Order.{Order}
 use Rattle.levels.specs.declared.black.BlackKind.the-variants as kind
 use Rattle.directory.specs.Out.{Out, Out.refused, Out.is, bind}
-use Rattle.directory.specs.declared.Widths.{Widths}
 use Rattle.directory.specs.Tag.{Placed-values}
 use Rattle.directory.specs.declared.Ifd.{Ifd}
 use Rattle.raw.specs.Repeat.{repeatReading, Repeated-in}

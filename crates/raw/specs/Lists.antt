@@ -2,7 +2,6 @@
 use mathlib.Core.Bool.{false}
 use Rattle.reading.specs.Reading.{Reading}
 use Rattle.directory.specs.Out.{Out, bind}
-use Rattle.directory.specs.declared.Widths.{Widths}
 use Rattle.directory.specs.Tag.{valuesReading, notCarried, rule}
 use Rattle.directory.specs.declared.Ifd.{Ifd}
 use Rattle.directory.specs.declared.tag.Kinds.the-variants as kinds
@@ -10,7 +9,7 @@ use Rattle.directory.specs.declared.tag.Rule.{Rule}
 use Rattle.directory.specs.declared.tag.Values.{Values}
 
 abbrev pub listRule : Rule
-listRule = rule false 51009 kinds.Undefined 4 0xFFFF_FFFF
+listRule = rule false 51009 kinds.Undefined 4 0xFFFF_FFFF_FFFF_FFFF
 
 -- "51008, 51022: if present with any type, not carried. 51009: UNDEFINED, 4 bytes or more"
 unfoldable pub listReading : Ifd → Reading (Out Values)

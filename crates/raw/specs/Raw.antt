@@ -5,7 +5,6 @@ use lib.ListN.{length}
 use Rattle.reading.specs.Reading.{Reading, Reading.answer}
 use Rattle.reading.specs.declared.number.Order.{Order}
 use Rattle.directory.specs.Out.{Out, Out.refused, Out.is, bind}
-use Rattle.directory.specs.declared.Widths.{Widths}
 use Rattle.directory.specs.Tag.{Placed-values}
 use Rattle.directory.specs.declared.Ifd.{Ifd}
 use Rattle.raw.specs.Frame.{frameReading, Framed-in}

@@ -8,7 +8,6 @@ use Rattle.reading.specs.Number.{numberOf}
 use Rattle.reading.specs.Reading.{Reading}
 use Rattle.reading.specs.declared.number.Order.{Order}
 use Rattle.directory.specs.Out.{Out}
-use Rattle.directory.specs.declared.Widths.{Widths}
 use Rattle.directory.specs.Tag.{valuesReading, allReading, rule, optional, range, Placed-values}
 use Rattle.directory.specs.declared.Ifd.{Ifd}
 use Rattle.directory.specs.declared.tag.Kinds.the-variants as kinds

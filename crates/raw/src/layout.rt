@@ -132,7 +132,7 @@ fn strip_rows(file: &[u8], ifd: Ifd) -> Number
     let some = Range {
         legal: 1,
         from: 1,
-        to: 18446744073709551615,
+        to: 0xFFFF_FFFF_FFFF_FFFF,
     };
     tag::one(file, ifd, rule, 4294967295, some)
 }

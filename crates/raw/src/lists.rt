@@ -29,7 +29,7 @@ pub fn list_of(file: &[u8], ifd: Ifd) -> Given
         kinds: Kinds::Undefined,
         required: false,
         least: 4,
-        most: 4294967295,
+        most: 0xFFFF_FFFF_FFFF_FFFF,
     };
     tag::look_up(file, ifd, rule)
 }

@@ -59,13 +59,7 @@ fn check_strips(
             };
         }
         let place = number::value(file, order, width, p);
-        if file.len() < place {
-            return Number::Refused {
-                number: 4,
-                detail: 273,
-            };
-        }
-        if file.len() - place < bytes {
+        if !number::inside(place, bytes, file.len()) {
             return Number::Refused {
                 number: 4,
                 detail: 273,

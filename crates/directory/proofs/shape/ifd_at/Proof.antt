@@ -13,14 +13,11 @@ use Rattle.directory.proofs.shape.ifd_at.Statement.{statement}
 use Rattle.directory.proofs.shape.ifd_at.Tie as tie
 
 inside-requires : tie.Need-inside-requires
-inside-requires c κs = let a = c .before in (omega (arith, wide-most _ (a .pre .1 .entries)), a .pre .0)
+inside-requires c κs = search needs
 
 -- the count lies in the file
 counted : (c : tie.Then1) → let a = c .before .before .before .args in a .at + a .widths .entries ≤ length (now (a .file))
-counted c =
-    let a = c .before .before .before .args in
-    let h : a .at + a .widths .entries * 1 ≤ length (now (a .file)) = leb-true _ _ (sym (c .before .inside .ensures) ∙ c .if1 .taken) in
-    omega arith
+counted c = leb-true _ _ (sym (c .before .inside .ensures) ∙ c .if1 .taken)
 
 value-requires : tie.Need-value-requires
 value-requires c κs = (counted c, c .before .before .before .pre .1 .entries)
@@ -28,17 +25,17 @@ value-requires c κs = (counted c, c .before .before .before .pre .1 .entries)
 add-first : tie.Need-add-first
 add-first c = omega (arith, counted (c .before), c .before .before .before .before .pre .0)
 
-add-inside : tie.Need-add-inside
-add-inside c = let a = c .before .before .before .before .before in omega (arith, counted (c .before .before), a .pre .0, wide-most _ (a .pre .1 .word))
+add-many-inside : tie.Need-add-many-inside
+add-many-inside c = let a = c .before .before .before .before .before in omega (arith, counted (c .before .before), a .pre .0, wide-most _ (a .pre .1 .word))
 
-add-inside-2 : tie.Need-add-inside-2
-add-inside-2 c = omega (arith, wide-most _ (c .before .before .before .before .before .pre .1 .word))
+add-many-inside-2 : tie.Need-add-many-inside-2
+add-many-inside-2 c = omega (arith, wide-most _ (c .before .before .before .before .before .pre .1 .word))
 
-add-inside-3 : tie.Need-add-inside-3
-add-inside-3 c = omega (arith, wide-most _ (c .before .before .before .before .before .pre .1 .word))
+add-many-inside-3 : tie.Need-add-many-inside-3
+add-many-inside-3 c = omega (arith, wide-most _ (c .before .before .before .before .before .pre .1 .word))
 
-inside-requires-2 : tie.Need-inside-requires-2
-inside-requires-2 c κs =
+many-inside-requires : tie.Need-many-inside-requires
+many-inside-requires c κs =
     let a = c .before .before .before .before .before in
     (entry-most (a .args .widths) (a .pre .1 .word), a .pre .0)
 
@@ -50,7 +47,7 @@ room c =
     let a = v .before .before .before .before .args in
     let n = v .value .result in
     let h : a .at + a .widths .entries + a .widths .word + entryWidth (a .widths) * n ≤ length (now (a .file)) =
-        leb-true _ _ (sym (c .before .inside2 .ensures) ∙ c .if3 .taken) in
+        leb-true _ _ (sym (c .before .many-inside .ensures) ∙ c .if3 .taken) in
     omega (arith, h)
 
 check-entries-requires : tie.Need-check-entries-requires
@@ -90,7 +87,7 @@ returns-3 c =
     let a = v .before .before .before .before .args in
     let n = v .value .result in
     let h : length (now (a .file)) < a .at + a .widths .entries + a .widths .word + entryWidth (a .widths) * n =
-        leb-false _ _ (sym (c .before .inside2 .ensures) ∙ c .if3 .left) in
+        leb-false _ _ (sym (c .before .many-inside .ensures) ∙ c .if3 .left) in
     (ifd-cut (a .widths) (now (a .file)) _ _ _ (counted (v .before)) _ (v .value .ensures) (c .before .before .if2 .taken) (omega (arith, h)), tt)
 
 returns-4 : tie.Need-returns-4
@@ -102,8 +99,7 @@ returns-4 c =
 returns-5 : tie.Need-returns-5
 returns-5 c =
     let a = c .before .before .before .args in
-    let h : length (now (a .file)) < a .at + a .widths .entries * 1 = leb-false _ _ (sym (c .before .inside .ensures) ∙ c .if1 .left) in
-    (ifd-outside (a .widths) (now (a .file)) _ _ _ (omega (arith, h)), tt)
+    (ifd-outside (a .widths) (now (a .file)) _ _ _ (leb-false _ _ (sym (c .before .inside .ensures) ∙ c .if1 .left)), tt)
 
 pub ifd-at-spec : {M : Type 1} → statement M
-ifd-at-spec = tie.close (tie.spec inside-requires value-requires add-first add-inside add-inside-2 add-inside-3 inside-requires-2 check-entries-requires enum-known-number enum-told returns returns-2 returns-3 returns-4 returns-5)
+ifd-at-spec = tie.close (tie.spec inside-requires value-requires add-first add-many-inside add-many-inside-2 add-many-inside-3 many-inside-requires check-entries-requires enum-known-number enum-told returns returns-2 returns-3 returns-4 returns-5)

@@ -68,8 +68,8 @@ add-value-2 c = search needs
 value-requires-2 : tie.Need-value-requires-2
 value-requires-2 c κs = (omega arith, c .before .before .before .before .before .before .before .pre .2 .word)
 
-inside-requires : tie.Need-inside-requires
-inside-requires c κs = (omega arith, c .before .before .before .before .before .before .before .before .pre .1)
+many-inside-requires : tie.Need-many-inside-requires
+many-inside-requires c κs = (omega arith, c .before .before .before .before .before .before .before .before .pre .1)
 
 returns-2 : tie.Need-returns-2
 returns-2 c =
@@ -78,7 +78,7 @@ returns-2 c =
     let a = h .before .before .before .before .before .args in
     let s = h .before .size-of .ensures .0 in
     let b = unfit (λ (m : ℕ). m * h .value .result) (entry h .kind) _ _ _ s (v .before .before .fits2 .ensures) (v .before .if1 .left) in
-    let r = fit (λ (m : ℕ). v .value2 .result + m * h .value .result) (entry h .kind) _ _ _ s (c .before .inside .ensures) (c .if2 .taken) in
+    let r = fit (λ (m : ℕ). v .value2 .result + m * h .value .result) (entry h .kind) _ _ _ s (c .before .many-inside .ensures) (c .if2 .taken) in
     (entry-inside (a .widths) (now (a .file)) _ _ _ (entry h) (head h) b _ (v .value2 .ensures) r, omega arith)
 
 returns-3 : tie.Need-returns-3
@@ -88,8 +88,8 @@ returns-3 c =
     let a = h .before .before .before .before .before .args in
     let s = h .before .size-of .ensures .0 in
     let b = unfit (λ (m : ℕ). m * h .value .result) (entry h .kind) _ _ _ s (v .before .before .fits2 .ensures) (v .before .if1 .left) in
-    let r = unfit (λ (m : ℕ). v .value2 .result + m * h .value .result) (entry h .kind) _ _ _ s (c .before .inside .ensures) (c .if2 .left) in
+    let r = unfit (λ (m : ℕ). v .value2 .result + m * h .value .result) (entry h .kind) _ _ _ s (c .before .many-inside .ensures) (c .if2 .left) in
     (entry-outside (a .widths) (now (a .file)) _ _ _ (entry h) (head h) b _ (v .value2 .ensures) r, tt)
 
 pub placed-tag-spec : {M : Type 1} → statement M
-placed-tag-spec = tie.close (tie.spec add-head short-requires cast-tag add-short short-requires-2 cast-size-of size-of-requires add-value value-requires fits-requires returns add-value-2 value-requires-2 inside-requires returns-2 returns-3)
+placed-tag-spec = tie.close (tie.spec add-head short-requires cast-tag add-short short-requires-2 cast-size-of size-of-requires add-value value-requires fits-requires returns add-value-2 value-requires-2 many-inside-requires returns-2 returns-3)
