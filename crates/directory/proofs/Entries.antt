@@ -121,7 +121,8 @@ module _ (w : Widths) (f : List ℕ) (o : Order) (at : ℕ) where
   unfolding headerOf
   head-tag = let z : at + 0 ≡ at = omega arith in field 0 2 (omega arith) ∙ ap (λ (p : ℕ). numberOf o (part f p 2)) z
 
-  pub header-at : (t n : ℕ) (k : Kind) → t ≡ numberOf o (part f at 2) → k ≡ kindOf (w .types) (numberOf o (part f (at + 2) 2)) → n ≡ numberOf o (part f (at + 4) (w .word)) →
+  pub header-at : (t n : ℕ) (k : Kind) →
+      t ≡ numberOf o (part f at 2) → k ≡ kindOf (w .types) (numberOf o (part f (at + 2) 2)) → n ≡ numberOf o (part f (at + 4) (w .word)) →
       _≡_ {A = Entry} (record { tag = t; kind = k; count = n }) (headerOf w o (part f at (headWidth w)))
   unfolding headerOf
   header-at t n k et ek en =

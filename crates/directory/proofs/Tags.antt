@@ -1,13 +1,13 @@
 -- Laws of tags: finding one, its type and count, its numbers, each by the code's tests.
 -- Assumes nothing.
 use mathlib.Core.Path.{_≡_, refl, sym, ap, subst, _∙_}
-use mathlib.Core.Bool.{Bool, true, false, _||_}
+use mathlib.Core.Bool.{Bool, true, false, not, _||_, _&&_}
 use mathlib.Core.List.{List, [], _∷_}
 use mathlib.Core.Logic.{_⊎_, inl, inr, ⊎-elim}
 use Prim.Native.Nat.{ℕ, zero, suc, _+_, _*_, _≤_, _<_}
 use native.Mathlib.Numerals.{add-one}
 use native.Mathlib.Omega.{arith}
-use lib.Dec.{eqb, leb, ltb}
+use lib.Dec.{T, T-not, eqb, leb, ltb}
 use lib.ListN.{length, getD}
 use mir.Val.{hasKey}
 use borrow.Author.Tests.{eqb-true, eqb-false, leb-true, leb-false, ltb-true, ltb-false, le-leb, lt-leb, eq-eqb, ne-eqb}
@@ -82,7 +82,8 @@ module _ (w : Widths) (f : List ℕ) (o : Order) where
     unfolding PlacedIn
     found-step n at low z rec s (refused k d) e b q = absurd (not-refused z k d (s ∙ sym (shape-refused w f (length f) o at low (suc n) n (omega arith) k d e)))
     found-step n at low z rec s (is t) e true q =
-        subst (PlacedIn w f o) (find-here w f o at tag (suc n) n (omega arith) (headerOf w o (part f at (headWidth w))) refl (eqb-true _ _ q)) (entry-placed at t e)
+        subst (PlacedIn w f o) (find-here w f o at tag (suc n) n (omega arith) (headerOf w o (part f at (headWidth w))) refl (eqb-true _ _ q))
+        (entry-placed at t e)
     found-step n at low z rec s (is t) e false q =
         subst (PlacedIn w f o) (sym (find-later w f o at tag (suc n) n (omega arith) (headerOf w o (part f at (headWidth w))) refl (eqb-false _ _ q)))
         (rec (t + 1) (go (ltb t low) refl))
@@ -140,8 +141,14 @@ long-code k e = ⊎-elim inl (λ q. ⊎-elim (λ h. inr (h .0)) (λ h. absurd (l
 offset-code : (k : Kind) → plainOf k ≡ 13 → (codeOf k ≡ 13) ⊎ (codeOf k ≡ 18)
 offset-code k e = ⊎-elim inl (λ q. ⊎-elim (λ h. absurd (let z = h .1 in omega arith)) (λ h. inr (h .0)) q) (plain-is k 13 e)
 
-other-code : (k : Kind) (a : ℕ) → (a ≡ 4 → ⊥) → (a ≡ 13 → ⊥) → plainOf k ≡ a → codeOf k ≡ a
-other-code k a n m e = ⊎-elim (λ h. h) (λ q. ⊎-elim (λ h. absurd (n (h .1))) (λ h. absurd (m (h .1))) q) (plain-is k a e)
+abbrev other : ℕ → Bool
+other a = not (eqb a 4) && not (eqb a 13)
+
+other-code : (k : Kind) (a : ℕ) → T (other a) → plainOf k ≡ a → codeOf k ≡ a
+other-code k a o e = ⊎-elim (λ h. h) (λ q. ⊎-elim (λ h. clash 4 (h .1) tt) (λ h. clash 13 (h .1) tt) q) (plain-is k a e)
+  where
+    clash : (b : ℕ) → a ≡ b → T (not (other b)) → codeOf k ≡ a
+    clash b h t = absurd (T-not (other b) t (subst (λ (n : ℕ). T (other n)) h o))
 
 -- the bytes of one value
 long : (k : Kind) → plainOf k ≡ 4 → Long (sizeOf k)
@@ -150,35 +157,35 @@ long k e = ⊎-elim (λ h. inl (sized k 4 h)) (λ h. inr (sized k 16 h)) (long-c
 offset : (k : Kind) → plainOf k ≡ 13 → Long (sizeOf k)
 offset k e = ⊎-elim (λ h. inl (sized k 13 h)) (λ h. inr (sized k 18 h)) (offset-code k e)
 
-only : (k : Kind) (a : ℕ) → (a ≡ 4 → ⊥) → (a ≡ 13 → ⊥) → plainOf k ≡ a → sizeOf k ≡ getD sizes a 0
-only k a n m e = sized k a (other-code k a n m e)
+only : (k : Kind) (a : ℕ) → T (other a) → plainOf k ≡ a → sizeOf k ≡ getD sizes a 0
+only k a o e = sized k a (other-code k a o e)
 
 -- SHORT, LONG or RATIONAL by their numbers
 pub number-or-fraction : (k : Kind) → allowsOf kinds.ShortLongOrRational k ≡ true →
     (codeOf k ≡ 3) ⊎ (((codeOf k ≡ 4) ⊎ (codeOf k ≡ 16)) ⊎ (codeOf k ≡ 5))
 number-or-fraction k e =
-    ⊎-elim (λ h. inl (other-code k 3 (λ z. absurd (omega arith)) (λ z. absurd (omega arith)) h))
-    (λ h. inr (⊎-elim (λ q. inl (long-code k q)) (λ q. inr (other-code k 5 (λ z. absurd (omega arith)) (λ z. absurd (omega arith)) (one-key 5 _ q))) (more-keys 4 (5 ∷ []) (plainOf k) h)))
+    ⊎-elim (λ h. inl (other-code k 3 tt h))
+    (λ h. inr (⊎-elim (λ q. inl (long-code k q)) (λ q. inr (other-code k 5 tt (one-key 5 _ q))) (more-keys 4 (5 ∷ []) (plainOf k) h)))
     (more-keys 3 (4 ∷ 5 ∷ []) (plainOf k) e)
 
 -- the bytes of one value of a type that is allowed
 pub size-in : (ks : Kinds) (k : Kind) → allowsOf ks k ≡ true → SizeIn ks (sizeOf k)
-size-in kinds.Byte k e = only k 1 (λ z. absurd (omega arith)) (λ z. absurd (omega arith)) (one-key 1 _ e)
-size-in kinds.Short k e = only k 3 (λ z. absurd (omega arith)) (λ z. absurd (omega arith)) (one-key 3 _ e)
+size-in kinds.Byte k e = only k 1 tt (one-key 1 _ e)
+size-in kinds.Short k e = only k 3 tt (one-key 3 _ e)
 size-in kinds.Long k e = long k (one-key 4 _ e)
 size-in kinds.ShortOrLong k e =
-    ⊎-elim (λ h. inl (only k 3 (λ z. absurd (omega arith)) (λ z. absurd (omega arith)) h)) (λ h. inr (long k (one-key 4 _ h))) (more-keys 3 (4 ∷ []) (plainOf k) e)
+    ⊎-elim (λ h. inl (only k 3 tt h)) (λ h. inr (long k (one-key 4 _ h))) (more-keys 3 (4 ∷ []) (plainOf k) e)
 size-in kinds.LongOrIfd k e = ⊎-elim (λ h. long k h) (λ h. offset k (one-key 13 _ h)) (more-keys 4 (13 ∷ []) (plainOf k) e)
 size-in kinds.ShortOrRational k e =
-    ⊎-elim (λ h. inl (only k 3 (λ z. absurd (omega arith)) (λ z. absurd (omega arith)) h))
-    (λ h. inr (only k 5 (λ z. absurd (omega arith)) (λ z. absurd (omega arith)) (one-key 5 _ h)))
+    ⊎-elim (λ h. inl (only k 3 tt h))
+    (λ h. inr (only k 5 tt (one-key 5 _ h)))
     (more-keys 3 (5 ∷ []) (plainOf k) e)
 size-in kinds.ShortLongOrRational k e =
-    ⊎-elim (λ h. inl (only k 3 (λ z. absurd (omega arith)) (λ z. absurd (omega arith)) h))
-    (λ h. inr (⊎-elim (long k) (λ q. inr (only k 5 (λ z. absurd (omega arith)) (λ z. absurd (omega arith)) (one-key 5 _ q))) (more-keys 4 (5 ∷ []) (plainOf k) h)))
+    ⊎-elim (λ h. inl (only k 3 tt h))
+    (λ h. inr (⊎-elim (long k) (λ q. inr (only k 5 tt (one-key 5 _ q))) (more-keys 4 (5 ∷ []) (plainOf k) h)))
     (more-keys 3 (4 ∷ 5 ∷ []) (plainOf k) e)
-size-in kinds.SignedRational k e = only k 10 (λ z. absurd (omega arith)) (λ z. absurd (omega arith)) (one-key 10 _ e)
-size-in kinds.Undefined k e = only k 7 (λ z. absurd (omega arith)) (λ z. absurd (omega arith)) (one-key 7 _ e)
+size-in kinds.SignedRational k e = only k 10 tt (one-key 10 _ e)
+size-in kinds.Undefined k e = only k 7 tt (one-key 7 _ e)
 
 run-whole : (f : List ℕ) (p : ℕ) (e : Entry) → run f (wholeReading p e) ≡ is (valuesAt p e)
 unfolding wholeReading pick
@@ -219,7 +226,9 @@ module _ (w : Widths) (f : List ℕ) (o : Order) (r : Rule) (p : ℕ) (e : Entry
         elsewhere b v q = simp (running, run-whole, k, le-leb _ _ l, le-leb _ _ m, lt-leb _ _ b, ← q)
 
         values-in : (size v : ℕ) → v + bytesOf e ≤ size → Placed-values size r (valuesAt v e)
-        values-in size v h = record { inside = h; typed = λ _. (k, refl); sized = λ _. size-in (r .kinds) (e .kind) k; enough = λ _. l; within = m; present = λ _. l }
+        values-in size v h =
+            let s = size-in (r .kinds) (e .kind) k in
+            record { inside = h; typed = λ _. (k, refl); sized = λ _. s; enough = λ _. l; within = m; present = λ _. l }
 
         pub inside-entry : (size : ℕ) → p + w .word ≤ size → bytesOf e ≤ w .word → Placed-values size r (valuesAt p e)
         inside-entry size h b = values-in size p (omega arith)

@@ -19,11 +19,10 @@ use Rattle.reading.proofs.Reading.{running, run-answer, run-then, pick-yes, pic
 use Rattle.directory.specs.Out.{Out.refused, Out.is}
 use Rattle.directory.specs.Widths.{classic, bigTiff, Laid}
 use Rattle.directory.specs.Shape.{ifdReading}
-use Rattle.directory.specs.Tag.{valuesReading, oneReading, optional, range}
-use Rattle.directory.specs.Tree.{Seen, raw-one, parent, childrenRule, lookReading, versionRule, backwardRule, backwardReading, versionReading, Walked, left, afterLook, afterChild, childrenReading, visitReading, listVisit, rootReading, sameBytes, classicMark, bigTiffMark, offsetReading, bigTiffReading, treeReading}
+use Rattle.directory.specs.Tag.{valuesReading}
+use Rattle.directory.specs.Tree.{Seen, raw-one, parent, childrenRule, subfileReading, lookReading, versionRule, backwardRule, backwardReading, versionReading, Walked, left, afterLook, afterChild, childrenReading, visitReading, listVisit, rootReading, sameBytes, classicMark, bigTiffMark, offsetReading, bigTiffReading, treeReading}
 use Rattle.directory.specs.declared.Ifd.{Ifd}
 use Rattle.directory.specs.declared.Widths.{Widths}
-use Rattle.directory.specs.declared.tag.Kinds.the-variants as kinds
 use Rattle.directory.specs.declared.tag.Values.{Values}
 use Rattle.directory.proofs.Outs.{bind-refused, bind-is}
 
@@ -58,11 +57,11 @@ module _ (f : List ℕ) (d : Ifd) where
 
 -- ---- one directory
 module _ (f : List ℕ) (d : Ifd) where
-  pub look-refused : (k e : ℕ) → refused k e ≡ run f (oneReading d (optional 254 kinds.Long 1) 0 (range 0 0 0xFFFF_FFFF_FFFF_FFFF)) → refused k e ≡ run f (lookReading d)
+  pub look-refused : (k e : ℕ) → refused k e ≡ run f (subfileReading d) → refused k e ≡ run f (lookReading d)
   unfolding lookReading
   look-refused k e h = bind-refused f _ _ k e h
 
-  module _ (t : ℕ) (subfile : is t ≡ run f (oneReading d (optional 254 kinds.Long 1) 0 (range 0 0 0xFFFF_FFFF_FFFF_FFFF))) where
+  module _ (t : ℕ) (subfile : is t ≡ run f (subfileReading d)) where
     pub look-raw : t ≡ 0 → is raw-one ≡ run f (lookReading d)
     unfolding lookReading
     look-raw h = sym (bind-is f _ _ t subfile ∙ rw (eq-eqb _ _ h, pick-yes) (run-answer f _))
@@ -97,7 +96,8 @@ module _ (w : Widths) (f : List ℕ) (size : ℕ) (o : Order) (d at v : ℕ) whe
         unfolding visitReading
         visit-unseen k e h = rw (deep, add-one m, some, add-one u) (bind-refused f _ _ k e h ∙ sym (bind-is f _ _ i ifd))
 
-        pub visit-seen : (s : Seen) → is s ≡ run f (lookReading i) → run f (visitReading w size o d at v) ≡ run f (afterLook i (λ p s n. listVisit w size o m s n p u) s)
+        pub visit-seen : (s : Seen) → is s ≡ run f (lookReading i) →
+            run f (visitReading w size o d at v) ≡ run f (afterLook i (λ p s n. listVisit w size o m s n p u) s)
         unfolding visitReading
         visit-seen s h = rw (deep, add-one m, some, add-one u) (bind-is f _ _ i ifd ∙ bind-is f _ _ s h)
 
@@ -111,7 +111,8 @@ module _ (w : Widths) (f : List ℕ) (size : ℕ) (o : Order) (d s n p v : ℕ) 
     unfolding childrenReading
     child-refused k e h = rw (some, add-one m) (simp (running, ← offset) (bind-refused f _ _ k e h))
 
-    pub child-is : (t : Walked) → is t ≡ run f (visitReading w size o d at v) → run f (listVisit w size o d s n p v) ≡ run f (afterChild (λ u. listVisit w size o d s m (p + s) u) t)
+    pub child-is : (t : Walked) → is t ≡ run f (visitReading w size o d at v) →
+        run f (listVisit w size o d s n p v) ≡ run f (afterChild (λ u. listVisit w size o d s m (p + s) u) t)
     unfolding childrenReading
     child-is t h = rw (some, add-one m) (simp (running, ← offset) (bind-is f _ _ t h))
 
@@ -126,7 +127,8 @@ four (a ∷ b ∷ c ∷ []) h = absurd (omega arith)
 four (a ∷ b ∷ c ∷ d ∷ l) h = refl
 
 pub start-is : (f m : List ℕ) → 4 ≤ length f → length m ≡ 4 →
-    (eqb (getD f 0 0) (getD m 0 0) && (eqb (getD f 1 0) (getD m 1 0) && (eqb (getD f 2 0) (getD m 2 0) && (eqb (getD f 3 0) (getD m 3 0) && true)))) ≡ sameBytes (take 4 f) m
+    (eqb (getD f 0 0) (getD m 0 0) && (eqb (getD f 1 0) (getD m 1 0) && (eqb (getD f 2 0) (getD m 2 0) && (eqb (getD f 3 0) (getD m 3 0) && true))))
+    ≡ sameBytes (take 4 f) m
 start-is f m h e = rw (four f h) (go m e)
   where
     go : (m : List ℕ) → length m ≡ 4 →

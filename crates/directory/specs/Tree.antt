@@ -41,10 +41,14 @@ lookOut (look.Into p s n) = is (parent p s n)
 abbrev pub childrenRule : Rule
 childrenRule = rule false 330 kinds.LongOrIfd 1 16
 
--- 254: LONG 1, default 0; the raw directory is one where it is 0, and otherwise 330 is tested
+-- 254: LONG 1, default 0; any number is legal
+abbrev pub subfileReading : Ifd → Reading (Out ℕ)
+subfileReading d = oneReading d (optional 254 kinds.Long 1) 0 (range 0 0 0xFFFF_FFFF_FFFF_FFFF)
+
+-- the raw directory is one where 254 is 0, and otherwise 330 is tested
 unfoldable pub lookReading : Ifd → Reading (Out Seen)
 lookReading d =
-    bind (oneReading d (optional 254 kinds.Long 1) 0 (range 0 0 0xFFFF_FFFF_FFFF_FFFF)) (λ t.
+    bind (subfileReading d) (λ t.
     pick (eqb t 0) (answer (is raw-one))
     (bind (valuesReading d childrenRule) (λ v. answer (is (parent (v .place) (v .size) (v .count))))))
 

@@ -157,7 +157,8 @@ fn check_version(file: &[u8], ifd: Ifd) -> Number
 // Visits the directory at an offset, with so many levels and visits left.
 fn visit(file: &[u8], order: Order, widths: Widths, depth: usize, at: usize, visits: usize) -> Walk
     requires { ⌜ (length (now file) ≤ 67108864) × Laid widths ⌝ }
-    ensures { λ r. ⌜ (walkOut r ≡ run (now (file .entry)) (visitReading widths (length (now (file .entry))) order depth at visits)) × WalkIn (now (file .entry)) r ⌝ }
+    ensures { λ r. ⌜ walkOut r ≡ run (now (file .entry)) (visitReading widths (length (now (file .entry))) order depth at visits) ⌝ }
+    ensures { λ r. ⌜ WalkIn (now (file .entry)) r ⌝ }
 {
     if depth == 0 {
         return Walk::Refused {
@@ -204,7 +205,8 @@ fn visit_children(
 ) -> Walk
     requires { ⌜ (length (now file) ≤ 67108864) × Laid widths ⌝ }
     requires { ⌜ (count ≤ 16) × (place + size * count ≤ length (now file)) × (0 < count → Wide size) ⌝ }
-    ensures { λ r. ⌜ (walkOut r ≡ run (now (file .entry)) (listVisit widths (length (now (file .entry))) order depth size count place visits)) × WalkIn (now (file .entry)) r ⌝ }
+    ensures { λ r. ⌜ walkOut r ≡ run (now (file .entry)) (listVisit widths (length (now (file .entry))) order depth size count place visits) ⌝ }
+    ensures { λ r. ⌜ WalkIn (now (file .entry)) r ⌝ }
 {
     if count == 0 {
         return Walk::Left(visits);

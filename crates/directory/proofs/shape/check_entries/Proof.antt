@@ -4,9 +4,9 @@ use native.Mathlib.Omega.{arith}
 use denote.Ref.{now}
 use lib.ListN.{length}
 use Rattle.reading.specs.Reading.{run}
-use Rattle.directory.specs.Out.{numberOut}
+use Rattle.directory.specs.Out.{numberOut, Out.is}
 use Rattle.directory.specs.Widths.{entryWidth}
-use Rattle.directory.specs.Shape.{shapeFrom, TagIn}
+use Rattle.directory.specs.Shape.{entryReading, shapeFrom, TagIn}
 use Rattle.directory.proofs.Entries.{entry-most, room}
 use Rattle.directory.proofs.Shapes.{shape-none, shape-refused, shape-order, shape-next}
 use borrow.Author.Needs.{needs}
@@ -15,7 +15,8 @@ use Rattle.directory.proofs.shape.check_entries.Tie as tie
 
 abbrev Inv-loop : tie.InvT-loop
 Inv-loop file order widths count at word step left₀ p₀ low₀ left p low =
-    (run file (shapeFrom widths (length file) order count at 0) ≡ run file (shapeFrom widths (length file) order left p low)) × (p + entryWidth widths * left ≤ length file)
+    (run file (shapeFrom widths (length file) order count at 0) ≡ run file (shapeFrom widths (length file) order left p low))
+    × (p + entryWidth widths * left ≤ length file)
 
 abbrev μ-loop : tie.MeasureT-loop
 μ-loop file order widths count at word step left₀ p₀ low₀ left p low = left
@@ -30,8 +31,9 @@ loop-holds : tie.Need-loop-holds Inv-loop μ-loop
 loop-holds c = (refl, c .before .pre .0)
 
 -- one more entry lies in the file, and so do the others after it
-spaced : (c : tie.In-loop Inv-loop μ-loop) → (c .before .loop .p + entryWidth (c .before .before .before .args .widths) ≤ length (now (c .before .before .before .args .file)))
-    × (c .before .loop .p + entryWidth (c .before .before .before .args .widths) + entryWidth (c .before .before .before .args .widths) * (c .before .loop .left - 1) ≤ length (now (c .before .before .before .args .file)))
+spaced : (c : tie.In-loop Inv-loop μ-loop) → let a = c .before .before .before .args in let l = c .before .loop in
+    (l .p + entryWidth (a .widths) ≤ length (now (a .file)))
+    × (l .p + entryWidth (a .widths) + entryWidth (a .widths) * (l .left - 1) ≤ length (now (a .file)))
 spaced c = let l = c .before .loop in room (l .p) (entryWidth (c .before .before .before .args .widths)) (l .left) (l .left - 1) _ (omega arith) (l .inv .1)
 
 placed-tag-requires : tie.Need-placed-tag-requires Inv-loop μ-loop
@@ -44,16 +46,23 @@ returns : tie.Need-returns Inv-loop μ-loop
 returns c =
     let l = c .before .before .before .before .before in
     let a = l .before .before .args in
-    shape-refused (a .widths) (now (a .file)) _ _ _ _ (l .loop .left) (l .loop .left - 1) (omega arith) _ _ (ap numberOut (sym (c .before .number .given .1)) ∙ c .before .before .before .placed-tag .ensures .0) ∙ sym (l .loop .inv .0)
+    let e = ap numberOut (sym (c .before .number .given .1)) ∙ c .before .before .before .placed-tag .ensures .0 in
+    shape-refused (a .widths) (now (a .file)) _ _ _ _ (l .loop .left) (l .loop .left - 1) (omega arith) _ _ e ∙ sym (l .loop .inv .0)
 
 enum-known-t : tie.Need-enum-known-t Inv-loop μ-loop
 enum-known-t c = search needs
+
+-- the tag of the entry at p
+tagged : (c : tie.After-known-told2 Inv-loop μ-loop) → let l = c .before .before .before .before .before in let a = l .before .before .args in
+    is (c .before .t .given .0 .0) ≡ run (now (a .file)) (entryReading (a .widths) (length (now (a .file))) (a .order) (l .loop .p))
+tagged c = ap numberOut (sym (c .before .t .given .1)) ∙ c .before .before .before .placed-tag .ensures .0
 
 returns-2 : tie.Need-returns-2 Inv-loop μ-loop
 returns-2 c =
     let l = c .before .before .before .before .before .before in
     let a = l .before .before .args in
-    shape-order (a .widths) (now (a .file)) _ _ _ _ (l .loop .left) (l .loop .left - 1) (omega arith) _ (ap numberOut (sym (c .before .before .t .given .1)) ∙ c .before .before .before .before .placed-tag .ensures .0) (c .if1 .taken) ∙ sym (l .loop .inv .0)
+    let n = l .loop .left in
+    shape-order (a .widths) (now (a .file)) _ _ _ _ n (n - 1) (omega arith) _ (tagged (c .before)) (c .if1 .taken) ∙ sym (l .loop .inv .0)
 
 add-low : tie.Need-add-low Inv-loop μ-loop
 add-low c = let h = subst TagIn (c .before .before .t .given .1) (c .before .before .before .before .placed-tag .ensures .1) in omega arith
@@ -71,7 +80,8 @@ loop-again : tie.Need-loop-again Inv-loop μ-loop
 loop-again c =
     let l = c .before .before .before .before .before .before in
     let a = l .before .before .args in
-    (l .loop .inv .0 ∙ shape-next (a .widths) (now (a .file)) _ _ _ _ (l .loop .left) (l .loop .left - 1) (omega arith) _ (ap numberOut (sym (c .before .before .t .given .1)) ∙ c .before .before .before .before .placed-tag .ensures .0) (c .if1 .left), spaced (c .before .before .before .before .before) .1)
+    let n = shape-next (a .widths) (now (a .file)) _ _ _ _ (l .loop .left) (l .loop .left - 1) (omega arith) _ (tagged (c .before)) (c .if1 .left) in
+    (l .loop .inv .0 ∙ n, spaced (c .before .before .before .before .before) .1)
 
 returns-3 : tie.Need-returns-3 Inv-loop μ-loop
 returns-3 c =

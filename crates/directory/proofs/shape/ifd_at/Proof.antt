@@ -47,7 +47,7 @@ room c =
     let a = v .before .before .before .before .args in
     let n = v .value .result in
     let h : a .at + a .widths .entries + a .widths .word + entryWidth (a .widths) * n ≤ length (now (a .file)) =
-        leb-true _ _ (sym (c .before .many-inside .ensures) ∙ c .if3 .taken) in
+    leb-true _ _ (sym (c .before .many-inside .ensures) ∙ c .if3 .taken) in
     omega (arith, h)
 
 check-entries-requires : tie.Need-check-entries-requires
@@ -87,7 +87,7 @@ returns-3 c =
     let a = v .before .before .before .before .args in
     let n = v .value .result in
     let h : length (now (a .file)) < a .at + a .widths .entries + a .widths .word + entryWidth (a .widths) * n =
-        leb-false _ _ (sym (c .before .many-inside .ensures) ∙ c .if3 .left) in
+    leb-false _ _ (sym (c .before .many-inside .ensures) ∙ c .if3 .left) in
     (ifd-cut (a .widths) (now (a .file)) _ _ _ (counted (v .before)) _ (v .value .ensures) (c .before .before .if2 .taken) (omega (arith, h)), tt)
 
 returns-4 : tie.Need-returns-4

@@ -53,7 +53,8 @@ head : (c : tie.After-value) → let a = c .before .before .before .before .befo
 head c =
     let s = c .before .before in
     let a = s .before .before .before .args in
-    header-at (a .widths) (now (a .file)) (a .order) (a .at) _ _ _ (s .before .short .ensures) (ap (kindOf (a .widths .types)) (s .short2 .ensures)) (c .value .ensures)
+    let k = ap (kindOf (a .widths .types)) (s .short2 .ensures) in
+    header-at (a .widths) (now (a .file)) (a .order) (a .at) _ _ _ (s .before .short .ensures) k (c .value .ensures)
 
 returns : tie.Need-returns
 returns c =

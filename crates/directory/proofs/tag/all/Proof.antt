@@ -25,14 +25,21 @@ enum-known-v : tie.Need-enum-known-v
 enum-known-v c = search needs
 
 -- the tag's values, and what holds of them
-given : (c : tie.After-known-told2) → is (c .before .v .given .0 .0) ≡ run (now (c .before .before .before .before .before .args .file)) (valuesReading (c .before .before .before .before .before .args .ifd) (c .before .before .before .before .before .args .rule))
+given : (c : tie.After-known-told2) → let a = c .before .before .before .before .before .args in
+    is (c .before .v .given .0 .0) ≡ run (now (a .file)) (valuesReading (a .ifd) (a .rule))
 given c = ap valuesOut (sym (c .before .v .given .1)) ∙ c .before .before .before .look-up .ensures .0
 
-placed : (c : tie.After-known-told2) → Placed-values (length (now (c .before .before .before .before .before .args .file))) (c .before .before .before .before .before .args .rule) (c .before .v .given .0 .0)
-placed c = let a = c .before .before .before .before .before in subst (ValuesIn (length (now (a .args .file))) (a .args .rule)) (c .before .v .given .1) (c .before .before .before .look-up .ensures .1)
+placed : (c : tie.After-known-told2) → let a = c .before .before .before .before .before .args in
+    Placed-values (length (now (a .file))) (a .rule) (c .before .v .given .0 .0)
+placed c =
+    let k = c .before .before .before in
+    let a = k .before .before .args in
+    subst (ValuesIn (length (now (a .file))) (a .rule)) (c .before .v .given .1) (k .look-up .ensures .1)
 
 each-requires : tie.Need-each-requires
-each-requires c κs = (placed c .inside, λ h. wide (c .before .before .before .before .before .args .rule .kinds) (c .before .before .before .before .before .pre .1) _ (placed c .sized h))
+each-requires c κs =
+    let a = c .before .before .before .before .before in
+    (placed c .inside, λ h. wide (a .args .rule .kinds) (a .pre .1) _ (placed c .sized h))
 
 enum-known-number-2 : tie.Need-enum-known-number-2
 enum-known-number-2 c = search needs

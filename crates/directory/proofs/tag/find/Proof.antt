@@ -32,8 +32,9 @@ loop-holds : tie.Need-loop-holds Inv-loop μ-loop
 loop-holds c = (refl, c .before .pre .0)
 
 -- one more entry lies in the file, and so do the others after it
-spaced : (c : tie.In-loop Inv-loop μ-loop) → (c .before .loop .p + entryWidth (c .before .before .before .args .widths) ≤ length (now (c .before .before .before .args .file)))
-    × (c .before .loop .p + entryWidth (c .before .before .before .args .widths) + entryWidth (c .before .before .before .args .widths) * (c .before .loop .left - 1) ≤ length (now (c .before .before .before .args .file)))
+spaced : (c : tie.In-loop Inv-loop μ-loop) → let a = c .before .before .before .args in let l = c .before .loop in
+    (l .p + entryWidth (a .widths) ≤ length (now (a .file)))
+    × (l .p + entryWidth (a .widths) + entryWidth (a .widths) * (l .left - 1) ≤ length (now (a .file)))
 spaced c = let l = c .before .loop in room (l .p) (entryWidth (c .before .before .before .args .widths)) (l .left) (l .left - 1) _ (omega arith) (l .inv .1)
 
 short-requires : tie.Need-short-requires Inv-loop μ-loop
@@ -49,8 +50,12 @@ header-requires : tie.Need-header-requires Inv-loop μ-loop
 header-requires c κs = (omega (arith, spaced (c .before .before) .0), c .before .before .before .before .before .pre .1)
 
 -- the tag of the entry at p
-tag-is : (c : tie.After-short Inv-loop μ-loop) → headerOf (c .before .before .before .before .args .widths) (c .before .before .before .before .args .order) (part (now (c .before .before .before .before .args .file)) (c .before .before .loop .p) (headWidth (c .before .before .before .before .args .widths))) .tag ≡ c .short .result
-tag-is c = let a = c .before .before .before .before .args in head-tag (a .widths) (now (a .file)) (a .order) (c .before .before .loop .p) ∙ sym (c .short .ensures)
+tag-is : (c : tie.After-short Inv-loop μ-loop) → let a = c .before .before .before .before .args in let l = c .before .before .loop in
+    headerOf (a .widths) (a .order) (part (now (a .file)) (l .p) (headWidth (a .widths))) .tag ≡ c .short .result
+tag-is c =
+    let l = c .before .before in
+    let a = l .before .before .args in
+    head-tag (a .widths) (now (a .file)) (a .order) (l .loop .p) ∙ sym (c .short .ensures)
 
 returns : tie.Need-returns Inv-loop μ-loop
 returns c =
@@ -58,8 +63,10 @@ returns c =
     let l = t .before .before .before in
     let a = l .before .before .args in
     let head = c .header .ensures .0 in
-    let e = ap (λ (x : Entry). x .tag) head ∙ tag-is (t .before) ∙ t .if1 .taken in
-    (find-here (a .widths) (now (a .file)) _ _ _ (l .loop .left) (l .loop .left - 1) (omega arith) _ head e ∙ sym (l .loop .inv .0), omega (arith, spaced (t .before .before) .0))
+    let e = ap (λ (x : Entry). x .tag) head ∙ tag-is (t .before) ∙ t .if1 .taken in (
+      find-here (a .widths) (now (a .file)) _ _ _ (l .loop .left) (l .loop .left - 1) (omega arith) _ head e ∙ sym (l .loop .inv .0),
+      omega (arith, spaced (t .before .before) .0),
+    )
 
 add-p : tie.Need-add-p Inv-loop μ-loop
 add-p c = omega (arith, spaced (c .before .before) .0)
@@ -74,7 +81,9 @@ loop-again : tie.Need-loop-again Inv-loop μ-loop
 loop-again c =
     let l = c .before .before .before in
     let a = l .before .before .args in
-    (l .loop .inv .0 ∙ find-later (a .widths) (now (a .file)) _ _ _ (l .loop .left) (l .loop .left - 1) (omega arith) _ refl (λ h. c .if1 .left (sym (tag-is (c .before)) ∙ h)), spaced (c .before .before) .1)
+    let n = l .loop .left in
+    let e = find-later (a .widths) (now (a .file)) _ _ _ n (n - 1) (omega arith) _ refl (λ h. c .if1 .left (sym (tag-is (c .before)) ∙ h)) in
+    (l .loop .inv .0 ∙ e, spaced (c .before .before) .1)
 
 returns-2 : tie.Need-returns-2 Inv-loop μ-loop
 returns-2 c =

@@ -27,8 +27,10 @@ tested-requires c κs =
     let a = c .before .before .before .before .before .before in
     let g = c .before .found .given .1 in
     let d = c .before .before .before .find .ensures in
-    let q = subst (FoundIn (a .args .ifd .widths) (length (now (a .args .file)))) g (d .1) in
-    ((q, a .pre .laid), subst (PlacedIn (a .args .ifd .widths) (now (a .args .file)) (a .args .ifd .order)) (sym (d .0) ∙ g) (found-placed _ _ _ _ _ _ _ _ (a .pre .shape)))
+    let q = subst (FoundIn (a .args .ifd .widths) (length (now (a .args .file)))) g (d .1) in (
+      (q, a .pre .laid),
+      subst (PlacedIn (a .args .ifd .widths) (now (a .args .file)) (a .args .ifd .order)) (sym (d .0) ∙ g) (found-placed _ _ _ _ _ _ _ _ (a .pre .shape)),
+    )
 
 returns : tie.Need-returns
 returns c =

@@ -27,11 +27,16 @@ enum-known-v : tie.Need-enum-known-v
 enum-known-v c = search needs
 
 -- the tag's values, and what holds of them
-given : (c : tie.After-known-told2) → is (c .before .v .given .0 .0) ≡ run (now (c .before .before .before .before .before .args .file)) (valuesReading (c .before .before .before .before .before .args .ifd) (c .before .before .before .before .before .args .rule))
+given : (c : tie.After-known-told2) → let a = c .before .before .before .before .before .args in
+    is (c .before .v .given .0 .0) ≡ run (now (a .file)) (valuesReading (a .ifd) (a .rule))
 given c = ap valuesOut (sym (c .before .v .given .1)) ∙ c .before .before .before .look-up .ensures .0
 
-placed : (c : tie.After-known-told2) → Placed-values (length (now (c .before .before .before .before .before .args .file))) (c .before .before .before .before .before .args .rule) (c .before .v .given .0 .0)
-placed c = let a = c .before .before .before .before .before in subst (ValuesIn (length (now (a .args .file))) (a .args .rule)) (c .before .v .given .1) (c .before .before .before .look-up .ensures .1)
+placed : (c : tie.After-known-told2) → let a = c .before .before .before .before .before .args in
+    Placed-values (length (now (a .file))) (a .rule) (c .before .v .given .0 .0)
+placed c =
+    let k = c .before .before .before in
+    let a = k .before .before .args in
+    subst (ValuesIn (length (now (a .file))) (a .rule)) (c .before .v .given .1) (k .look-up .ensures .1)
 
 judged-requires : tie.Need-judged-requires
 judged-requires c κs = search needs
@@ -44,10 +49,11 @@ returns-2 c =
 
 value-requires : tie.Need-value-requires
 value-requires c κs =
+    let a = c .before .before .before .before .before .before in
     let v = c .before .before .v .given .0 .0 in
     let s : 0 < v .count = omega arith in
     let q = placed (c .before) in
-    (room (v .place) (v .size) (v .count) (v .count - 1) _ (omega arith) (q .inside) .0, wide (c .before .before .before .before .before .before .args .rule .kinds) (c .before .before .before .before .before .before .pre .1) _ (q .sized s))
+    (room (v .place) (v .size) (v .count) (v .count - 1) _ (omega arith) (q .inside) .0, wide (a .args .rule .kinds) (a .pre .1) _ (q .sized s))
 
 judged-requires-2 : tie.Need-judged-requires-2
 judged-requires-2 c κs = search needs
@@ -55,8 +61,10 @@ judged-requires-2 c κs = search needs
 returns-3 : tie.Need-returns-3
 unfolding oneReading
 returns-3 c =
-    let g = c .before .before .before in
-    (c .judged2 .ensures .0 ∙ first-is _ _ _ _ _ _ (c .before .before .if1 .left) _ (c .before .value .ensures) ∙ sym (bind-is _ _ _ _ (given g)), c .judged2 .ensures .1)
+    let g = c .before .before .before in (
+      c .judged2 .ensures .0 ∙ first-is _ _ _ _ _ _ (c .before .before .if1 .left) _ (c .before .value .ensures) ∙ sym (bind-is _ _ _ _ (given g)),
+      c .judged2 .ensures .1,
+    )
 
 pub one-spec : {M : Type 1} → statement M
 one-spec = tie.close (tie.spec look-up-requires enum-known-number returns enum-known-v judged-requires returns-2 value-requires judged-requires-2 returns-3)

@@ -40,7 +40,8 @@ returns-3 c =
     let m = c .before .before .before .if3 .left in
     let s = c .before .before .size .ensures .0 in
     let b = fit (λ (m : ℕ). m * a .args .entry .count) (a .args .entry .kind) _ _ _ s (c .before .fits2 .ensures) (c .if4 .taken) in (
-      ap (λ n. is (record { place = a .args .place; kind = a .args .entry .kind; size = n; count = a .args .entry .count })) s ∙ in-entry _ _ _ _ _ _ (allowed t) l m b,
+      ap (λ n. is (record { place = a .args .place; kind = a .args .entry .kind; size = n; count = a .args .entry .count })) s
+          ∙ in-entry _ _ _ _ _ _ (allowed t) l m b,
       rw s (inside-entry (a .args .widths) (now (a .args .file)) (a .args .order) _ _ (a .args .entry) (allowed t) l m _ (a .pre .0 .0) b),
     )
 
@@ -52,7 +53,8 @@ returns-4 c =
     let m = c .before .before .before .before .if3 .left in
     let s = c .before .before .before .size .ensures .0 in
     let b = unfit (λ (m : ℕ). m * a .args .entry .count) (a .args .entry .kind) _ _ _ s (c .before .before .fits2 .ensures) (c .before .if4 .left) in (
-      ap (λ n. is (record { place = c .value .result; kind = a .args .entry .kind; size = n; count = a .args .entry .count })) s ∙ elsewhere _ _ _ _ _ _ (allowed t) l m b _ (c .value .ensures),
+      ap (λ n. is (record { place = c .value .result; kind = a .args .entry .kind; size = n; count = a .args .entry .count })) s
+          ∙ elsewhere _ _ _ _ _ _ (allowed t) l m b _ (c .value .ensures),
       rw s (inside-file _ _ _ _ _ _ (allowed t) l m b (a .pre .1) _ (c .value .ensures)),
     )
 

@@ -28,8 +28,12 @@ root-from-requires c κs =
 
 returns-4 : tie.Need-returns-4
 returns-4 c =
-    let s = c .before .before .before .before in
-    (c .root-from .ensures .0 ∙ sym (big-tiff-offset _ _ _ (s .before .if1 .left) _ (s .short .ensures) (c .before .before .before .if2 .left) _ (c .before .before .short2 .ensures) (c .before .if3 .left)), c .root-from .ensures .1)
+    let t = c .before .before in
+    let s = t .before .before in (
+      c .root-from .ensures .0
+          ∙ sym (big-tiff-offset _ _ _ (s .before .if1 .left) _ (s .short .ensures) (t .before .if2 .left) _ (t .short2 .ensures) (c .before .if3 .left)),
+      c .root-from .ensures .1,
+    )
 
 pub big-tiff-root-spec : {M : Type 1} → statement M
 big-tiff-root-spec = tie.close (tie.spec returns short-requires returns-2 short-requires-2 returns-3 root-from-requires returns-4)

@@ -28,7 +28,8 @@ look-up-requires-2 c κs = search needs
 enum-known-number-2 : tie.Need-enum-known-number-2
 enum-known-number-2 c = search needs
 
-version : (c : tie.After-known-told2) → is (c .before .v .given .0 .0) ≡ run (now (c .before .before .before .before .before .args .file)) (valuesReading (c .before .before .before .before .before .args .ifd) versionRule)
+version : (c : tie.After-known-told2) → let a = c .before .before .before .before .before .args in
+    is (c .before .v .given .0 .0) ≡ run (now (a .file)) (valuesReading (a .ifd) versionRule)
 version c = ap valuesOut (sym (c .before .v .given .1)) ∙ c .before .before .before .look-up .ensures .0
 
 returns-2 : tie.Need-returns-2
@@ -43,10 +44,13 @@ backward-requires : tie.Need-backward-requires
 backward-requires c κs =
     let k = c .before .before .before in
     let g = k .before in
-    let n = length (now (g .before .before .before .before .before .args .file)) in
-    (subst (ValuesIn n versionRule) (g .before .v .given .1) (g .before .before .before .look-up .ensures .1), subst (ValuesIn n backwardRule) (c .before .v2 .given .1) (k .look-up2 .ensures .1))
+    let n = length (now (g .before .before .before .before .before .args .file)) in (
+      subst (ValuesIn n versionRule) (g .before .v .given .1) (g .before .before .before .look-up .ensures .1),
+      subst (ValuesIn n backwardRule) (c .before .v2 .given .1) (k .look-up2 .ensures .1),
+    )
 
-backward-values : (c : tie.After-known-told4) → is (c .before .v2 .given .0 .0) ≡ run (now (c .before .before .before .before .before .before .before .before .before .args .file)) (valuesReading (c .before .before .before .before .before .before .before .before .before .args .ifd) backwardRule)
+backward-values : (c : tie.After-known-told4) → let a = c .before .before .before .before .before .before .before .before .before .args in
+    is (c .before .v2 .given .0 .0) ≡ run (now (a .file)) (valuesReading (a .ifd) backwardRule)
 backward-values c = ap valuesOut (sym (c .before .v2 .given .1)) ∙ c .before .before .before .look-up2 .ensures .0
 
 returns-3 : tie.Need-returns-3

@@ -4,9 +4,8 @@ use denote.Ref.{now}
 use lib.ListN.{length}
 use Rattle.reading.specs.Reading.{run}
 use Rattle.directory.specs.Out.{numberOut, Out.is}
-use Rattle.directory.specs.Tag.{valuesOut, ValuesIn, oneReading, optional, range}
-use Rattle.directory.specs.Tree.{childrenRule}
-use Rattle.directory.specs.declared.tag.Kinds.the-variants as kinds
+use Rattle.directory.specs.Tag.{valuesOut, ValuesIn}
+use Rattle.directory.specs.Tree.{childrenRule, subfileReading}
 use Rattle.directory.proofs.Trees.{look-refused, look-raw, children-refused, look-into}
 use borrow.Author.Needs.{needs}
 use Rattle.directory.proofs.tree.inspect.Statement.{statement}
@@ -24,7 +23,8 @@ returns c = (look-refused _ _ _ _ (ap numberOut (sym (c .before .number .given .
 enum-known-t : tie.Need-enum-known-t
 enum-known-t c = search needs
 
-subfile : (c : tie.After-known-told2) → is (c .before .t .given .0 .0) ≡ run (now (c .before .before .before .before .before .args .file)) (oneReading (c .before .before .before .before .before .args .ifd) (optional 254 kinds.Long 1) 0 (range 0 0 0xFFFF_FFFF_FFFF_FFFF))
+subfile : (c : tie.After-known-told2) → let a = c .before .before .before .before .before .args in
+    is (c .before .t .given .0 .0) ≡ run (now (a .file)) (subfileReading (a .ifd))
 subfile c = ap numberOut (sym (c .before .t .given .1)) ∙ c .before .before .before .one .ensures .0
 
 returns-2 : tie.Need-returns-2
@@ -42,7 +42,8 @@ enum-known-v c = search needs
 returns-3 : tie.Need-returns-3
 returns-3 c =
     let k = c .before .before .before in
-    (children-refused _ _ _ (subfile (k .before .before)) (k .before .if1 .left) _ _ (ap valuesOut (sym (c .before .number2 .given .1)) ∙ k .look-up .ensures .0), tt)
+    let e = ap valuesOut (sym (c .before .number2 .given .1)) ∙ k .look-up .ensures .0 in
+    (children-refused _ _ _ (subfile (k .before .before)) (k .before .if1 .left) _ _ e, tt)
 
 returns-4 : tie.Need-returns-4
 returns-4 c =

@@ -24,7 +24,8 @@ returns c = (bind-refused _ _ _ _ _ (ap ifdOut (sym (c .before .number .given .1
 enum-known-d : tie.Need-enum-known-d
 enum-known-d c = search needs
 
-opened : (c : tie.After-known-told2) → is (c .before .d .given .0 .0) ≡ run (now (c .before .before .before .before .before .args .file)) (ifdReading (c .before .before .before .before .before .args .widths) (length (now (c .before .before .before .before .before .args .file))) (c .before .before .before .before .before .args .order) (c .before .before .before .before .before .args .at))
+opened : (c : tie.After-known-told2) → let a = c .before .before .before .before .before .args in
+    is (c .before .d .given .0 .0) ≡ run (now (a .file)) (ifdReading (a .widths) (length (now (a .file))) (a .order) (a .at))
 opened c = ap ifdOut (sym (c .before .d .given .1)) ∙ c .before .before .before .ifd-at .ensures .0
 
 tested : (c : tie.After-known-told2) → Tested (now (c .before .before .before .before .before .args .file)) (c .before .d .given .0 .0)
@@ -40,7 +41,8 @@ returns-2 : tie.Need-returns-2
 unfolding rootReading
 returns-2 c =
     let k = c .before .before .before in
-    (bind-refused _ _ _ _ _ (ap numberOut (sym (c .before .number2 .given .1)) ∙ k .check-version .ensures) ∙ sym (bind-is _ _ _ _ (opened (k .before))), tt)
+    let e = ap numberOut (sym (c .before .number2 .given .1)) ∙ k .check-version .ensures in
+    (bind-refused _ _ _ _ _ e ∙ sym (bind-is _ _ _ _ (opened (k .before))), tt)
 
 enum-told : tie.Need-enum-told
 enum-told c = search needs
@@ -58,11 +60,13 @@ enum-told-2 : tie.Need-enum-told-2
 enum-told-2 c = search needs
 
 -- past the version: what follows is the walk
-walked : (c : tie.After-walk-from) → run (now (c .before .before .before .before .before .before .before .before .before .args .file)) (rootReading (c .before .before .before .before .before .before .before .before .before .args .widths) (length (now (c .before .before .before .before .before .before .before .before .before .args .file))) (c .before .before .before .before .before .before .before .before .before .args .order) (c .before .before .before .before .before .before .before .before .before .args .at))
-    ≡ run (now (c .before .before .before .before .before .before .before .before .before .args .file)) (bind (walkReading (length (now (c .before .before .before .before .before .before .before .before .before .args .file))) (c .before .before .before .before .before .d .given .0 .0)) (afterWalk (c .before .before .before .before .before .d .given .0 .0)))
+walked : (c : tie.After-walk-from) → let d = c .before .before .before .before .before in let a = d .before .before .before .before .args in
+    run (now (a .file)) (rootReading (a .widths) (length (now (a .file))) (a .order) (a .at))
+    ≡ run (now (a .file)) (bind (walkReading (length (now (a .file))) (d .d .given .0 .0)) (afterWalk (d .d .given .0 .0)))
 unfolding rootReading
 walked c =
-    bind-is _ _ _ _ (opened (c .before .before .before .before)) ∙ bind-is _ _ _ _ (ap numberOut (sym (c .before .enum-told .given .1)) ∙ c .before .before .before .check-version .ensures)
+    bind-is _ _ _ _ (opened (c .before .before .before .before))
+    ∙ bind-is _ _ _ _ (ap numberOut (sym (c .before .enum-told .given .1)) ∙ c .before .before .before .check-version .ensures)
 
 returns-3 : tie.Need-returns-3
 unfolding rootReading
