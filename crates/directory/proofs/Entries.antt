@@ -53,8 +53,8 @@ pub entry-most : (w : Widths) → Wide (w .word) → entryWidth w ≤ 20
 entry-most w h = omega (arith, wide-most (w .word) h)
 
 -- ---- whether so many fit
-pub product-most : (s n : ℕ) → s ≤ 20 → s * min n 67108865 ≤ 1342177300
-product-most s n h = mul-le-mul h (min-le-right n 67108865)
+pub product-most : (s n cap c : ℕ) → c ≡ min n cap → s ≤ 20 → s * c ≤ 20 * cap
+product-most s n cap c e h = rw e (mul-le-mul h (min-le-right n cap))
 
 -- of more than there is room for, only those that have no bytes fit
 over : (s n room : ℕ) → room < n → leb (s * n) room ≡ eqb s 0
@@ -64,15 +64,16 @@ over (suc s) n room h =
     let z : suc s ≡ 0 → ⊥ = λ e. absurd (omega arith) in
     lt-leb _ _ l ∙ sym (ne-eqb _ _ z)
 
-pub capped : (s n room : ℕ) → room ≤ 67108864 → leb (s * min n 67108865) room ≡ leb (s * n) room
-capped s n room h = go (leb n 67108865) refl
+-- and a number past the room is as good as any other
+pub capped : (s n room cap c : ℕ) → c ≡ min n cap → room < cap → leb (s * c) room ≡ leb (s * n) room
+capped s n room cap c q h = go (leb n cap) refl
   where
-    go : (b : Bool) → leb n 67108865 ≡ b → leb (s * min n 67108865) room ≡ leb (s * n) room
-    go true e = ap (λ (m : ℕ). leb (s * m) room) (min-eq-left (leb-true _ _ e))
+    go : (b : Bool) → leb n cap ≡ b → leb (s * c) room ≡ leb (s * n) room
+    go true e = ap (λ (m : ℕ). leb (s * m) room) (q ∙ min-eq-left (leb-true _ _ e))
     go false e =
-        let l : 67108865 < n = leb-false _ _ e in
-        let m : room < min n 67108865 = omega arith in
-        over s _ room m ∙ sym (over s n room (omega arith))
+        let l : cap < n = leb-false _ _ e in
+        let m : room < c = omega (arith, q) in
+        over s c room m ∙ sym (over s n room (omega arith))
 
 -- ---- the types that the rules speak of
 pub plain-long : (k : Kind) → codeOf k ≡ 16 → 4 ≡ plainOf k
