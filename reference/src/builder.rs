@@ -1,13 +1,13 @@
 //! A builder of DNG files: a plain description, every part of which can be
 //! overridden so that any single fault can be made, and its layout in bytes.
 
-use crate::bytes::ByteOrder;
-use crate::tag_test::{BYTE, IFD, LONG, RATIONAL, SHORT, SRATIONAL, UNDEFINED};
+use crate::bytes::{ByteOrder, Widths, BEHIND_64_BIT_MARK, MARKS};
+use crate::tag_test::{BYTE, IFD, IFD8, LONG, LONG8, RATIONAL, SHORT, SRATIONAL, UNDEFINED};
 
 /// An offset that is known only once the file is laid out.
 #[derive(Clone, Copy, Debug, PartialEq, Eq)]
 pub enum Place {
-    At(u32),
+    At(u64),
     Ifd(usize),
     /// A block and a distance into it.
     Block(usize, u32),
@@ -18,10 +18,12 @@ pub enum Data {
     Bytes(Vec<u8>),
     Shorts(Vec<u16>),
     Longs(Vec<u32>),
+    Long8s(Vec<u64>),
     Rationals(Vec<(u32, u32)>),
     SRationals(Vec<(i32, i32)>),
     ShortPlaces(Vec<Place>),
     LongPlaces(Vec<Place>),
+    Long8Places(Vec<Place>),
 }
 
 /// One entry of an IFD with its value.
@@ -31,9 +33,9 @@ pub struct Tag {
     pub kind: u16,
     pub data: Data,
     /// Stands in the count field in place of the data's own count.
-    pub count: Option<u32>,
-    /// Stands in the last four bytes of the entry in place of what belongs there.
-    pub field: Option<u32>,
+    pub count: Option<u64>,
+    /// Stands in the last word of the entry in place of what belongs there.
+    pub field: Option<u64>,
 }
 
 impl Tag {
@@ -57,6 +59,10 @@ impl Tag {
         Tag::new(tag, LONG, Data::Longs(values.to_vec()))
     }
 
+    pub fn long8s(tag: u16, values: &[u64]) -> Tag {
+        Tag::new(tag, LONG8, Data::Long8s(values.to_vec()))
+    }
+
     pub fn rationals(tag: u16, values: &[(u32, u32)]) -> Tag {
         Tag::new(tag, RATIONAL, Data::Rationals(values.to_vec()))
     }
@@ -74,14 +80,24 @@ impl Tag {
         self
     }
 
-    pub fn with_count(mut self, count: u32) -> Tag {
+    pub fn with_count(mut self, count: u64) -> Tag {
         self.count = Some(count);
         self
     }
 
-    pub fn with_field(mut self, field: u32) -> Tag {
+    pub fn with_field(mut self, field: u64) -> Tag {
         self.field = Some(field);
         self
+    }
+
+    /// The same values as LONG8 if they are LONG, as IFD8 if they are IFD.
+    pub fn widened(self) -> Tag {
+        let kind = match self.kind {
+            LONG => LONG8,
+            IFD => IFD8,
+            _ => return self,
+        };
+        Tag { kind, data: self.data.widened(), ..self }
     }
 }
 
@@ -91,9 +107,24 @@ impl Data {
             Data::Bytes(v) => v.len(),
             Data::Shorts(v) => v.len(),
             Data::Longs(v) => v.len(),
+            Data::Long8s(v) => v.len(),
             Data::Rationals(v) => v.len(),
             Data::SRationals(v) => v.len(),
-            Data::ShortPlaces(v) | Data::LongPlaces(v) => v.len(),
+            Data::ShortPlaces(v) | Data::LongPlaces(v) | Data::Long8Places(v) => v.len(),
+        }
+    }
+
+    /// The same whole numbers in 8 bytes each; fractions have as many already.
+    pub fn widened(self) -> Data {
+        fn wide<T: Into<u64>>(values: Vec<T>) -> Data {
+            Data::Long8s(values.into_iter().map(T::into).collect())
+        }
+        match self {
+            Data::Bytes(v) => wide(v),
+            Data::Shorts(v) => wide(v),
+            Data::Longs(v) => wide(v),
+            Data::ShortPlaces(v) | Data::LongPlaces(v) => Data::Long8Places(v),
+            of_8_bytes => of_8_bytes,
         }
     }
 
@@ -102,24 +133,28 @@ impl Data {
             Data::Bytes(_) => 1,
             Data::Shorts(_) | Data::ShortPlaces(_) => 2,
             Data::Longs(_) | Data::LongPlaces(_) => 4,
+            Data::Long8s(_) | Data::Long8Places(_) => 8,
             Data::Rationals(_) | Data::SRationals(_) => 8,
         };
         size * self.count()
     }
 
-    fn spell(&self, order: ByteOrder, find: impl Fn(Place) -> u32) -> Vec<u8> {
+    fn spell(&self, order: ByteOrder, find: impl Fn(Place) -> u64) -> Vec<u8> {
         let short = |n: u16| order.spell(n.into(), 2);
         let long = |n: u32| order.spell(n.into(), 4);
+        let places = |v: &[Place], width| v.iter().flat_map(|p| order.spell(find(*p), width)).collect();
         match self {
             Data::Bytes(v) => v.clone(),
             Data::Shorts(v) => v.iter().flat_map(|n| short(*n)).collect(),
             Data::Longs(v) => v.iter().flat_map(|n| long(*n)).collect(),
+            Data::Long8s(v) => v.iter().flat_map(|n| order.spell(*n, 8)).collect(),
             Data::Rationals(v) => v.iter().flat_map(|(n, d)| [long(*n), long(*d)].concat()).collect(),
             Data::SRationals(v) => {
                 v.iter().flat_map(|(n, d)| [long(*n as u32), long(*d as u32)].concat()).collect()
             }
-            Data::ShortPlaces(v) => v.iter().flat_map(|p| short(find(*p) as u16)).collect(),
-            Data::LongPlaces(v) => v.iter().flat_map(|p| long(find(*p))).collect(),
+            Data::ShortPlaces(v) => places(v, 2),
+            Data::LongPlaces(v) => places(v, 4),
+            Data::Long8Places(v) => places(v, 8),
         }
     }
 }
@@ -128,8 +163,8 @@ impl Data {
 pub struct Ifd {
     pub tags: Vec<Tag>,
     /// Stands in place of the number of entries.
-    pub count: Option<u16>,
-    pub next: u32,
+    pub count: Option<u64>,
+    pub next: u64,
     /// Entries stand as listed; otherwise they are sorted by tag.
     pub as_listed: bool,
 }
@@ -167,8 +202,8 @@ impl Ifd {
         tags
     }
 
-    fn byte_length(&self) -> usize {
-        2 + 12 * self.tags.len() + 4
+    fn byte_length(&self, widths: Widths) -> usize {
+        (widths.entries + widths.entry() * self.tags.len() as u64 + widths.word) as usize
     }
 }
 
@@ -216,8 +251,10 @@ pub const FIRST_IFD_TAGS: [u16; 7] = [50706, 50707, 50723, 50727, 50728, 50964, 
 #[derive(Clone, Debug, PartialEq)]
 pub struct Dng {
     pub order: ByteOrder,
-    /// Stands in place of the first four bytes.
-    pub start: Option<[u8; 4]>,
+    /// The layout.
+    pub widths: Widths,
+    /// Stands in place of as many bytes at the file's start.
+    pub start: Vec<u8>,
     pub first: Place,
     /// IFD 0 first.
     pub ifds: Vec<Ifd>,
@@ -225,7 +262,7 @@ pub struct Dng {
     pub raw: usize,
     /// Strips, as a rule one block each.
     pub blocks: Vec<Vec<u8>>,
-    /// IFDs stand before the values of more than four bytes, not after them.
+    /// IFDs stand before the values outside entries, not after them.
     pub ifds_first: bool,
     /// Idle bytes before every part of the file.
     pub gap: usize,
@@ -234,7 +271,8 @@ pub struct Dng {
 }
 
 impl Dng {
-    /// A file with IFD 0 as the raw one and its required tags.
+    /// A file in the 32-bit layout with IFD 0 as the raw one and its required
+    /// tags.
     pub fn new(order: ByteOrder, picture: &Picture) -> Dng {
         let blocks = picture.strips(order);
         let strips: Vec<Place> = (0..blocks.len()).map(|i| Place::Block(i, 0)).collect();
@@ -256,7 +294,8 @@ impl Dng {
         ]);
         Dng {
             order,
-            start: None,
+            widths: Widths::BITS_32,
+            start: Vec::new(),
             first: Place::Ifd(0),
             ifds: vec![raw],
             raw: 0,
@@ -297,6 +336,11 @@ impl Dng {
         self.with(OpcodeList::new(opcodes).tag())
     }
 
+    /// The same file in the 64-bit layout.
+    pub fn in_64_bits(self) -> Dng {
+        Dng { widths: Widths::BITS_64, ..self }
+    }
+
     /// The same file with the raw IFD at the end of a chain of `depth` SubIFDs.
     pub fn nested(mut self, depth: usize) -> Dng {
         for _ in 0..depth {
@@ -316,10 +360,10 @@ impl Dng {
         self.layout().file
     }
 
-    /// The file's bytes: header, blocks, values of more than four bytes, IFDs
-    /// (or IFDs before values).
+    /// The file's bytes: header, blocks, values outside entries, IFDs (or IFDs
+    /// before values).
     pub fn layout(&self) -> Layout {
-        let mut plan = Plan { end: 8, gap: self.gap };
+        let mut plan = Plan { end: self.widths.header as usize, gap: self.gap, widths: self.widths };
         let blocks: Vec<usize> = self.blocks.iter().map(|b| plan.take(b.len())).collect();
         let early = self.ifds_first.then(|| plan.take_ifds(&self.ifds));
         let values: Vec<Vec<usize>> = self.ifds.iter().map(|ifd| plan.take_values(ifd)).collect();
@@ -336,39 +380,45 @@ impl Dng {
     }
 
     fn write_header(&self, layout: &mut Layout) {
-        let start = self.start.unwrap_or(match self.order {
-            ByteOrder::Little => *b"II\x2A\x00",
-            ByteOrder::Big => *b"MM\x00\x2A",
-        });
-        layout.write(0, &start);
-        let first = layout.find(self.first);
-        layout.write(4, &self.order.spell(first.into(), 4));
+        let Widths { header, word, .. } = self.widths;
+        let own = (self.order, self.widths);
+        let mark = MARKS.iter().find(|(_, order, widths)| (*order, *widths) == own);
+        layout.write(0, &mark.expect("every layout has a mark in each order").0);
+        if self.widths == Widths::BITS_64 {
+            layout.write(4, &BEHIND_64_BIT_MARK.map(|n| self.order.spell(n, 2)).concat());
+        }
+        layout.write_number((header - word) as usize, self.order, layout.find(self.first), word);
+        layout.write(0, &self.start);
     }
 
     fn write_ifd(&self, layout: &mut Layout, number: usize, values: &[usize]) {
         let ifd = &self.ifds[number];
         let start = layout.ifds[number];
-        let count = ifd.count.unwrap_or(ifd.tags.len() as u16);
-        layout.write(start, &self.order.spell(count.into(), 2));
-        for (i, tag) in ifd.sorted().into_iter().enumerate() {
-            self.write_entry(layout, number, start + 2 + 12 * i, tag, values[i]);
+        let count = ifd.count.unwrap_or(ifd.tags.len() as u64);
+        let Widths { entries, word, .. } = self.widths;
+        layout.write_number(start, self.order, count, entries);
+        let mut at = start + entries as usize;
+        for (tag, value) in ifd.sorted().into_iter().zip(values) {
+            self.write_entry(layout, number, at, tag, *value);
+            at += self.widths.entry() as usize;
         }
-        let next = self.order.spell(ifd.next.into(), 4);
-        layout.write(start + 2 + 12 * ifd.tags.len(), &next);
+        layout.write_number(at, self.order, ifd.next, word);
     }
 
     fn write_entry(&self, layout: &mut Layout, ifd: usize, at: usize, tag: &Tag, value: usize) {
         let bytes = tag.data.spell(self.order, |place| layout.find(place));
-        let in_entry = bytes.len() <= 4;
-        let value = if in_entry { at + 8 } else { value };
-        let count = tag.count.unwrap_or(tag.data.count() as u32);
-        layout.write(at, &self.order.spell(tag.tag.into(), 2));
-        layout.write(at + 2, &self.order.spell(tag.kind.into(), 2));
-        layout.write(at + 4, &self.order.spell(count.into(), 4));
-        layout.write(at + 8, &if in_entry { vec![0; 4] } else { self.order.spell(value as u64, 4) });
+        let word = self.widths.word;
+        let field = at + 4 + word as usize;
+        let in_entry = bytes.len() as u64 <= word;
+        let value = if in_entry { field } else { value };
+        let count = tag.count.unwrap_or(tag.data.count() as u64);
+        layout.write_number(at, self.order, tag.tag.into(), 2);
+        layout.write_number(at + 2, self.order, tag.kind.into(), 2);
+        layout.write_number(at + 4, self.order, count, word);
+        layout.write_number(field, self.order, if in_entry { 0 } else { value as u64 }, word);
         layout.write(value, &bytes);
-        if let Some(field) = tag.field {
-            layout.write(at + 8, &self.order.spell(field.into(), 4));
+        if let Some(stated) = tag.field {
+            layout.write_number(field, self.order, stated, word);
         }
         layout.entries.push(EntryPlace { ifd, tag: tag.tag, entry: at, value, length: bytes.len() });
     }
@@ -381,6 +431,7 @@ const IDLE: u8 = 0xA5;
 struct Plan {
     end: usize,
     gap: usize,
+    widths: Widths,
 }
 
 impl Plan {
@@ -391,11 +442,12 @@ impl Plan {
     }
 
     fn take_ifds(&mut self, ifds: &[Ifd]) -> Vec<usize> {
-        ifds.iter().map(|ifd| self.take(ifd.byte_length())).collect()
+        ifds.iter().map(|ifd| self.take(ifd.byte_length(self.widths))).collect()
     }
 
     fn take_values(&mut self, ifd: &Ifd) -> Vec<usize> {
-        let mut place = |length| if length > 4 { self.take(length) } else { 0 };
+        let in_entry = self.widths.word as usize;
+        let mut place = |length| if length > in_entry { self.take(length) } else { 0 };
         ifd.sorted().iter().map(|tag| place(tag.data.byte_length())).collect()
     }
 }
@@ -425,12 +477,16 @@ impl Layout {
         *found.expect("the description holds the tag")
     }
 
-    fn find(&self, place: Place) -> u32 {
+    fn find(&self, place: Place) -> u64 {
         match place {
             Place::At(offset) => offset,
-            Place::Ifd(i) => self.ifds[i] as u32,
-            Place::Block(i, distance) => self.blocks[i] as u32 + distance,
+            Place::Ifd(i) => self.ifds[i] as u64,
+            Place::Block(i, distance) => self.blocks[i] as u64 + u64::from(distance),
         }
+    }
+
+    fn write_number(&mut self, start: usize, order: ByteOrder, number: u64, width: u64) {
+        self.write(start, &order.spell(number, width as usize));
     }
 
     fn write(&mut self, start: usize, bytes: &[u8]) {

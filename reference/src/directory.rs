@@ -1,7 +1,7 @@
 //! "The directory tree": the shape of one IFD and the walk to the raw one.
 
 use crate::answer::Answer;
-use crate::bytes::File;
+use crate::bytes::{File, Widths};
 use crate::tag_test::{fine, Tags, BYTE, IFD, LONG};
 
 /// "Type sizes 1 to 13"
@@ -11,10 +11,14 @@ const GREATEST_DEPTH: u32 = 3;
 const GREATEST_VISITS: u32 = 16;
 const CARRIED_VERSION: [u64; 4] = [1, 7, 1, 0];
 
-/// The size of one value, or nothing for an unknown type.
-pub fn type_size(kind: u16) -> Option<u64> {
-    let place = usize::from(kind).checked_sub(1)?;
-    TYPE_SIZES.get(place).copied()
+/// The size of one value, or nothing for an unknown type. "types 16, 17, 18 of
+/// 8 bytes" are known in the 64-bit layout only.
+pub fn type_size(kind: u16, widths: Widths) -> Option<u64> {
+    match kind {
+        1..=13 => Some(TYPE_SIZES[usize::from(kind) - 1]),
+        16..=18 if widths == Widths::BITS_64 => Some(8),
+        _ => None,
+    }
 }
 
 #[derive(Clone, Copy, Debug)]
@@ -36,15 +40,18 @@ impl Directory {
     /// ascending, or a value of a known type outside the file". The next
     /// offset is "present but ignored".
     pub fn read(file: &File, offset: u64) -> Result<Directory, Answer> {
-        if !file.holds(offset, 2) {
+        let widths = file.widths;
+        if !file.holds(offset, widths.entries.into()) {
             return Err(Answer::SHAPE);
         }
-        let count = file.number(offset, 2);
-        if count == 0 || !file.holds(offset, 2 + 12 * count + 4) {
+        let count = file.number(offset, widths.entries);
+        let length = u128::from(widths.entry()) * u128::from(count);
+        let around = u128::from(widths.entries + widths.word);
+        if count == 0 || !file.holds(offset, length + around) {
             return Err(Answer::SHAPE);
         }
         let entries = (0..count)
-            .map(|i| Entry::read(file, offset + 2 + 12 * i))
+            .map(|i| Entry::read(file, offset + widths.entries + widths.entry() * i))
             .collect::<Result<Vec<Entry>, Answer>>()?;
         if entries.windows(2).any(|pair| pair[0].tag >= pair[1].tag) {
             return Err(Answer::SHAPE);
@@ -58,17 +65,20 @@ impl Directory {
 }
 
 impl Entry {
-    /// "A value of at most 4 bytes stands in the entry, left-justified. An
-    /// entry of unknown type is passed over."
+    /// "A value of at most 4 bytes stands in the entry, left-justified", in the
+    /// 64-bit layout one of at most 8. "An entry of unknown type is passed
+    /// over."
     fn read(file: &File, start: u64) -> Result<Entry, Answer> {
+        let word = file.widths.word;
         let kind = file.number(start + 2, 2) as u16;
-        let count = file.number(start + 4, 4);
-        let mut place = start + 8;
-        if let Some(size) = type_size(kind) {
-            if size * count > 4 {
-                place = file.number(start + 8, 4);
+        let count = file.number(start + 4, word);
+        let mut place = start + 4 + word;
+        if let Some(size) = type_size(kind, file.widths) {
+            let length = u128::from(size) * u128::from(count);
+            if length > word.into() {
+                place = file.number(place, word);
             }
-            if !file.holds(place, size * count) {
+            if !file.holds(place, length) {
                 return Err(Answer::SHAPE);
             }
         }
@@ -85,7 +95,7 @@ pub struct Tree {
 
 /// The walk "is depth first from IFD 0 (depth 0)".
 pub fn walk(file: &File) -> Result<Tree, Answer> {
-    let offset = file.number(4, 4);
+    let offset = file.first_ifd();
     let mut visits = 0;
     let raw = visit(file, offset, 0, &mut visits)?.ok_or(Answer::TREE)?;
     let first = Directory::read(file, offset)?;

@@ -80,7 +80,7 @@ impl Levels {
 }
 
 fn in_256ths(values: &[Fraction]) -> Vec<i128> {
-    values.iter().map(|v| 256 * i128::from(v.numerator) / i128::from(v.denominator)).collect()
+    values.iter().map(|v| 256 * v.numerator / v.denominator).collect()
 }
 
 fn greatest<'a>(values: impl Iterator<Item = &'a i128>) -> i128 {

@@ -1,6 +1,7 @@
 //! An independent reference for document 01, "From stored DNG samples to
-//! developed values". The modules follow the document's sections; each rule
-//! stands once, beside the words of the document that demand it.
+//! developed values", and the 64-bit layout of document 02. The modules follow
+//! document 01's sections; each rule stands once, beside the words of the
+//! document that demand it.
 
 #![forbid(unsafe_code)]
 

@@ -113,7 +113,7 @@ fn read_strips(tags: &Tags, stored: &Stored) -> Result<Vec<u64>, Answer> {
         if byte_count.whole() != rows * stored.row_bytes() {
             return Err(Answer::wrong(279));
         }
-        if !tags.file.holds(offset.whole(), byte_count.whole()) {
+        if !tags.file.holds(offset.whole(), byte_count.whole().into()) {
             return Err(Answer::wrong(273));
         }
     }
@@ -154,7 +154,7 @@ fn read_levels(tags: &Tags, stored: &Stored, active: &ActiveArea) -> Result<Leve
 /// magnitude up to 65,535", tested as written.
 fn carried_level(v: Fraction) -> Verdict {
     let denominator = [1, 2, 4, 8, 16, 32, 64, 128, 256].contains(&v.denominator);
-    let magnitude = i128::from(v.numerator).abs() <= i128::from(GREATEST_LEVEL) * i128::from(v.denominator);
+    let magnitude = v.numerator.abs() <= i128::from(GREATEST_LEVEL) * v.denominator;
     verdict(v.denominator != 0, denominator && magnitude)
 }
 

@@ -4,7 +4,7 @@
 use std::ops::RangeInclusive;
 
 use crate::answer::Answer;
-use crate::bytes::File;
+use crate::bytes::{File, Widths};
 use crate::directory::{type_size, Directory, Entry};
 
 pub const BYTE: u16 = 1;
@@ -14,20 +14,23 @@ pub const RATIONAL: u16 = 5;
 pub const UNDEFINED: u16 = 7;
 pub const SRATIONAL: u16 = 10;
 pub const IFD: u16 = 13;
+pub const LONG8: u16 = 16;
+pub const SLONG8: u16 = 17;
+pub const IFD8: u16 = 18;
 
 /// A stored value as written; whole numbers have denominator 1.
 #[derive(Clone, Copy, Debug, PartialEq, Eq)]
 pub struct Fraction {
-    pub numerator: i64,
-    pub denominator: i64,
+    pub numerator: i128,
+    pub denominator: i128,
 }
 
 impl Fraction {
     pub fn from_whole(number: u64) -> Fraction {
-        Fraction { numerator: number as i64, denominator: 1 }
+        Fraction { numerator: number.into(), denominator: 1 }
     }
 
-    /// The value of a BYTE, SHORT, LONG or IFD.
+    /// The value of a BYTE, SHORT, LONG, IFD, LONG8 or IFD8.
     pub fn whole(self) -> u64 {
         self.numerator as u64
     }
@@ -70,7 +73,9 @@ impl<'a> Tags<'a> {
         counts: RangeInclusive<u64>,
     ) -> Result<Option<&'a Entry>, Answer> {
         match self.directory.find(tag) {
-            Some(entry) if !kinds.contains(&entry.kind) || !counts.contains(&entry.count) => {
+            Some(entry)
+                if !accepted(kinds, entry.kind, self.file.widths) || !counts.contains(&entry.count) =>
+            {
                 Err(Answer::wrong(tag))
             }
             found => Ok(found),
@@ -147,15 +152,15 @@ impl<'a> Tags<'a> {
     }
 
     fn values(&self, entry: &Entry) -> Vec<Fraction> {
-        let size = type_size(entry.kind).expect("a tag is only read with a known type");
+        let size = type_size(entry.kind, self.file.widths).expect("a tag is only read with a known type");
         (0..entry.count).map(|i| self.value(entry.kind, entry.place + i * size, size)).collect()
     }
 
     fn value(&self, kind: u16, place: u64, size: u64) -> Fraction {
         match kind {
             RATIONAL => Fraction {
-                numerator: self.file.number(place, 4) as i64,
-                denominator: self.file.number(place + 4, 4) as i64,
+                numerator: self.file.number(place, 4).into(),
+                denominator: self.file.number(place + 4, 4).into(),
             },
             SRATIONAL => Fraction {
                 numerator: signed(self.file.number(place, 4)),
@@ -166,9 +171,20 @@ impl<'a> Tags<'a> {
     }
 }
 
+/// "LONG8 is accepted wherever LONG is, IFD8 wherever IFD is, in this layout
+/// only", where their types are known.
+fn accepted(kinds: &[u16], kind: u16, widths: Widths) -> bool {
+    let counterpart = match kind {
+        LONG8 => LONG,
+        IFD8 => IFD,
+        _ => kind,
+    };
+    type_size(kind, widths).is_some() && kinds.contains(&counterpart)
+}
+
 /// A 32-bit number in two's complement.
-fn signed(number: u64) -> i64 {
-    let number = number as i64;
+fn signed(number: u64) -> i128 {
+    let number = i128::from(number);
     if number < 1 << 31 {
         number
     } else {

@@ -3,7 +3,8 @@
 mod common;
 
 use common::*;
-use reference::builder::{Area, Opcode, Tag};
+use reference::builder::{Area, Dng, Opcode, Tag};
+use reference::bytes::LAYOUTS;
 use reference::cases::{answer_line, Call};
 use reference::generate::generate;
 use reference::random::Random;
@@ -37,13 +38,13 @@ fn random_bytes() {
     for _ in 0..50_000 {
         let length = random.index(120);
         let mut file = random.bytes(length);
-        if length >= 8 && random.one_in(2) {
-            file[..8].copy_from_slice(b"MM\x00\x2A\x00\x00\x00\x08");
-        }
-        // Few entries, and small numbers, so that more tests are reached.
-        if length >= 10 && random.one_in(2) {
-            file[8] = 0;
-            file[9] %= 9;
+        let headers: [&[u8]; 2] =
+            [b"MM\x00\x2A\x00\x00\x00\x08\0", b"MM\x00\x2B\x00\x08\0\0\0\0\0\0\0\0\0\x10\0\0\0\0\0\0\0"];
+        let header = random.pick(&headers);
+        if length > header.len() && random.one_in(2) {
+            file[..header.len()].copy_from_slice(header);
+            // Few entries, and small numbers, so that more tests are reached.
+            file[header.len()] %= 9;
         }
         ask_everything(&file);
         listing(&file);
@@ -58,7 +59,7 @@ fn every_byte_of_a_file_changed() {
         Opcode::new(9, 1, vec![1, 2]),
         Opcode::per_line(11, Area::whole(2, 2, 3), &[0.5, 0.25]),
     ];
-    let file = linear(3, 3)
+    let dng = linear(3, 3)
         .with(Tag::longs(50829, &[1, 1, 3, 3]))
         .with(Tag::shorts(50712, &[1, 2, 3]))
         .with(Tag::shorts(50713, &[2, 1]))
@@ -69,13 +70,16 @@ fn every_byte_of_a_file_changed() {
         .with_opcodes(&opcodes)
         .with_first(Tag::srationals(50964, &[(1, 2); 9]))
         .with_first(Tag::rationals(50728, &[(1, 2); 3]))
-        .nested(2)
-        .file();
-    assert_eq!(card(&file).answer(), DONE);
-    for place in 0..file.len() {
-        for byte in [0, 1, 2, 7, 8, 0x7F, 0x80, 0xFE, 0xFF, file[place] ^ 1, file[place].wrapping_add(1)] {
-            ask_everything(&poked(&file, place, &[byte]));
+        .nested(2);
+    for widths in LAYOUTS {
+        let file = Dng { widths, ..dng.clone() }.file();
+        assert_eq!(card(&file).answer(), DONE);
+        for place in 0..file.len() {
+            for byte in [0, 1, 2, 7, 8, 0x7F, 0x80, 0xFE, 0xFF, file[place] ^ 1, file[place].wrapping_add(1)]
+            {
+                ask_everything(&poked(&file, place, &[byte]));
+            }
+            ask_everything(&file[..place]);
         }
-        ask_everything(&file[..place]);
     }
 }

@@ -5,20 +5,16 @@ mod common;
 
 use common::*;
 use reference::builder::{Data, Dng, Picture, Place, Tag};
-use reference::bytes::ByteOrder;
+use reference::bytes::{ByteOrder, LAYOUTS};
 use reference::card;
 use reference::tag_test::{LONG, SHORT};
 
-/// Every type but the listed ones refuses the tag. The value has eight bytes
-/// or more of room so that no type makes it lie outside the file.
+/// Every type but the listed ones refuses the tag. The value stands in front of
+/// idle bytes, so that no type makes it lie outside the file.
 fn only_types(base: &Dng, tag: u16, data: &Data, allowed: &[u16]) {
-    for kind in (0..=15).chain([65_535]).filter(|k| !allowed.contains(k)) {
-        let mut dng = base.clone().with(Tag::new(tag, kind, data.clone()));
-        dng.tail = 100_000;
-        if data.byte_length() <= 4 {
-            dng.raw_ifd().get_mut(tag).unwrap().field = Some(8);
-        }
-        refuses(&dng, 4, tag.into());
+    for kind in (0..=15).chain([17, 18, 19, 65_535]).filter(|k| !allowed.contains(k)) {
+        let dng = base.clone().with(Tag::new(tag, kind, data.clone()).with_field(8));
+        refuses(&Dng { tail: 100_000, ..dng }, 4, tag.into());
     }
 }
 
@@ -226,16 +222,20 @@ fn byte_counts_are_exact_to_the_last_strip() {
 
 #[test]
 fn strips_lie_in_the_file() {
-    let dng = Dng::new(ByteOrder::Little, &Picture { rows_per_strip: 1, ..Picture::counting(3, 2, 1, 8) });
-    let length = dng.file().len() as u32;
-    let second_at = |offset: u32| {
-        let places = vec![Place::Block(0, 0), Place::At(offset)];
-        dng.clone().with(Tag::new(273, LONG, Data::LongPlaces(places)))
-    };
-    accepts(&second_at(0));
-    accepts(&second_at(length - 3));
-    for offset in [length - 2, length, u32::MAX - 2, u32::MAX] {
-        refuses(&second_at(offset), 4, 273);
+    let picture = Picture { rows_per_strip: 1, ..Picture::counting(3, 2, 1, 8) };
+    for widths in LAYOUTS {
+        let dng = Dng { widths, ..Dng::new(ByteOrder::Little, &picture) };
+        let length = dng.file().len() as u64;
+        let second_at = |offset: u64| {
+            let places = vec![Place::Block(0, 0), Place::At(offset)];
+            dng.clone().with(Tag::new(273, LONG, Data::LongPlaces(places)))
+        };
+        answers(&second_at(0), DONE);
+        answers(&second_at(length - 3), DONE);
+        let greatest = u64::from(u32::MAX);
+        for offset in [length - 2, length, greatest - 2, greatest] {
+            answers(&second_at(offset), refusal(4, 273));
+        }
     }
 }
 

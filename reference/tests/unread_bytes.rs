@@ -6,9 +6,10 @@ mod common;
 
 use common::*;
 use reference::builder::{Area, Dng, Opcode, OpcodeList, Tag};
+use reference::bytes::LAYOUTS;
 use reference::{card, colour_window};
 
-fn answers(file: &[u8]) -> (reference::Card, Vec<u64>, Vec<u64>) {
+fn all_answers(file: &[u8]) -> (reference::Card, Vec<u64>, Vec<u64>) {
     let mut colours = vec![UNTOUCHED; 2 * 2 * 3];
     assert_eq!(colour_window(file, 0, 0, 2, 2, &mut colours), DONE);
     (card(file), bits(&frame_of(file)), bits(&colours))
@@ -37,8 +38,9 @@ fn unread(dng: &Dng, list: &OpcodeList) -> Vec<usize> {
     let layout = dng.layout();
     let mut places = Vec::new();
     for (ifd, start) in layout.ifds.iter().enumerate() {
-        let next = start + 2 + 12 * dng.ifds[ifd].tags.len();
-        places.extend(next..next + 4);
+        let entries = dng.widths.entry() as usize * dng.ifds[ifd].tags.len();
+        let next = start + dng.widths.entries as usize + entries;
+        places.extend(next..next + dng.widths.word as usize);
     }
     for (ifd, tag) in [(dng.raw, 266), (dng.raw, 305), (0, 271)] {
         let entry = layout.entry(ifd, tag);
@@ -54,26 +56,29 @@ fn unread(dng: &Dng, list: &OpcodeList) -> Vec<usize> {
         }
     }
     let length = layout.file.len();
-    places.extend([8, 9, 10].into_iter().chain(length - 5..length));
+    let header = dng.widths.header as usize;
+    places.extend((header..header + 3).chain(length - 5..length));
     places
 }
 
 #[test]
 fn bytes_that_are_not_read_change_no_answer() {
     let (dng, list) = subject();
-    let file = dng.file();
-    let before = answers(&file);
-    let places = unread(&dng, &list);
-    for place in &places {
-        for change in [1, 0x80, 0xFF] {
-            assert_eq!(answers(&poked(&file, *place, &[file[*place] ^ change])), before);
+    for dng in LAYOUTS.map(|widths| Dng { widths, ..dng.clone() }) {
+        let file = dng.file();
+        let before = all_answers(&file);
+        let places = unread(&dng, &list);
+        for place in &places {
+            for change in [1, 0x80, 0xFF] {
+                assert_eq!(all_answers(&poked(&file, *place, &[file[*place] ^ change])), before);
+            }
         }
+        let mut all = file.clone();
+        for place in places {
+            all[place] ^= 0xFF;
+        }
+        assert_eq!(all_answers(&all), before);
     }
-    let mut all = file.clone();
-    for place in places {
-        all[place] ^= 0xFF;
-    }
-    assert_eq!(answers(&all), before);
 }
 
 #[test]
@@ -81,9 +86,9 @@ fn bytes_that_are_read_can_change_an_answer() {
     let (dng, _) = subject();
     let layout = dng.layout();
     let file = &layout.file;
-    let before = answers(file);
+    let before = all_answers(file);
     let sample = layout.blocks[0] + 2 * (4 + 1) * 3;
-    assert_ne!(answers(&poked(file, sample, &[0xFF])), before);
+    assert_ne!(all_answers(&poked(file, sample, &[0xFF])), before);
     let neutral = layout.entry(0, 50728).value;
-    assert_ne!(answers(&poked(file, neutral, &[0, 2])), before);
+    assert_ne!(all_answers(&poked(file, neutral, &[0, 2])), before);
 }

@@ -20,7 +20,7 @@ use Rattle.directory.specs.Out.{Out, Out.refused, Out.is}
 use Rattle.directory.specs.Widths.{headWidth, entryWidth}
 use Rattle.directory.specs.Entry.{codeOf, plainOf, sizes, sizeOf, bytesOf, headerOf}
 use Rattle.directory.specs.Shape.{entryReading, shapeFrom}
-use Rattle.directory.specs.Tag.{findFrom, foundReading, allowsOf, valuesAt, noValues, wholeReading, valueReading, testedReading, valuesFound, valuesReading, Placed, Long, SizeIn, Numeric, Placed-values, required, optional, faultOf, judgedOf, firstReading, eachReading, InRange, NumberIn}
+use Rattle.directory.specs.Tag.{findFrom, foundReading, allowsOf, valuesAt, noValues, wholeReading, valueReading, testedReading, valuesFound, valuesOut, valuesReading, ValuesIn, Placed, Long, SizeIn, Numeric, Placed-values, required, optional, faultOf, judgedOf, firstReading, eachReading, InRange, NumberIn}
 use Rattle.directory.specs.declared.Ifd.{Ifd}
 use Rattle.directory.specs.declared.Widths.{Widths}
 use Rattle.directory.specs.declared.Number.{Number}
@@ -34,6 +34,8 @@ use Rattle.directory.specs.declared.tag.Kinds.the-variants as kinds
 use Rattle.directory.specs.declared.tag.Rule.{Rule}
 use Rattle.directory.specs.declared.tag.Range.{Range}
 use Rattle.directory.specs.declared.tag.Values.{Values}
+use Rattle.directory.specs.declared.tag.Given.{Given}
+use Rattle.directory.specs.declared.tag.Given.the-variants as given
 use Rattle.directory.proofs.Entries.{plain-is}
 use Rattle.directory.proofs.Outs.{bind-refused, bind-is, not-refused}
 use Rattle.directory.proofs.Shapes.{entry-outside, shape-refused, shape-order, shape-next}
@@ -241,6 +243,11 @@ pub values-found : (f : List ℕ) (d : Ifd) (r : Rule) (fd : Found) → fd ≡ r
     run f (valuesReading d r) ≡ run f (valuesFound (d .widths) (d .order) r fd)
 unfolding valuesReading
 values-found f d r fd e = run-then _ _ _ fd e
+
+-- a tag that was looked up: its values, and what holds of them
+pub looked-up : (f : List ℕ) (d : Ifd) (r : Rule) {g : Given} {v : Values} → g ≡ given.Is v →
+    (valuesOut g ≡ run f (valuesReading d r)) × ValuesIn (length f) r g → (is v ≡ run f (valuesReading d r)) × Placed-values (length f) r v
+looked-up f d r e q = (ap valuesOut (sym e) ∙ q .0, subst (ValuesIn (length f) r) e (q .1))
 
 pub absent-in : (size : ℕ) (r : Rule) → r .required ≡ false → Placed-values size r noValues
 absent-in size r e =

@@ -1,15 +1,17 @@
-//! Which kinds of files were accepted, so that none is compared in vain.
+//! Which kinds of files were accepted in a layout, so that none is compared in
+//! vain.
 
 use std::collections::BTreeMap;
 
 use reference::bytes::{ByteOrder, File};
 use reference::colour;
 use reference::develop::{accept, Accepted};
-use reference::directory::walk;
+use reference::directory::{walk, Tree};
 use reference::opcodes::{Action, Grid, Opcode};
+use reference::tag_test::{fine, Tags, IFD8, LONG, LONG8, SLONG8};
 
-/// Every kind that must occur.
-const KINDS: [&str; 30] = [
+/// Every kind that must occur in each layout.
+const KINDS: [&str; 33] = [
     "mosaic 8 II",
     "mosaic 8 MM",
     "mosaic 16 II",
@@ -40,6 +42,9 @@ const KINDS: [&str; 30] = [
     "some planes",
     "colour",
     "colour refused",
+    "LONG8",
+    "SLONG8",
+    "IFD8",
 ];
 
 #[derive(Default)]
@@ -95,8 +100,18 @@ fn of_tags(file: &File) -> Vec<&'static str> {
     let tree = walk(file).expect("the file was accepted");
     let tags = [(50712, "table"), (50713, "repeat"), (50715, "column deltas"), (50716, "row deltas")];
     let found = tags.into_iter().filter(|(tag, _)| tree.raw.find(*tag).is_some());
-    let below = tree.first.find(254).is_some_and(|entry| file.number(entry.place, 4) != 0);
-    found.map(|(_, kind)| kind).chain(below.then_some("raw IFD below IFD 0")).collect()
+    let first = Tags { file, directory: &tree.first };
+    let below = first.one_or(254, &[LONG], 0, fine) != Ok(0);
+    let kinds = found.map(|(_, kind)| kind).chain(below.then_some("raw IFD below IFD 0"));
+    kinds.chain(of_types(&tree)).collect()
+}
+
+/// The types of 8 bytes, of tags that are read or not.
+fn of_types(tree: &Tree) -> Vec<&'static str> {
+    let types = [(LONG8, "LONG8"), (SLONG8, "SLONG8"), (IFD8, "IFD8")];
+    let entries = tree.first.entries.iter().chain(&tree.raw.entries);
+    let found = types.into_iter().filter(|(kind, _)| entries.clone().any(|entry| entry.kind == *kind));
+    found.map(|(_, kind)| kind).collect()
 }
 
 fn of_list(accepted: &Accepted) -> Vec<&'static str> {

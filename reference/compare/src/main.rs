@@ -9,6 +9,7 @@ use compare::kinds::Kinds;
 use compare::limits;
 use compare::questions::questions;
 use compare::tally::{Stated, Tally, CARD, COLOUR_WINDOW};
+use reference::bytes::{Widths, MARKS};
 use reference::generate::generate;
 
 /// What the card must have answered before the opcode list is read, with its
@@ -63,10 +64,24 @@ fn listed<T: AsRef<str>>(words: &[T]) -> String {
     }
 }
 
-fn generated(seed: u64, count: u64) -> (Tally, Kinds) {
-    let (mut tally, mut kinds) = (Tally::default(), Kinds::default());
+/// What came of the generated files of one layout.
+#[derive(Default)]
+struct Generated {
+    tally: Tally,
+    kinds: Kinds,
+}
+
+/// Does a file begin with a mark of the 64-bit layout?
+fn in_64_bits(file: &[u8]) -> bool {
+    MARKS.iter().any(|(mark, _, widths)| *widths == Widths::BITS_64 && file.starts_with(mark))
+}
+
+/// Files without any mark are counted with those of the 32-bit layout.
+fn generated(seed: u64, count: u64) -> [Generated; 2] {
+    let mut of_layouts = <[Generated; 2]>::default();
     for index in 0..count {
         let case = generate(seed, index);
+        let Generated { tally, kinds } = &mut of_layouts[usize::from(in_64_bits(&case.file))];
         let label = format!("case {seed} {index} ({})", case.label);
         tally.files += 1;
         kinds.add(&case.file);
@@ -75,7 +90,7 @@ fn generated(seed: u64, count: u64) -> (Tally, Kinds) {
             tally.ask(&label, &case.file, call, None);
         }
     }
-    (tally, kinds)
+    of_layouts
 }
 
 fn main() -> ExitCode {
@@ -90,17 +105,22 @@ fn main() -> ExitCode {
 }
 
 fn compare(seed: u64, count: u64) -> ExitCode {
-    let (generated, kinds) = generated(seed, count);
-    report(&format!("generated, seed {seed}"), &generated);
-    println!("accepted files of each kind:");
-    kinds.print();
+    let (mut unmet, mut no_kind, mut differences) = (Vec::new(), Vec::new(), 0);
+    for (bits, Generated { tally, kinds }) in ["32 bits", "64 bits"].into_iter().zip(generated(seed, count)) {
+        report(&format!("generated, seed {seed}, {bits}"), &tally);
+        println!("accepted files of each kind, {bits}:");
+        kinds.print();
+        differences += tally.differences;
+        unmet.extend(missing(&tally).into_iter().map(|answer| format!("{answer} in {bits}")));
+        no_kind.extend(kinds.missing().into_iter().map(|kind| format!("{kind} in {bits}")));
+    }
     let mut limits = Tally::default();
     limits::check(&mut limits);
     report("limits", &limits);
-    let unmet = [missing(&generated), missing(&limits)].concat();
-    let no_kind = kinds.missing();
+    differences += limits.differences;
+    unmet.extend(missing(&limits));
     println!("answers not met: {}; kinds not met: {}", listed(&unmet), listed(&no_kind));
-    if generated.differences + limits.differences == 0 && unmet.is_empty() && no_kind.is_empty() {
+    if differences == 0 && unmet.is_empty() && no_kind.is_empty() {
         ExitCode::SUCCESS
     } else {
         ExitCode::FAILURE

@@ -26,7 +26,7 @@ pub fn cut(random: &mut Random, make: impl Fn(&mut Random) -> Vec<u8>) -> Vec<u8
     match random.index(4) {
         0 => file.truncate(random.index(file.len())),
         1 => file.truncate(file.len() - 1),
-        2 => file.truncate(random.index(10)),
+        2 => file.truncate(random.index(20)),
         _ => {
             let more = random.index(9) + 1;
             file.extend(random.bytes(more));
@@ -50,9 +50,15 @@ pub fn splice(random: &mut Random, make: impl Fn(&mut Random) -> Vec<u8>) -> Vec
 pub fn noise(random: &mut Random) -> Vec<u8> {
     let length = random.index(300);
     let mut file = random.bytes(length);
-    let header = random.pick(&[*b"II\x2A\x00\x08\x00\x00\x00", *b"MM\x00\x2A\x00\x00\x00\x08"]);
-    if length >= 8 && !random.one_in(4) {
-        file[..8].copy_from_slice(&header);
+    let headers: [&[u8]; 4] = [
+        b"II\x2A\x00\x08\x00\x00\x00",
+        b"MM\x00\x2A\x00\x00\x00\x08",
+        b"II\x2B\x00\x08\x00\x00\x00\x10\x00\x00\x00\x00\x00\x00\x00",
+        b"MM\x00\x2B\x00\x08\x00\x00\x00\x00\x00\x00\x00\x00\x00\x10",
+    ];
+    let header = random.pick(&headers);
+    if length >= header.len() && !random.one_in(4) {
+        file[..header.len()].copy_from_slice(header);
     }
     file
 }

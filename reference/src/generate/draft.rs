@@ -5,7 +5,7 @@ use crate::bytes::ByteOrder;
 use crate::random::Random;
 use crate::tag_test::{LONG, SHORT};
 
-use super::{lists, trees};
+use super::{layouts, lists, trees};
 
 /// A description that can still be edited; the opcode list is kept apart.
 #[derive(Clone, Debug)]
@@ -20,6 +20,13 @@ pub struct Draft {
 
 impl Draft {
     pub fn valid(random: &mut Random) -> Draft {
+        let mut draft = Draft::of_either_layout(random);
+        layouts::lay_out_in_either(random, &mut draft.dng);
+        draft
+    }
+
+    /// A description that both layouts can hold.
+    pub fn of_either_layout(random: &mut Random) -> Draft {
         let mut draft = Draft::plain(random);
         draft.choose_strips(random);
         draft.choose_optional_tags(random);
@@ -256,8 +263,8 @@ impl Draft {
             let length = random.index(12);
             let bytes = random.bytes(length);
             let noise = if random.one_in(3) {
-                let kind = random.pick(&[0, 14, 255, 65_535]);
-                Tag::bytes(tag, &bytes).with_kind(kind).with_count(random.any() as u32)
+                let kind = random.pick(&[0, 14, 15, 19, 255, 65_535]);
+                Tag::bytes(tag, &bytes).with_kind(kind).with_count(random.any())
             } else {
                 Tag::bytes(tag, &bytes).with_kind(random.pick(&[1, 2, 6, 7]))
             };

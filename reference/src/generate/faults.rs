@@ -1,11 +1,12 @@
 //! Single faults in a valid description, at each limit and one step off it.
 //! Not every edit is a fault: some land on the good side of their limit.
 
-use crate::builder::{Data, OpcodeList, Place, Tag};
-use crate::bytes::ByteOrder;
+use crate::builder::{Data, Dng, OpcodeList, Place, Tag};
+use crate::bytes::{ByteOrder, LAYOUTS};
 use crate::random::Random;
 
 use super::draft::Draft;
+use super::layouts::WIDE_TYPES;
 use super::lists;
 
 type Fault = fn(&mut Random, &mut Draft);
@@ -14,6 +15,7 @@ const FAULTS: &[(&str, Fault)] = &[
     ("tag absent", tag_absent),
     ("tag type", tag_type),
     ("tag type", tag_type),
+    ("wide type", wide_type),
     ("tag count", tag_count),
     ("tag count", tag_count),
     ("tag value", tag_value),
@@ -105,16 +107,30 @@ fn tag_absent(random: &mut Random, draft: &mut Draft) {
 }
 
 fn tag_type(random: &mut Random, draft: &mut Draft) {
-    let kind = random.pick(&[0, 1, 2, 3, 4, 5, 6, 7, 8, 9, 10, 11, 12, 13, 14, 65_535]);
+    let kind = random.pick(&[0, 1, 2, 3, 4, 5, 6, 7, 8, 9, 10, 11, 12, 13, 14, 15, 16, 17, 18, 19, 65_535]);
     choose_tag(random, draft).kind = kind;
+}
+
+/// The same values in 8 bytes each, whether the layout knows the type or not
+/// and the tag takes it or not.
+fn wide_type(random: &mut Random, draft: &mut Draft) {
+    let kind = random.pick(&WIDE_TYPES);
+    let tag = choose_tag(random, draft);
+    tag.data = tag.data.clone().widened();
+    tag.kind = kind;
 }
 
 fn tag_count(random: &mut Random, draft: &mut Draft) {
     let tag = choose_tag(random, draft);
-    let count = tag.data.count() as u32;
-    let counts = [0, count.saturating_sub(1), count + 1, 1, 17, 65_536, 65_537, u32::MAX];
-    tag.count = Some(random.pick(&counts));
+    let count = tag.data.count() as u64;
+    let counts = [0, count.saturating_sub(1), count + 1, 1, 17, 65_536, 65_537, LONG_MAX];
+    // Of these some are the right count, or none, but for 2^32 or 2^64 bytes.
+    let wide = [count + LONG_MAX + 1, count + (1 << 61), 1 << 61, 1 << 62, 1 << 63, u64::MAX];
+    tag.count = Some(if random.one_in(3) { random.pick(&wide) } else { random.pick(&counts) });
 }
+
+/// The greatest LONG.
+const LONG_MAX: u64 = u32::MAX as u64;
 
 /// One value changed to one of its limits or a neighbour of it.
 fn tag_value(random: &mut Random, draft: &mut Draft) {
@@ -133,14 +149,22 @@ fn tag_value(random: &mut Random, draft: &mut Draft) {
         Data::Bytes(v) => v[i] = edge as u8,
         Data::Shorts(v) => v[i] = edge as u16,
         Data::Longs(v) => v[i] = edge,
+        Data::Long8s(v) => v[i] = widened(random, edge),
         Data::Rationals(v) if random.one_in(2) => v[i].0 = random.pick(&unsigned),
         Data::Rationals(v) => v[i].1 = random.pick(&unsigned),
         Data::SRationals(v) if random.one_in(2) => {
             v[i].0 = random.pick(&signed).wrapping_mul(random.pick(&[1, -1]));
         }
         Data::SRationals(v) => v[i].1 = random.pick(&signed).wrapping_mul(random.pick(&[1, -1])),
-        Data::ShortPlaces(v) | Data::LongPlaces(v) => v[i] = Place::At(edge),
+        Data::ShortPlaces(v) | Data::LongPlaces(v) => v[i] = Place::At(edge.into()),
+        Data::Long8Places(v) => v[i] = Place::At(widened(random, edge)),
     }
+}
+
+/// A number itself, or one that is it but for 2^32 or 2^63, or the greatest.
+fn widened(random: &mut Random, number: u32) -> u64 {
+    let number = u64::from(number);
+    random.pick(&[number, number, number, number + (1 << 32), number + (1 << 63), u64::MAX])
 }
 
 fn edges(tag: u16, length: u32, width: u32) -> Vec<u32> {
@@ -170,29 +194,33 @@ fn tag_forbidden(random: &mut Random, draft: &mut Draft) {
 
 /// A value that ends at the file's end, or past it by a byte, or far away.
 fn value_place(random: &mut Random, draft: &mut Draft) {
-    let length = draft.dng().file().len() as u32;
+    let length = draft.dng().file().len() as u64;
     let tag = choose_tag(random, draft);
-    let size = tag.data.byte_length() as u32;
-    let last = length.saturating_sub(size);
-    tag.field = Some(random.pick(&[last, last + 1, length, u32::MAX, 0]));
+    let last = length.saturating_sub(tag.data.byte_length() as u64);
+    tag.field = Some(at_the_end(random, length, last));
+}
+
+/// The last place inside a file of some length, and others that are outside,
+/// two of them inside but for 2^32 or 2^64.
+fn at_the_end(random: &mut Random, length: u64, last: u64) -> u64 {
+    random.pick(&[last, last, last + 1, length, LONG_MAX, 0, last + (1 << 32), u64::MAX])
 }
 
 /// A strip that ends at the file's end, or past it by a byte, or far away.
 fn strip_place(random: &mut Random, draft: &mut Draft) {
-    let length = draft.dng().file().len() as u32;
-    let sizes = match draft.dng.raw_ifd().get(279).map(|t| t.data.clone()) {
-        Some(Data::Shorts(sizes)) => sizes.into_iter().map(u32::from).collect(),
-        Some(Data::Longs(sizes)) => sizes,
+    let length = draft.dng().file().len() as u64;
+    let sizes = match draft.dng.raw_ifd().get(279).map(|t| t.data.clone().widened()) {
+        Some(Data::Long8s(sizes)) => sizes,
         _ => Vec::new(),
     };
     let Some(tag) = draft.dng.raw_ifd().get_mut(273) else {
         return;
     };
-    if let Data::LongPlaces(places) | Data::ShortPlaces(places) = &mut tag.data {
+    if let Data::ShortPlaces(places) | Data::LongPlaces(places) | Data::Long8Places(places) = &mut tag.data {
         if !places.is_empty() && places.len() == sizes.len() {
             let i = random.index(places.len());
             let last = length.saturating_sub(sizes[i]);
-            places[i] = Place::At(random.pick(&[last, last + 1, length, u32::MAX, 0]));
+            places[i] = Place::At(at_the_end(random, length, last));
         }
     }
 }
@@ -217,35 +245,50 @@ fn entry_count(random: &mut Random, draft: &mut Draft) {
     let raw = draft.dng.raw;
     let ifd = random.pick(&[0, raw]);
     let ifd = &mut draft.dng.ifds[ifd];
-    let count = ifd.tags.len() as u16;
-    ifd.count = Some(random.pick(&[0, count - 1, count + 1, u16::MAX]));
+    let count = ifd.tags.len() as u64;
+    // Twenty times the last of them is twenty times the right one but for 2^64.
+    let wide = [count + 65_536, count + (1 << 32), u64::MAX, u64::MAX / 20 + 1, count + (1 << 62)];
+    let counts = [0, count - 1, count + 1, 65_535, random.pick(&wide)];
+    ifd.count = Some(random.pick(&counts));
 }
 
 fn header(random: &mut Random, draft: &mut Draft) {
-    let length = draft.dng().file().len() as u32;
-    let ifd = draft.dng().layout().ifds[0] as u32;
-    match random.index(3) {
+    let length = draft.dng().file().len() as u64;
+    let ifd = draft.dng().layout().ifds[0] as u64;
+    match random.index(4) {
         0 => {
             let starts = [
                 *b"II\x2A\x01",
                 *b"II\x00\x2A",
+                *b"II\x00\x2B",
                 *b"MM\x2A\x00",
-                *b"MM\x00\x2B",
+                *b"MM\x2B\x00",
+                *b"MM\x00\x2C",
                 *b"IM\x2A\x00",
                 *b"\0\0\0\0",
             ];
-            draft.dng.start = Some(random.pick(&starts));
+            draft.dng.start = random.pick(&starts).to_vec();
         }
-        1 => {
-            // The header of the other byte order.
-            let little = draft.dng.order == ByteOrder::Little;
-            draft.dng.start = Some(if little { *b"MM\x00\x2A" } else { *b"II\x2A\x00" });
+        1 => other_header(random, draft),
+        2 => {
+            // In a 64-bit file this is where 8 and 0 stand.
+            let place = 4 + random.index(4);
+            draft.dng.start = draft.dng().file()[..8].to_vec();
+            draft.dng.start[place] ^= 1 << random.index(8);
         }
         _ => {
-            let places = [0, ifd - 1, ifd + 1, length - 1, length - 2, length, u32::MAX];
+            let places = [0, ifd - 1, ifd + 1, length - 1, length - 2, length, LONG_MAX, ifd + (1 << 32)];
             draft.dng.first = Place::At(random.pick(&places));
         }
     }
+}
+
+/// The mark, or the whole header, of the other byte order or the other layout.
+fn other_header(random: &mut Random, draft: &mut Draft) {
+    let order = random.pick(&[ByteOrder::Little, ByteOrder::Big]);
+    let other = Dng { order, widths: random.pick(&LAYOUTS), ..draft.dng() };
+    let length = random.pick(&[4, other.widths.header as usize]);
+    draft.dng.start = other.file()[..length].to_vec();
 }
 
 fn version(random: &mut Random, draft: &mut Draft) {
@@ -298,7 +341,7 @@ fn list_bytes(random: &mut Random, draft: &mut Draft) {
         list.tail = random.bytes(length);
         return;
     }
-    let length = list.spell().len() as u32;
+    let length = list.spell().len() as u64;
     let tag = list.tag().with_count(random.pick(&[0, 3, 4, 5, 19, 20, length - 1, length - 4]));
     draft.list = None;
     draft.dng.raw_ifd().set(tag);

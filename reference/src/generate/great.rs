@@ -5,6 +5,8 @@ use crate::bytes::ByteOrder;
 use crate::random::Random;
 use crate::tag_test::SHORT;
 
+use super::layouts;
+
 /// Every strip is one row; all strips stand in one block of a few rows.
 pub fn great(random: &mut Random) -> Vec<u8> {
     let sides = [200, 300, 5_000, 16_383, 16_384];
@@ -27,6 +29,7 @@ pub fn great(random: &mut Random) -> Vec<u8> {
     } else {
         dng = dng.with_opcodes(&[stripes(length, width, samples)]);
     }
+    layouts::lay_out_in_either(random, &mut dng);
     dng.file()
 }
 

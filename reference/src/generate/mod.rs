@@ -5,10 +5,12 @@ mod damage;
 mod draft;
 mod faults;
 mod great;
+mod layouts;
 mod lists;
 mod questions;
 mod trees;
 
+use crate::bytes::LAYOUTS;
 use crate::cases::Call;
 use crate::random::Random;
 use draft::Draft;
@@ -32,6 +34,17 @@ pub fn generate(seed: u64, index: u64) -> Case {
 /// A valid file by itself, for tests that need one.
 pub fn generate_valid(seed: u64, index: u64) -> Vec<u8> {
     Draft::valid(&mut Random::indexed(seed, index)).dng().file()
+}
+
+/// One valid description in the 32-bit layout and in the 64-bit one.
+pub fn generate_in_both_layouts(seed: u64, index: u64) -> [Vec<u8>; 2] {
+    let random = &mut Random::indexed(seed, index);
+    let dng = Draft::of_either_layout(random).dng();
+    LAYOUTS.map(|widths| {
+        let mut dng = dng.clone();
+        layouts::lay_out(random, &mut dng, widths);
+        dng.file()
+    })
 }
 
 fn generate_file(random: &mut Random) -> (String, Vec<u8>) {

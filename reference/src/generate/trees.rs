@@ -5,6 +5,8 @@ use crate::bytes::ByteOrder;
 use crate::random::Random;
 use crate::tag_test::LONG;
 
+use super::layouts;
+
 /// Moves the raw IFD down a chain of SubIFDs, with other children beside it.
 pub fn nest(random: &mut Random, dng: &mut Dng) {
     let depth = random.pick(&[0, 0, 0, 1, 1, 2, 3]);
@@ -18,7 +20,7 @@ pub fn nest(random: &mut Random, dng: &mut Dng) {
     }
     if random.one_in(2) {
         for ifd in &mut dng.ifds {
-            ifd.next = random.any() as u32;
+            ifd.next = random.any();
         }
     }
 }
@@ -34,7 +36,7 @@ fn add_siblings(random: &mut Random, dng: &mut Dng, parent: usize) {
         dng.ifds.push(preview(random));
     }
     for _ in 0..random.index(3) {
-        children.push(Place::At(random.any() as u32));
+        children.push(Place::At(random.any()));
     }
     let mut tag = Tag::new(330, LONG, Data::LongPlaces(children));
     if random.one_in(2) {
@@ -53,27 +55,28 @@ fn preview(random: &mut Random) -> Ifd {
     ifd
 }
 
+type Arrangement = fn(&mut Random, &mut Dng);
+
 /// A small picture whose IFDs point at each other in any way at all: chains,
 /// circles, shared children, up to the limits and beyond.
 pub fn odd_tree(random: &mut Random) -> (String, Vec<u8>) {
     let mut dng = Dng::new(ByteOrder::Big, &Picture::counting(2, 2, 1, 8)).nested(1);
-    let (label, file) = match random.index(4) {
-        0 => ("chain", chain(random, &mut dng)),
-        1 => ("many visits", many_visits(random, &mut dng)),
-        2 => ("circle", circle(random, &mut dng)),
-        _ => ("web", web(random, &mut dng)),
-    };
-    (label.into(), file)
+    let kinds: [(&str, Arrangement); 4] =
+        [("chain", chain), ("many visits", many_visits), ("circle", circle), ("web", web)];
+    let (label, arrange) = random.pick(&kinds);
+    arrange(random, &mut dng);
+    layouts::lay_out_in_either(random, &mut dng);
+    (label.into(), dng.file())
 }
 
 /// The raw IFD at depth 2 to 6.
-fn chain(random: &mut Random, dng: &mut Dng) -> Vec<u8> {
+fn chain(random: &mut Random, dng: &mut Dng) {
     let more = random.index(5) + 1;
-    dng.clone().nested(more).file()
+    *dng = dng.clone().nested(more);
 }
 
 /// The raw IFD at the 10th to 24th visit.
-fn many_visits(random: &mut Random, dng: &mut Dng) -> Vec<u8> {
+fn many_visits(random: &mut Random, dng: &mut Dng) {
     let before = random.index(15) + 8;
     let raw = dng.raw;
     let leaf = dng.ifds.len();
@@ -85,22 +88,20 @@ fn many_visits(random: &mut Random, dng: &mut Dng) -> Vec<u8> {
     children.extend(vec![leaf; before - in_branch - 1]);
     children.push(raw);
     dng.first_ifd().set(Tag::sub_ifds(&children));
-    dng.file()
 }
 
 /// A child that points back at itself or an ancestor before the raw one.
-fn circle(random: &mut Random, dng: &mut Dng) -> Vec<u8> {
+fn circle(random: &mut Random, dng: &mut Dng) {
     let raw = dng.raw;
     let back = dng.ifds.len();
     let target = random.pick(&[0, back]);
     dng.ifds.push(Ifd::new(&[Tag::longs(254, &[1]), Tag::sub_ifds(&[target])]));
     let children = if random.one_in(2) { vec![back, raw] } else { vec![raw, back] };
     dng.first_ifd().set(Tag::sub_ifds(&children));
-    dng.file()
 }
 
 /// Some IFDs with random children among themselves.
-fn web(random: &mut Random, dng: &mut Dng) -> Vec<u8> {
+fn web(random: &mut Random, dng: &mut Dng) {
     for _ in 0..random.index(4) {
         dng.ifds.push(preview(random));
     }
@@ -111,5 +112,4 @@ fn web(random: &mut Random, dng: &mut Dng) -> Vec<u8> {
             dng.ifds[ifd].set(Tag::sub_ifds(&children));
         }
     }
-    dng.file()
 }

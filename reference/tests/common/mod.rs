@@ -2,7 +2,7 @@
 #![allow(dead_code)]
 
 use reference::builder::{Dng, Picture};
-use reference::bytes::ByteOrder;
+use reference::bytes::{ByteOrder, LAYOUTS};
 use reference::{card, colour_window, spot, window, Answer};
 
 pub const BOTH: [ByteOrder; 2] = [ByteOrder::Little, ByteOrder::Big];
@@ -79,14 +79,24 @@ pub fn bits(values: &[f64]) -> Vec<u64> {
     values.iter().map(|v| v.to_bits()).collect()
 }
 
+/// The file as it is described answers so.
 #[track_caller]
-pub fn accepts(dng: &Dng) {
-    assert_eq!(answer(dng), DONE);
+pub fn answers(dng: &Dng, expected: Answer) {
+    assert_eq!(answer(dng), expected, "{:?}", dng.widths);
 }
 
+/// Accepted in both layouts.
+#[track_caller]
+pub fn accepts(dng: &Dng) {
+    refuses(dng, 0, 0);
+}
+
+/// Refused in both layouts, by the same number and detail.
 #[track_caller]
 pub fn refuses(dng: &Dng, number: u32, detail: u32) {
-    assert_eq!(answer(dng), refusal(number, detail));
+    for widths in LAYOUTS {
+        answers(&Dng { widths, ..dng.clone() }, refusal(number, detail));
+    }
 }
 
 /// The file with some bytes changed.

@@ -2,11 +2,15 @@
 //! order, and what stands before and after them.
 
 use reference::builder::{Data, Dng, Opcode, Tag};
+use reference::bytes::{Widths, LAYOUTS};
 use reference::cases::Call;
 use reference::tag_test::{RATIONAL, SHORT, SRATIONAL};
 
 use super::lists::{good, whole};
-use super::{entry, every_type, framed, Answer, COLUMNS, DONE, LINEAR, MAX, MOSAIC, ORDERS, ROWS};
+use super::{
+    each_way, entry, every_type_in_layouts, framed, takes, Answer, COLUMNS, DONE, LINEAR, MAX, MOSAIC,
+    ORDERS, ROWS,
+};
 use crate::questions::{colour_window, window};
 use crate::tally::Tally;
 
@@ -47,9 +51,14 @@ fn without(mut dng: Dng, tag: u16) -> Dng {
 /// The colour window of the whole frame, with the raw IFD as IFD 0 and below
 /// it; the colour tags refuse no other call.
 fn case(tally: &mut Tally, label: &str, dng: &Dng, answer: Answer) {
+    LAYOUTS.into_iter().for_each(|widths| case_in(tally, widths, label, dng, answer));
+}
+
+/// The same in one layout.
+fn case_in(tally: &mut Tally, widths: Widths, label: &str, dng: &Dng, answer: Answer) {
     for (order, depth) in ORDERS.into_iter().flat_map(|order| [(order, 0), (order, 1)]) {
-        let file = Dng { order, ..dng.clone().nested(depth) }.file();
-        file_case(tally, &format!("{label}, {order:?}, depth {depth}"), &file, answer);
+        let file = Dng { order, widths, ..dng.clone().nested(depth) }.file();
+        file_case(tally, &format!("{label}, {order:?}, {widths:?}, depth {depth}"), &file, answer);
     }
 }
 
@@ -64,10 +73,12 @@ fn file_case(tally: &mut Tally, label: &str, file: &[u8], answer: Answer) {
 /// Not carried with any type and any count.
 fn forbidden(tally: &mut Tally) {
     case(tally, "carried colour", &coloured(LINEAR), DONE);
-    for (tag, kind) in FORBIDDEN.into_iter().flat_map(|tag| every_type().map(move |kind| (tag, kind))) {
+    for (tag, (widths, kind)) in
+        FORBIDDEN.into_iter().flat_map(|tag| every_type_in_layouts().map(move |of_type| (tag, of_type)))
+    {
         for count in [0, 1, 9] {
             let dng = coloured(LINEAR).with_first(entry(tag, kind, &vec![1; count]));
-            case(tally, &format!("{tag} type {kind}, {count} values"), &dng, (8, tag.into()));
+            case_in(tally, widths, &format!("{tag} type {kind}, {count} values"), &dng, (8, tag.into()));
         }
     }
 }
@@ -77,10 +88,10 @@ fn types_and_counts(tally: &mut Tally) {
     for (tag, kinds, count) in [(MATRIX, &[SRATIONAL][..], 9), (NEUTRAL, &[SHORT, RATIONAL], 3)] {
         let wrong = (4, tag.into());
         case(tally, &format!("{tag} absent"), &without(coloured(LINEAR), tag), (5, tag.into()));
-        for kind in every_type() {
-            let answer = if kinds.contains(&kind) { DONE } else { wrong };
+        for (widths, kind) in every_type_in_layouts() {
+            let answer = if takes(widths, kinds, kind) { DONE } else { wrong };
             let dng = coloured(LINEAR).with_first(entry(tag, kind, &vec![1; count]));
-            case(tally, &format!("{tag} type {kind}"), &dng, answer);
+            case_in(tally, widths, &format!("{tag} type {kind}"), &dng, answer);
         }
         for (kind, count) in
             kinds.iter().flat_map(|kind| [0, 1, count - 1, count + 1, 2 * count].map(|c| (kind, c)))
@@ -114,14 +125,19 @@ fn fractions(tally: &mut Tally) {
     }
 }
 
+/// A LinearRaw in a child of IFD 0, in each layout.
+fn below() -> [Dng; 2] {
+    LAYOUTS.map(|widths| Dng { widths, ..coloured(LINEAR).nested(1) })
+}
+
 /// Only IFD 0 has colour tags; the raw IFD's are not read.
 fn where_the_tags_stand(tally: &mut Tally) {
-    for tag in FORBIDDEN {
-        let file = coloured(LINEAR).nested(1).with(entry(tag, SHORT, &[1])).file();
-        file_case(tally, &format!("{tag} of the raw IFD"), &file, DONE);
+    for (tag, dng) in FORBIDDEN.into_iter().flat_map(|tag| below().map(move |dng| (tag, dng))) {
+        let dng = dng.with(entry(tag, SHORT, &[1]));
+        file_case(tally, &format!("{tag} of the raw IFD"), &dng.file(), DONE);
     }
-    for tag in [MATRIX, NEUTRAL] {
-        let dng = coloured(LINEAR).nested(1).with(entry(tag, 14, &[1]));
+    for (tag, dng) in [MATRIX, NEUTRAL].into_iter().flat_map(|tag| below().map(move |dng| (tag, dng))) {
+        let dng = dng.with(entry(tag, 14, &[1]));
         file_case(tally, &format!("{tag} of the raw IFD"), &dng.file(), DONE);
         let moved = dng.ifds[0].get(tag).cloned().expect("IFD 0 has it");
         let dng = without(dng, tag).with(moved);
@@ -178,16 +194,18 @@ fn before_and_after(tally: &mut Tally) {
         ([0, 0, ROWS as u64 + 1, 1], 3),
         ([u64::MAX; 4], 3),
     ];
-    for ((dng, answer), order) in rows.iter().flat_map(|row| ORDERS.map(|order| (row, order))) {
+    for (dng, answer) in rows.iter().flat_map(|(dng, answer)| each_way(dng).map(move |dng| (dng, answer))) {
         tally.files += 1;
-        let file = Dng { order, ..dng.clone() }.file();
+        let file = dng.file();
         for (i, (rectangle, slice)) in calls.into_iter().enumerate() {
             let label = format!("colour, call {i} of a file that answers {answer:?}");
             tally.ask(&label, &file, &colour_window(rectangle, slice), Some(*answer));
         }
     }
-    let file = coloured(LINEAR).file();
-    for ((rectangle, slice), number) in calls.into_iter().zip([0, 14, 14, 13, 13, 13]) {
-        tally.ask("colour, 13 and 14", &file, &colour_window(rectangle, slice), Some((number, 0)));
+    for dng in each_way(&coloured(LINEAR)) {
+        let file = dng.file();
+        for ((rectangle, slice), number) in calls.into_iter().zip([0, 14, 14, 13, 13, 13]) {
+            tally.ask("colour, 13 and 14", &file, &colour_window(rectangle, slice), Some((number, 0)));
+        }
     }
 }

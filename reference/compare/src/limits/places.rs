@@ -1,11 +1,11 @@
 //! 13 and 14: windows, colour windows and spots at every edge of the active
 //! area, and as far away as 64 bits reach.
 
-use reference::builder::{Dng, Opcode, Tag};
+use reference::builder::{Opcode, Tag};
 use reference::cases::Call;
 
 use super::lists::{good, whole};
-use super::{framed, LINEAR, MOSAIC, ORDERS};
+use super::{each_way, framed, LINEAR, MOSAIC};
 use crate::questions::{colour_window, window};
 use crate::tally::Tally;
 
@@ -64,10 +64,10 @@ pub fn check(tally: &mut Tally) {
             .with_opcodes(&list)
             .with_first(Tag::srationals(50964, &[(1, 3); 9]))
             .with_first(Tag::rationals(50728, &[(1, 2); 3]));
-        for order in ORDERS {
+        for dng in each_way(&dng) {
             tally.files += 1;
-            let file = Dng { order, ..dng.clone() }.file();
-            let label = format!("places, base {base}, {order:?}");
+            let file = dng.file();
+            let label = format!("places, base {base}, {:?}, {:?}", dng.order, dng.widths);
             let mut ask = |call, number| {
                 tally.ask(&label, &file, &call, Some((number, 0)));
             };

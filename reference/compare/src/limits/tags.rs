@@ -1,20 +1,23 @@
 //! The tags of document 01: types, counts, values, and the order of test.
 
 use reference::builder::{Data, Dng, Picture, Tag};
-use reference::bytes::ByteOrder;
-use reference::tag_test::{BYTE, LONG, RATIONAL, SHORT, SRATIONAL, UNDEFINED};
+use reference::bytes::{ByteOrder, Widths};
+use reference::tag_test::{BYTE, LONG, LONG8, RATIONAL, SHORT, SLONG8, SRATIONAL, UNDEFINED};
 
-use super::{answer, at_depths, both, entry, every_type, plain, DONE, LINEAR, MAX, MOSAIC, SHAPE};
+use super::{
+    answer, at_depths, both, entry, every_type_in_layouts, everywhere, in_orders, plain, takes, Answer, DONE,
+    LINEAR, MAX, MOSAIC, SHAPE,
+};
 use crate::tally::Tally;
 
 const WHOLE: &[u16] = &[SHORT, LONG];
 
 /// A tag, its types, carried values in each base file, and the number that
 /// answers its absence there.
-type Rule = (u16, &'static [u16], [&'static [u32]; 2], [u32; 2]);
+pub type Rule = (u16, &'static [u16], [&'static [u32]; 2], [u32; 2]);
 
 /// In order of test.
-const RULES: [Rule; 24] = [
+pub const RULES: [Rule; 24] = [
     (50706, &[BYTE], [&[1, 7, 1, 0]; 2], [5; 2]),
     (50707, &[BYTE], [&[1, 7, 1, 0]; 2], [0; 2]),
     (254, &[LONG], [&[0]; 2], [0; 2]),
@@ -128,48 +131,66 @@ pub fn check(tally: &mut Tally) {
 }
 
 /// A base file with every tag.
-fn full(base: usize) -> Dng {
+pub fn full(base: usize) -> Dng {
     RULES.iter().fold(plain(base), |dng, rule| dng.with(entry(rule.0, rule.1[0], rule.2[base])))
 }
 
-/// Every type of every tag, its count one less and one more, and its absence.
+/// Wherever the layout knows the type.
+fn where_known(tally: &mut Tally, label: &str, dng: &Dng, kind: u16, answer: Answer) {
+    if kind == LONG8 {
+        at_depths(tally, label, &dng.clone().in_64_bits(), answer);
+    } else {
+        everywhere(tally, label, dng, answer);
+    }
+}
+
+/// Every type of every tag in each layout, its count one less and one more,
+/// and its absence.
 fn types_and_counts(tally: &mut Tally) {
     for (i, base) in (0..RULES.len()).flat_map(|i| [(i, MOSAIC), (i, LINEAR)]) {
         let (tag, kinds, values, absent) = RULES[i];
         let values = values[base];
-        let mut case = |label: &str, dng: Dng, number| {
-            at_depths(tally, &format!("{tag} {label}, base {base}"), &dng, answer(number, tag));
-        };
-        case("absent", full(base).without(tag), absent[base]);
-        for kind in every_type() {
-            let number = if kinds.contains(&kind) { 0 } else { 4 };
-            case(&format!("type {kind}"), full(base).with(entry(tag, kind, values)), number);
-        }
+        everywhere(tally, &format!("{tag} absent"), &full(base).without(tag), answer(absent[base], tag));
         let one_more = match tag {
             50712 => 0,
             51009 => 10,
             _ => 4,
         };
-        for kind in kinds {
-            let longer = [values, &values[..1]].concat();
-            for (values, number) in [(&[][..], 4), (&values[1..], 4), (&longer, one_more)] {
-                let label = format!("type {kind}, {} values", values.len());
-                case(&label, full(base).with(entry(tag, *kind, values)), number);
+        let longer = [values, &values[..1]].concat();
+        for (widths, kind) in every_type_in_layouts() {
+            let mut case = |values: &[u32], number| {
+                let label = format!("{tag} type {kind}, {} values, base {base}", values.len());
+                let dng = Dng { widths, ..full(base).with(entry(tag, kind, values)) };
+                at_depths(tally, &label, &dng, answer(number, tag));
+            };
+            if takes(widths, kinds, kind) {
+                case(values, 0);
+                case(&[], 4);
+                case(&values[1..], 4);
+                case(&longer, one_more);
+            } else {
+                case(values, 4);
             }
         }
     }
-    for (tag, kind) in FORBIDDEN.into_iter().flat_map(|tag| every_type().map(move |kind| (tag, kind))) {
+    for (tag, (widths, kind)) in
+        FORBIDDEN.into_iter().flat_map(|tag| every_type_in_layouts().map(move |of_type| (tag, of_type)))
+    {
         for count in [0, 1, 4] {
-            let dng = full(MOSAIC).with(entry(tag, kind, &vec![0; count]));
+            let dng = Dng { widths, ..full(MOSAIC).with(entry(tag, kind, &vec![0; count])) };
             at_depths(tally, &format!("{tag} type {kind}, {count} values"), &dng, (8, tag.into()));
         }
     }
 }
 
+/// A LONG counts as a LONG8 too.
 fn values(tally: &mut Tally) {
     let mut case = |base, tag, kind, values: &[u32], number| {
-        let dng = plain(base).with(entry(tag, kind, values));
-        at_depths(tally, &format!("{tag} = {values:?}, type {kind}, base {base}"), &dng, answer(number, tag));
+        for kind in if kind == LONG { vec![LONG, LONG8] } else { vec![kind] } {
+            let dng = plain(base).with(entry(tag, kind, values));
+            let label = format!("{tag} = {values:?}, type {kind}, base {base}");
+            where_known(tally, &label, &dng, kind, answer(number, tag));
+        }
     };
     for (tags, kind, lists) in SINGLE {
         for (values, number) in lists.iter().zip([0, 4, 8]) {
@@ -207,9 +228,11 @@ fn sides(tally: &mut Tally) {
         let dng = dng.with(Tag::longs(279, &vec![byte_count; count]));
         both(tally, &format!("greatest frame, strips of {byte_count} bytes"), &dng, answer);
     }
-    for (count, answer) in [(1, DONE), (65_535, DONE), (65_536, DONE), (65_537, (4, 50712))] {
-        let dng = plain(MOSAIC).with(Tag::shorts(50712, &vec![0; count]));
-        both(tally, &format!("table of {count}"), &dng, answer);
+    for (count, answer) in
+        (1..=6).map(|count| (count, DONE)).chain([(65_535, DONE), (65_536, DONE), (65_537, (4, 50712))])
+    {
+        let entries: Vec<u16> = (0..count).map(|i| (41 * i % 251) as u16).collect();
+        both(tally, &format!("table of {count}"), &plain(MOSAIC).with(Tag::shorts(50712, &entries)), answer);
     }
 }
 
@@ -217,15 +240,18 @@ fn sides(tally: &mut Tally) {
 /// of its byte count and of the file's end.
 fn strips(tally: &mut Tally) {
     let picture = Picture { rows_per_strip: 2, ..Picture::counting(3, 5, 1, 8) };
-    for depth in [0, 1] {
-        let dng = Dng::new(ByteOrder::Little, &picture).nested(depth);
-        let end = dng.file().len() as u32;
-        let mut case = |places: [u32; 3], byte_counts: [u32; 3], number, tag| {
-            let dng = dng.clone().with(Tag::longs(273, &places)).with(Tag::longs(279, &byte_counts));
-            let label = format!("strips at {places:?} of {byte_counts:?} bytes, end {end}");
-            both(tally, &label, &dng, answer(number, tag));
-        };
+    let of_layouts = [(Widths::BITS_32, LONG), (Widths::BITS_64, LONG), (Widths::BITS_64, LONG8)];
+    for (depth, (widths, kind)) in [0, 1].into_iter().flat_map(|depth| of_layouts.map(|of| (depth, of))) {
+        let dng = Dng { widths, ..Dng::new(ByteOrder::Little, &picture).nested(depth) };
         let (places, byte_counts) = ([8, 14, 20], [6, 6, 3]);
+        let of = |places: &[u32], byte_counts: &[u32]| {
+            dng.clone().with(entry(273, kind, places)).with(entry(279, kind, byte_counts))
+        };
+        let end = of(&places, &byte_counts).file().len() as u32;
+        let mut case = |places: [u32; 3], byte_counts: [u32; 3], number, tag| {
+            let label = format!("strips at {places:?} of {byte_counts:?} bytes, end {end}, type {kind}");
+            in_orders(tally, &label, &of(&places, &byte_counts), answer(number, tag));
+        };
         for (strip, length) in byte_counts.into_iter().enumerate() {
             let (mut moved, mut counted) = (places, byte_counts);
             for place in [0, 1, end - length] {
@@ -253,14 +279,15 @@ fn counts_of_levels(tally: &mut Tally) {
     let mut case = |dng: &Dng, tag, kind, count: usize| {
         for (count, number) in [(count - 1, 4), (count, 0), (count + 1, 4)] {
             let dng = dng.clone().with(entry(tag, kind, &vec![3; count]));
-            at_depths(tally, &format!("{count} values of {tag}, type {kind}"), &dng, answer(number, tag));
+            let label = format!("{count} values of {tag}, type {kind}");
+            where_known(tally, &label, &dng, kind, answer(number, tag));
         }
     };
     for (base, repeat, count) in
         [(MOSAIC, [2, 3], 6), (MOSAIC, [8, 8], 64), (LINEAR, [2, 1], 6), (LINEAR, [8, 8], 192)]
     {
         let dng = plain(base).with(Tag::shorts(50713, &repeat));
-        [SHORT, LONG, RATIONAL].into_iter().for_each(|kind| case(&dng, 50714, kind, count));
+        [SHORT, LONG, LONG8, RATIONAL].into_iter().for_each(|kind| case(&dng, 50714, kind, count));
     }
     for (area, rows, columns) in [([0, 0, 2, 3], 2, 3), ([1, 0, 2, 2], 1, 2), ([0, 2, 1, 3], 1, 1)] {
         let dng = plain(LINEAR).with(Tag::longs(50829, &area));
@@ -274,10 +301,10 @@ fn counts_of_strips(tally: &mut Tally) {
     for (rows, count) in [(1, 5), (2, 3), (3, 2), (4, 2), (5, 1), (6, 1), (MAX, 1)] {
         let picture = Picture { rows_per_strip: rows, ..Picture::counting(3, 5, 1, 8) };
         let dng = Dng::new(ByteOrder::Little, &picture);
-        at_depths(tally, &format!("{rows} rows per strip"), &dng, DONE);
+        everywhere(tally, &format!("{rows} rows per strip"), &dng, DONE);
         for (tag, count) in [273, 279].into_iter().flat_map(|tag| [(tag, count - 1), (tag, count + 1)]) {
             let dng = dng.clone().with(Tag::longs(tag, &vec![3; count]));
-            at_depths(tally, &format!("{rows} rows per strip, {count} of {tag}"), &dng, (4, tag.into()));
+            everywhere(tally, &format!("{rows} rows per strip, {count} of {tag}"), &dng, (4, tag.into()));
         }
     }
 }
@@ -308,7 +335,7 @@ fn fractions(tally: &mut Tally) {
             values[0] = (first.0 as u32, first.1 as u32);
             values[count - 1] = (last.0 as u32, last.1 as u32);
             let dng = base.clone().with(Tag::new(tag, kind, Data::Rationals(values)));
-            at_depths(tally, &format!("{tag} = {first:?} .. {last:?}"), &dng, answer(number, tag));
+            everywhere(tally, &format!("{tag} = {first:?} .. {last:?}"), &dng, answer(number, tag));
         };
         let least = if kind == RATIONAL { 0 } else { i64::from(i32::MIN) };
         let stored = least..least + (1 << 32);
@@ -339,7 +366,7 @@ fn levels(tally: &mut Tally) {
             .with(Tag::srationals(50716, &rows));
         for (black, number) in [(black - 1, 0), (black, 9), (black + 1, 9)] {
             let dng = dng.clone().with(Tag::rationals(50714, &[(black as u32, 256)]));
-            at_depths(tally, &format!("white {white}, {black} {columns:?} {rows:?}"), &dng, (number, 0));
+            everywhere(tally, &format!("white {white}, {black} {columns:?} {rows:?}"), &dng, (number, 0));
         }
     }
 }
@@ -364,26 +391,32 @@ fn cells(tally: &mut Tally) {
     }
 }
 
-/// Of two faults the first in order of test answers.
+/// Of two faults the first in order of test answers. The one type is unknown
+/// in both layouts, the other in 32 bits, and no tag takes it in 64.
 fn order_of_tests(tally: &mut Tally) {
     let tags = RULES.map(|rule| rule.0);
     let tags = [&tags[..tags.len() - 1], &FORBIDDEN, &[51009]].concat();
-    for (i, tag) in tags.iter().enumerate() {
-        let dng = full(MOSAIC).with(entry(*tag, 14, &[1]));
-        let answer = answer(if FORBIDDEN.contains(tag) { 8 } else { 4 }, *tag);
+    for (i, kind) in (0..tags.len()).flat_map(|i| [(i, 14), (i, SLONG8)]) {
+        let tag = tags[i];
+        let dng = full(MOSAIC).with(entry(tag, kind, &[1]));
+        let answer = answer(if FORBIDDEN.contains(&tag) { 8 } else { 4 }, tag);
         for later in &tags[i + 1..] {
-            let dng = dng.clone().with(entry(*later, 14, &[1]));
-            at_depths(tally, &format!("{tag} before {later}"), &dng, answer);
+            let dng = dng.clone().with(entry(*later, kind, &[1]));
+            everywhere(tally, &format!("{tag} before {later}"), &dng, answer);
         }
         let dng = dng.with(Tag::shorts(50714, &[255]));
-        if *tag != 50714 {
-            at_depths(tally, &format!("{tag} before refusal 9"), &dng, answer);
+        if tag != 50714 {
+            everywhere(tally, &format!("{tag} before refusal 9"), &dng, answer);
         }
     }
+    order_around_the_tags(tally);
+}
+
+fn order_around_the_tags(tally: &mut Tally) {
     let black = full(MOSAIC).with(Tag::shorts(50714, &[255])).without(50717);
     let list = Tag::undefined(51009, &[255; 4]);
-    at_depths(tally, "9 before the list, white by default", &black.with(list.clone()), (9, 0));
-    at_depths(tally, "the list last", &full(MOSAIC).with(list), (11, 32));
+    everywhere(tally, "9 before the list, white by default", &black.with(list.clone()), (9, 0));
+    everywhere(tally, "the list last", &full(MOSAIC).with(list), (11, 32));
     let version = |bytes: [u8; 4]| full(MOSAIC).with(Tag::bytes(50707, &bytes));
     both(tally, "50707 decides", &version([1, 4, 0, 0]).with(Tag::bytes(50706, &[255; 4])), DONE);
     both(tally, "50706 before 50707", &version([2, 0, 0, 0]).without(50706), (5, 50706));

@@ -5,7 +5,7 @@ use Rattle.reading.specs.Reading.{run}
 use Rattle.directory.specs.Out.{numberOut, Out.is}
 use Rattle.directory.specs.Tag.{valuesOut, ValuesIn, Placed-values, valuesReading, allReading}
 use Rattle.directory.proofs.Outs.{bind-refused, bind-is}
-use Rattle.directory.proofs.Tags.{wide}
+use Rattle.directory.proofs.Tags.{looked-up, wide}
 use Rattle.reading.proofs.Reading.{run-answer}
 use borrow.Author.Needs.{needs}
 use Rattle.directory.proofs.tag.all.Statement.{statement}
@@ -25,21 +25,14 @@ enum-known-v : tie.Need-enum-known-v
 enum-known-v c = search needs
 
 -- the tag's values, and what holds of them
-given : (c : tie.After-known-told2) → let a = c .before .before .before .before .before .args in
-    is (c .before .v .given .0 .0) ≡ run (now (a .file)) (valuesReading (a .ifd) (a .rule))
-given c = ap valuesOut (sym (c .before .v .given .1)) ∙ c .before .before .before .look-up .ensures .0
-
-placed : (c : tie.After-known-told2) → let a = c .before .before .before .before .before .args in
-    Placed-values (length (now (a .file))) (a .rule) (c .before .v .given .0 .0)
-placed c =
-    let k = c .before .before .before in
-    let a = k .before .before .args in
-    subst (ValuesIn (length (now (a .file))) (a .rule)) (c .before .v .given .1) (k .look-up .ensures .1)
+given : (c : tie.After-known-told2) → let v = c .before .v .given .0 .0 in let a = c .before .before .before .before .before .args in
+    (is v ≡ run (now (a .file)) (valuesReading (a .ifd) (a .rule))) × Placed-values (length (now (a .file))) (a .rule) v
+given c = looked-up _ _ _ (c .before .v .given .1) (c .before .before .before .look-up .ensures)
 
 each-requires : tie.Need-each-requires
 each-requires c κs =
     let a = c .before .before .before .before .before in
-    (placed c .inside, λ h. wide (a .args .rule .kinds) (a .pre .1) _ (placed c .sized h))
+    (given c .1 .inside, λ h. wide (a .args .rule .kinds) (a .pre .1) _ (given c .1 .sized h))
 
 enum-known-number-2 : tie.Need-enum-known-number-2
 enum-known-number-2 c = search needs
@@ -51,14 +44,14 @@ returns-2 : tie.Need-returns-2
 unfolding allReading
 returns-2 c =
     let e = ap numberOut (sym (c .before .number2 .given .1)) ∙ c .before .before .before .each .ensures in
-    (bind-refused _ _ _ _ _ e ∙ sym (bind-is _ _ _ _ (given (c .before .before .before .before))), tt)
+    (bind-refused _ _ _ _ _ e ∙ sym (bind-is _ _ _ _ (given (c .before .before .before .before) .0)), tt)
 
 returns-3 : tie.Need-returns-3
 unfolding allReading
 returns-3 c =
     let e = ap numberOut (sym (c .enum-told .given .1)) ∙ c .before .before .each .ensures in
     let g = c .before .before .before in
-    (sym (bind-is _ _ _ _ (given g) ∙ bind-is _ _ _ _ e ∙ run-answer _ _), placed g)
+    (sym (bind-is _ _ _ _ (given g .0) ∙ bind-is _ _ _ _ e ∙ run-answer _ _), given g .1)
 
 pub all-spec : {M : Type 1} → statement M
 all-spec = tie.close (tie.spec look-up-requires enum-known-number returns enum-known-v each-requires enum-known-number-2 enum-told returns-2 returns-3)

@@ -8,7 +8,7 @@ use Rattle.directory.specs.Out.{Out.is}
 use Rattle.directory.specs.Tag.{valuesOut, ValuesIn, Placed-values, valuesReading, oneReading}
 use Rattle.directory.proofs.Outs.{bind-refused, bind-is}
 use Rattle.directory.proofs.Entries.{room}
-use Rattle.directory.proofs.Tags.{wide, first-default, first-is}
+use Rattle.directory.proofs.Tags.{looked-up, wide, first-default, first-is}
 use borrow.Author.Needs.{needs}
 use Rattle.directory.proofs.tag.one.Statement.{statement}
 use Rattle.directory.proofs.tag.one.Tie as tie
@@ -27,16 +27,9 @@ enum-known-v : tie.Need-enum-known-v
 enum-known-v c = search needs
 
 -- the tag's values, and what holds of them
-given : (c : tie.After-known-told2) → let a = c .before .before .before .before .before .args in
-    is (c .before .v .given .0 .0) ≡ run (now (a .file)) (valuesReading (a .ifd) (a .rule))
-given c = ap valuesOut (sym (c .before .v .given .1)) ∙ c .before .before .before .look-up .ensures .0
-
-placed : (c : tie.After-known-told2) → let a = c .before .before .before .before .before .args in
-    Placed-values (length (now (a .file))) (a .rule) (c .before .v .given .0 .0)
-placed c =
-    let k = c .before .before .before in
-    let a = k .before .before .args in
-    subst (ValuesIn (length (now (a .file))) (a .rule)) (c .before .v .given .1) (k .look-up .ensures .1)
+given : (c : tie.After-known-told2) → let v = c .before .v .given .0 .0 in let a = c .before .before .before .before .before .args in
+    (is v ≡ run (now (a .file)) (valuesReading (a .ifd) (a .rule))) × Placed-values (length (now (a .file))) (a .rule) v
+given c = looked-up _ _ _ (c .before .v .given .1) (c .before .before .before .look-up .ensures)
 
 judged-requires : tie.Need-judged-requires
 judged-requires c κs = search needs
@@ -45,14 +38,14 @@ returns-2 : tie.Need-returns-2
 unfolding oneReading
 returns-2 c =
     let g = c .before .before in
-    (c .judged .ensures .0 ∙ first-default _ _ _ _ _ _ (c .before .if1 .taken) ∙ sym (bind-is _ _ _ _ (given g)), c .judged .ensures .1)
+    (c .judged .ensures .0 ∙ first-default _ _ _ _ _ _ (c .before .if1 .taken) ∙ sym (bind-is _ _ _ _ (given g .0)), c .judged .ensures .1)
 
 value-requires : tie.Need-value-requires
 value-requires c κs =
     let a = c .before .before .before .before .before .before in
     let v = c .before .before .v .given .0 .0 in
     let s : 0 < v .count = omega arith in
-    let q = placed (c .before) in
+    let q = given (c .before) .1 in
     (room (v .place) (v .size) (v .count) (v .count - 1) _ (omega arith) (q .inside) .0, wide (a .args .rule .kinds) (a .pre .1) _ (q .sized s))
 
 judged-requires-2 : tie.Need-judged-requires-2
@@ -62,7 +55,7 @@ returns-3 : tie.Need-returns-3
 unfolding oneReading
 returns-3 c =
     let g = c .before .before .before in (
-      c .judged2 .ensures .0 ∙ first-is _ _ _ _ _ _ (c .before .before .if1 .left) _ (c .before .value .ensures) ∙ sym (bind-is _ _ _ _ (given g)),
+      c .judged2 .ensures .0 ∙ first-is _ _ _ _ _ _ (c .before .before .if1 .left) _ (c .before .value .ensures) ∙ sym (bind-is _ _ _ _ (given g .0)),
       c .judged2 .ensures .1,
     )
 
