@@ -1,4 +1,4 @@
-/* The developed values of uncompressed DNG files: the calls of document 01. */
+/* The developed values of uncompressed DNG files, of the 32-bit or the 64-bit layout: the calls of document 01. */
 #ifndef DNG_H
 #define DNG_H
 
