@@ -1,11 +1,11 @@
-use mathlib.Core.Path.{_≡_, sym, ap, subst, _∙_}
+use mathlib.Core.Path.{_≡_, sym, ap, _∙_}
 use Prim.Native.Nat.{_-_, _<_}
 use native.Mathlib.Omega.{arith}
 use denote.Ref.{now}
 use lib.ListN.{length}
 use Rattle.reading.specs.Reading.{run}
 use Rattle.directory.specs.Out.{Out.is}
-use Rattle.directory.specs.Tag.{valuesOut, ValuesIn, Placed-values, valuesReading, oneReading}
+use Rattle.directory.specs.Tag.{valuesOut, Placed-values, valuesReading, oneReading}
 use Rattle.directory.proofs.Outs.{bind-refused, bind-is}
 use Rattle.directory.proofs.Entries.{room}
 use Rattle.directory.proofs.Tags.{looked-up, wide, first-default, first-is}
