@@ -6,3 +6,4 @@ pub mod kinds;
 pub mod limits;
 pub mod questions;
 pub mod tally;
+pub mod times;

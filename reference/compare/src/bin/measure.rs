@@ -2,9 +2,9 @@
 //! timed in the same run. Run by hand, in a release build.
 
 use std::hint::black_box;
-use std::time::Instant;
 
 use compare::core;
+use compare::times::{print_ratio, Times};
 use reference::builder::{Area, Data, Dng, Opcode, Picture, Place, Tag};
 use reference::bytes::ByteOrder;
 use reference::random::Random;
@@ -131,33 +131,6 @@ fn levels(stored: &[u8], deltas: Option<&[f32]>, out: &mut [f64]) {
 fn whole_window(file: &[u8], out: &mut [f64]) {
     let answer = core::window(black_box(file), 0, 0, ROWS as u64, COLUMNS as u64, out);
     assert_eq!(answer, Answer::DONE);
-}
-
-/// The seconds of the repetitions of one measurement.
-#[derive(Default)]
-struct Times(Vec<f64>);
-
-impl Times {
-    fn run(&mut self, work: impl FnOnce()) {
-        let start = Instant::now();
-        work();
-        self.0.push(start.elapsed().as_secs_f64());
-    }
-
-    fn best(&self) -> f64 {
-        self.0.iter().copied().fold(f64::INFINITY, f64::min)
-    }
-
-    fn median(&self) -> f64 {
-        let mut times = self.0.clone();
-        times.sort_by(f64::total_cmp);
-        times[times.len() / 2]
-    }
-}
-
-fn print_ratio(name: &str, times: &Times, base: &Times, of: &str) {
-    let (best, median) = (times.best() / base.best(), times.median() / base.median());
-    println!("{name:<52}{:8.1} ms  best {best:5.2}, median {median:5.2} of {of}", 1e3 * times.best());
 }
 
 /// Spots and small windows all over a frame of so many rows, in microseconds.
