@@ -141,12 +141,12 @@ start-is f m h e = rw (four f h) (go m e)
     go (a ∷ b ∷ c ∷ d ∷ []) q = refl
     go (a ∷ b ∷ c ∷ d ∷ x ∷ l) q = absurd (omega arith)
 
--- the two layouts
-pub classic-laid : Laid classic
-classic-laid = record { entries = inl refl; word = inr (inl refl); types = omega arith }
+-- the two layouts' widths, whatever types are known
+pub classic-laid : (w : Widths) → w .entries ≡ 2 → w .word ≡ 4 → w .types < 19 → Laid w
+classic-laid w e o t = record { entries = inl e; word = inr (inl o); types = t }
 
-pub big-tiff-laid : Laid bigTiff
-big-tiff-laid = record { entries = inr (inr refl); word = inr (inr refl); types = omega arith }
+pub big-tiff-laid : (w : Widths) → w .entries ≡ 8 → w .word ≡ 8 → w .types < 19 → Laid w
+big-tiff-laid w e o t = record { entries = inr (inr e); word = inr (inr o); types = t }
 
 -- IFD 0, whose offset stands at a place
 pub first-at : (w : Widths) (f : List ℕ) (size : ℕ) (o : Order) (at p : ℕ) → p ≡ numberOf o (part f at (w .word)) →

@@ -1,4 +1,4 @@
-use mathlib.Core.Path.{sym, _∙_}
+use mathlib.Core.Path.{refl, sym, _∙_}
 use native.Mathlib.Omega.{arith}
 use Rattle.directory.proofs.Trees.{big-tiff-laid, big-tiff-small, big-tiff-not-8, big-tiff-not-0, big-tiff-offset}
 use borrow.Author.Needs.{needs}
@@ -24,7 +24,7 @@ returns-3 c =
 
 root-from-requires : tie.Need-root-from-requires
 root-from-requires c κs =
-    (c .before .before .before .before .before .before .pre, big-tiff-laid, omega (arith, c .before .before .before .before .if1 .left))
+    (c .before .before .before .before .before .before .pre, big-tiff-laid _ refl refl (omega arith), omega (arith, c .before .before .before .before .if1 .left))
 
 returns-4 : tie.Need-returns-4
 returns-4 c =

@@ -41,7 +41,7 @@ starts-with-requires : tie.Need-starts-with-requires
 starts-with-requires c κs = (omega arith, refl)
 
 root-from-requires : tie.Need-root-from-requires
-root-from-requires c κs = let k = c .before in (most k, classic-laid, omega (arith, least k))
+root-from-requires c κs = let k = c .before in (most k, classic-laid _ refl refl (omega arith), omega (arith, least k))
 
 returns-3 : tie.Need-returns-3
 returns-3 c =
@@ -57,7 +57,7 @@ starts-with-requires-2 c κs = (omega arith, refl)
 root-from-requires-2 : tie.Need-root-from-requires-2
 root-from-requires-2 c κs =
     let k = c .before .before .before .before in
-    (most k, classic-laid, omega (arith, least k))
+    (most k, classic-laid _ refl refl (omega arith), omega (arith, least k))
 
 returns-4 : tie.Need-returns-4
 returns-4 c =
