@@ -24,7 +24,8 @@ returns-3 c =
 
 root-from-requires : tie.Need-root-from-requires
 root-from-requires c κs =
-    (c .before .before .before .before .before .before .pre, big-tiff-laid _ refl refl (omega arith), omega (arith, c .before .before .before .before .if1 .left))
+    let s = c .before .before .before .before in
+    (s .before .before .pre, big-tiff-laid _ refl refl (omega arith), omega (arith, s .if1 .left))
 
 returns-4 : tie.Need-returns-4
 returns-4 c =
