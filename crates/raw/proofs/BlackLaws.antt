@@ -72,7 +72,8 @@ module _ (f : List ℕ) (o : Order) (k : BlackKind) (size n p : ℕ) (sized : 0 
   blacks-test tag b e = ap (blackOut tag) (e ∙ sym (ap greatestOf same-run)) ∙ sym (simp running)
 
 -- where the greatest is there, every value is carried
-pub run-carried : (f : List ℕ) (o : Order) (k : BlackKind) (size n p : ℕ) (b : _) → Parts b ≡ greatestOf (runOf (blackAt k o f) size p n) → CarriedRun f o k size n p
+pub run-carried : (f : List ℕ) (o : Order) (k : BlackKind) (size n p : ℕ) (b : _) →
+    Parts b ≡ greatestOf (runOf (blackAt k o f) size p n) → CarriedRun f o k size n p
 run-carried f o k size n p b e i h =
     let g = greatest-carried (runOf (blackAt k o f) size p n) b (sym e) i (subst (λ (m : ℕ). i < m) (sym (length-run (blackAt k o f) size p n)) h) in
     rw (run-at (blackAt k o f) size p n i Illegal h) at g
@@ -84,7 +85,8 @@ same-value v u e = cc
 abbrev Most : List ℕ → Order → Values → Type 0
 Most f o v = (i : ℕ) → i < v .count → numberOf o (part f (v .place + v .size * i) (v .size)) ≤ 65535
 
-pub whites-in : (f : List ℕ) (d : Ifd) (s : ℕ) (r : Given) → valuesOut r ≡ run f (whiteReading d s) → ValuesIn (length f) (whiteRule s) r → WhitesIn f (d .order) (whiteRule s) r
+pub whites-in : (f : List ℕ) (d : Ifd) (s : ℕ) (r : Given) →
+    valuesOut r ≡ run f (whiteReading d s) → ValuesIn (length f) (whiteRule s) r → WhitesIn f (d .order) (whiteRule s) r
 unfolding whiteReading allReading
 whites-in f d s (given.Refused n t) e q = tt
 whites-in f d s (given.Is v) e q =

@@ -27,10 +27,12 @@ module _ (f : List ℕ) (d : Ifd) (s : ℕ) (v : Values) (e : is v ≡ run f (va
   depth-other b = sym (depth-from ∙ simp (eq-eqb _ _ b, running))
 
   module _ (b : bytesPer n ≡ 0 → ⊥) where
-    pub depth-refused : (k t : ℕ) → refused k t ≡ run f (eachReading (d .order) (v .size) 258 (range 0 n n) (v .count) (v .place)) → refused k t ≡ run f (depthReading d s)
+    pub depth-refused : (k t : ℕ) →
+        refused k t ≡ run f (eachReading (d .order) (v .size) 258 (range 0 n n) (v .count) (v .place)) → refused k t ≡ run f (depthReading d s)
     unfolding depthFrom
     depth-refused k t h = sym (depth-from ∙ rw (ne-eqb _ _ b, pick-no) (sym (bind-refused f _ _ k t h)))
 
-    pub depth-is : (z : ℕ) → is z ≡ run f (eachReading (d .order) (v .size) 258 (range 0 n n) (v .count) (v .place)) → is (bytesPer n) ≡ run f (depthReading d s)
+    pub depth-is : (z : ℕ) →
+        is z ≡ run f (eachReading (d .order) (v .size) 258 (range 0 n n) (v .count) (v .place)) → is (bytesPer n) ≡ run f (depthReading d s)
     unfolding depthFrom
     depth-is z h = sym (depth-from ∙ rw (ne-eqb _ _ b, pick-no) (bind-is f _ _ z h ∙ run-answer f _))
