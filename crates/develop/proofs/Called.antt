@@ -191,10 +191,12 @@ module _ (f : List ℕ) (v : View) (q : Viewed f v) (t l h w : ℕ) (old : List 
   samples-is = sym (ap (λ (z : Size). z .samples) (size-is f v q t l h w old))
 
   -- the colour tags are read where there are three samples
-  pub colour-tags : v .size .samples ≡ 3 → (x : Out Colour) → x ≡ run f (colourReading (v .picture .first)) → colouredOf f t l h w old (q .file) x ≡ colourWindowCall f t l h w old
+  pub colour-tags : v .size .samples ≡ 3 → (x : Out Colour) → x ≡ run f (colourReading (v .picture .first)) →
+      colouredOf f t l h w old (q .file) x ≡ colourWindowCall f t l h w old
   colour-tags e x d =
       let s : run f (colourFor (q .file .picture)) ≡ run f (colourReading (q .file .picture .first)) = simp (eq-eqb _ 3 (sym samples-is ∙ e), pick-yes) in
-      ap (colouredOf f t l h w old (q .file)) (d ∙ ap (λ (p : Picture). run f (colourReading (p .first))) (sym (q .picture)) ∙ sym s) ∙ ap (colourWindowOf f t l h w old) (q .accepted)
+      let e = d ∙ ap (λ (p : Picture). run f (colourReading (p .first))) (sym (q .picture)) ∙ sym s in
+      ap (colouredOf f t l h w old (q .file)) e ∙ ap (colourWindowOf f t l h w old) (q .accepted)
 
   pub colour-mosaic : (v .size .samples ≡ 3 → ⊥) → refusedWindow 15 0 old ≡ colourWindowCall f t l h w old
   colour-mosaic e =

@@ -107,10 +107,15 @@ module _ (bytes : ℕ → ℕ) (k : Kind) (s room : ℕ) (b : Bool) (e : s ≡ s
   pub unfit : b ≡ false → room < bytes (sizeOf k)
   unfit y = subst (λ (m : ℕ). room < bytes m) e (leb-false _ _ (sym t ∙ y))
 
--- room for one more of a size
-pub room : (p size n m len : ℕ) → n ≡ m + 1 → p + size * n ≤ len → (p + size ≤ len) × (p + size + size * m ≤ len)
-room p size n m len h l =
-    let z : size * n ≡ size * m + size = rw h (omega arith) in
+-- one more of a size lies in a length, and so do the others after it
+abbrev pub OneMore : ℕ → ℕ → ℕ → ℕ → Type 0
+OneMore p size n len = (p + size ≤ len) × (p + size + size * (n - 1) ≤ len)
+
+pub one-more : (p size n len : ℕ) → 0 < n → p + size * n ≤ len → OneMore p size n len
+one-more p size n len s l =
+    let e : n ≡ n - 1 + 1 = omega arith in
+    let z : size * (n - 1 + 1) ≡ size * (n - 1) + size = omega arith in
+    let y : size * n ≡ size * (n - 1 + 1) = ap (λ (m : ℕ). size * m) e in
     (omega arith, omega arith)
 
 -- ---- the fields of an entry, in the file

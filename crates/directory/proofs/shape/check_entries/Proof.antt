@@ -7,7 +7,7 @@ use Rattle.reading.specs.Reading.{run}
 use Rattle.directory.specs.Out.{numberOut, Out.is}
 use Rattle.directory.specs.Widths.{entryWidth}
 use Rattle.directory.specs.Shape.{entryReading, shapeFrom, TagIn}
-use Rattle.directory.proofs.Entries.{entry-most, room}
+use Rattle.directory.proofs.Entries.{entry-most, OneMore, one-more}
 use Rattle.directory.proofs.Shapes.{shape-none, shape-refused, shape-order, shape-next}
 use borrow.Author.Needs.{needs}
 use Rattle.directory.proofs.shape.check_entries.Statement.{statement}
@@ -32,9 +32,8 @@ loop-holds c = (refl, c .before .pre .0)
 
 -- one more entry lies in the file, and so do the others after it
 spaced : (c : tie.In-loop Inv-loop μ-loop) → let a = c .before .before .before .args in let l = c .before .loop in
-    (l .p + entryWidth (a .widths) ≤ length (now (a .file)))
-    × (l .p + entryWidth (a .widths) + entryWidth (a .widths) * (l .left - 1) ≤ length (now (a .file)))
-spaced c = let l = c .before .loop in room (l .p) (entryWidth (c .before .before .before .args .widths)) (l .left) (l .left - 1) _ (omega arith) (l .inv .1)
+    OneMore (l .p) (entryWidth (a .widths)) (l .left) (length (now (a .file)))
+spaced c = one-more _ _ _ _ (c .loop-test .taken) (c .before .loop .inv .1)
 
 placed-tag-requires : tie.Need-placed-tag-requires Inv-loop μ-loop
 placed-tag-requires c κs = let a = c .before .before .before in (spaced c .0, a .pre .1, a .pre .2)

@@ -8,7 +8,7 @@ use Rattle.reading.specs.Reading.{run}
 use Rattle.directory.specs.Widths.{headWidth, entryWidth}
 use Rattle.directory.specs.Entry.{headerOf}
 use Rattle.directory.specs.Tag.{findFrom}
-use Rattle.directory.proofs.Entries.{entry-most, room, head-tag}
+use Rattle.directory.proofs.Entries.{entry-most, OneMore, one-more, head-tag}
 use Rattle.directory.proofs.Tags.{find-none, find-here, find-later}
 use Rattle.directory.specs.declared.entry.Entry.{Entry}
 use borrow.Author.Needs.{needs}
@@ -33,9 +33,8 @@ loop-holds c = (refl, c .before .pre .0)
 
 -- one more entry lies in the file, and so do the others after it
 spaced : (c : tie.In-loop Inv-loop μ-loop) → let a = c .before .before .before .args in let l = c .before .loop in
-    (l .p + entryWidth (a .widths) ≤ length (now (a .file)))
-    × (l .p + entryWidth (a .widths) + entryWidth (a .widths) * (l .left - 1) ≤ length (now (a .file)))
-spaced c = let l = c .before .loop in room (l .p) (entryWidth (c .before .before .before .args .widths)) (l .left) (l .left - 1) _ (omega arith) (l .inv .1)
+    OneMore (l .p) (entryWidth (a .widths)) (l .left) (length (now (a .file)))
+spaced c = one-more _ _ _ _ (c .loop-test .taken) (c .before .loop .inv .1)
 
 short-requires : tie.Need-short-requires Inv-loop μ-loop
 short-requires c κs = omega (arith, spaced c .0)

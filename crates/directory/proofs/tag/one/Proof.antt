@@ -7,7 +7,7 @@ use Rattle.reading.specs.Reading.{run}
 use Rattle.directory.specs.Out.{Out.is}
 use Rattle.directory.specs.Tag.{valuesOut, Placed-values, valuesReading, oneReading}
 use Rattle.directory.proofs.Outs.{bind-refused, bind-is}
-use Rattle.directory.proofs.Entries.{room}
+use Rattle.directory.proofs.Entries.{one-more}
 use Rattle.directory.proofs.Tags.{looked-up, wide, first-default, first-is}
 use borrow.Author.Needs.{needs}
 use Rattle.directory.proofs.tag.one.Statement.{statement}
@@ -46,7 +46,7 @@ value-requires c κs =
     let v = c .before .before .v .given .0 .0 in
     let s : 0 < v .count = omega arith in
     let q = given (c .before) .1 in
-    (room (v .place) (v .size) (v .count) (v .count - 1) _ (omega arith) (q .inside) .0, wide (a .args .rule .kinds) (a .pre .1) _ (q .sized s))
+    (one-more _ _ _ _ s (q .inside) .0, wide (a .args .rule .kinds) (a .pre .1) _ (q .sized s))
 
 judged-requires-2 : tie.Need-judged-requires-2
 judged-requires-2 c κs = search needs
