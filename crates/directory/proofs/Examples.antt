@@ -12,7 +12,8 @@ use Rattle.directory.specs.Widths.{classic, bigTiff}
 use Rattle.directory.specs.Entry.{kindOf, plainOf, sizeOf, headerOf}
 use Rattle.directory.specs.Shape.{placeTest, entryReading, orderTest, shapeFrom, ifd, ifdReading}
 use Rattle.directory.specs.Tag.{findFrom, wholeReading, valueReading, testedReading, absentOf, valuesReading, faultOf, judgedOf, firstReading, oneReading}
-use Rattle.directory.specs.Tree.{lookReading, backwardReading, versionReading, childrenReading, visitReading, roots, walkReading, rootReading, offsetReading, bigTiffReading, treeReading}
+use Rattle.directory.specs.Tree.{lookReading, backwardReading, versionReading, childrenReading, visitReading, roots, walkReading, rootReading}
+use Rattle.directory.specs.Tree.{offsetReading, bigTiffReading, treeReading}
 
 -- IFD 0 is the raw one: 254 (0), 256 (SHORT, in its entry), 262 (unknown type), 50706 (1.4.0.0)
 abbrev one : List ℕ
@@ -24,21 +25,6 @@ one =
     ∷ 0x12 ∷ 0xC6 ∷ 1 ∷ 0 ∷ 4 ∷ 0 ∷ 0 ∷ 0 ∷ 1 ∷ 4 ∷ 0 ∷ 0
     ∷ 0 ∷ 0 ∷ 0 ∷ 0 ∷ []
 
-one-answer : runWhole one treeReading ≡ is (roots (ifd classic Little 4 10) (ifd classic Little 4 10))
-unfolding run andThen pick numberAt numberOf littleOf bigOf bind kindOf plainOf sizeOf headerOf placeTest entryReading orderTest shapeFrom ifdReading findFrom wholeReading valueReading testedReading absentOf valuesReading faultOf judgedOf firstReading oneReading lookReading backwardReading versionReading childrenReading visitReading walkReading rootReading offsetReading bigTiffReading treeReading
-one-answer = refl
-
--- neither the value of 256 (at 30), nor that of 262 (at 42), nor the next offset (at 58) is read
-one-trace :
-    traceWhole one treeReading
-    ≡ stretch 0 4 ∷ stretch 4 4 ∷ stretch 8 2
-    ∷ stretch 10 8 ∷ stretch 22 8 ∷ stretch 34 8 ∷ stretch 46 8
-    ∷ stretch 10 8 ∷ stretch 22 8 ∷ stretch 34 8 ∷ stretch 46 8 ∷ stretch 54 4
-    ∷ stretch 10 8 ∷ stretch 22 8 ∷ stretch 34 8 ∷ stretch 46 8 ∷ stretch 54 2
-    ∷ stretch 10 8 ∷ stretch 18 4 ∷ stretch 18 4 ∷ []
-unfolding trace run andThen pick numberAt numberOf littleOf bigOf bind kindOf plainOf sizeOf headerOf placeTest entryReading orderTest shapeFrom ifdReading findFrom wholeReading valueReading testedReading absentOf valuesReading faultOf judgedOf firstReading oneReading lookReading backwardReading versionReading childrenReading visitReading walkReading rootReading offsetReading bigTiffReading treeReading
-one-trace = refl
-
 -- IFD 0 (254 is 1) whose one child is itself: offsets that circle end by refusal 6
 abbrev circle : List ℕ
 circle =
@@ -47,10 +33,6 @@ circle =
     ∷ 1 ∷ 0x4A ∷ 0 ∷ 4 ∷ 0 ∷ 0 ∷ 0 ∷ 1 ∷ 0 ∷ 0 ∷ 0 ∷ 8
     ∷ 0xC6 ∷ 0x12 ∷ 0 ∷ 1 ∷ 0 ∷ 0 ∷ 0 ∷ 4 ∷ 1 ∷ 4 ∷ 0 ∷ 0
     ∷ 0 ∷ 0 ∷ 0 ∷ 0 ∷ []
-
-circle-answer : runWhole circle treeReading ≡ refused 6 0
-unfolding run andThen pick numberAt numberOf littleOf bigOf bind kindOf plainOf sizeOf headerOf placeTest entryReading orderTest shapeFrom ifdReading findFrom wholeReading valueReading testedReading absentOf valuesReading faultOf judgedOf firstReading oneReading lookReading backwardReading versionReading childrenReading visitReading walkReading rootReading offsetReading bigTiffReading treeReading
-circle-answer = refl
 
 -- ---- the 64-bit layout
 
@@ -78,24 +60,47 @@ big-circle =
 abbrev one-with-long8 : List ℕ
 one-with-long8 = take 12 one ++ (16 ∷ drop 13 one)
 
-record Big-layout : Type 0 where
-  answer : runWhole big-one treeReading ≡ is (roots (ifd bigTiff Little 3 24) (ifd bigTiff Little 3 24))
-  -- neither the value of 256 (at 56) nor the next offset (at 84) is read
+record Worked : Type 0 where
+  answer : runWhole one treeReading ≡ is (roots (ifd classic Little 4 10) (ifd classic Little 4 10))
+  -- neither the value of 256 (at 30), nor that of 262 (at 42), nor the next offset (at 58) is read
   asked :
+      traceWhole one treeReading
+      ≡ stretch 0 4 ∷ stretch 4 4 ∷ stretch 8 2
+      ∷ stretch 10 8 ∷ stretch 22 8 ∷ stretch 34 8 ∷ stretch 46 8
+      ∷ stretch 10 8 ∷ stretch 22 8 ∷ stretch 34 8 ∷ stretch 46 8 ∷ stretch 54 4
+      ∷ stretch 10 8 ∷ stretch 22 8 ∷ stretch 34 8 ∷ stretch 46 8 ∷ stretch 54 2
+      ∷ stretch 10 8 ∷ stretch 18 4 ∷ stretch 18 4 ∷ []
+  circle-ends : runWhole circle treeReading ≡ refused 6 0
+  big-answer : runWhole big-one treeReading ≡ is (roots (ifd bigTiff Little 3 24) (ifd bigTiff Little 3 24))
+  -- neither the value of 256 (at 56) nor the next offset (at 84) is read
+  big-asked :
       traceWhole big-one treeReading
       ≡ stretch 0 4 ∷ stretch 4 2 ∷ stretch 6 2 ∷ stretch 8 8 ∷ stretch 16 8
       ∷ stretch 24 12 ∷ stretch 44 12 ∷ stretch 64 12
       ∷ stretch 24 12 ∷ stretch 44 12 ∷ stretch 64 12 ∷ stretch 76 4
       ∷ stretch 24 12 ∷ stretch 44 12 ∷ stretch 64 12 ∷ stretch 76 2
       ∷ stretch 24 12 ∷ stretch 36 8 ∷ stretch 36 8 ∷ []
-  circle-ends : runWhole big-circle treeReading ≡ refused 6 0
+  big-circle-ends : runWhole big-circle treeReading ≡ refused 6 0
   long8-unknown : runWhole one-with-long8 treeReading ≡ refused 4 254
   -- the header: under 16 bytes; 9 for 8; 1 for 0
   short-header : runWhole (take 15 big-one) treeReading ≡ refused 1 0
   not-eight : runWhole (take 4 big-one ++ (9 ∷ drop 5 big-one)) treeReading ≡ refused 2 0
   not-zero : runWhole (take 6 big-one ++ (1 ∷ drop 7 big-one)) treeReading ≡ refused 2 0
 
-big-layout : Big-layout
-unfolding trace run andThen pick numberAt numberOf littleOf bigOf bind kindOf plainOf sizeOf headerOf placeTest entryReading orderTest shapeFrom ifdReading findFrom wholeReading valueReading testedReading absentOf valuesReading faultOf judgedOf firstReading oneReading lookReading backwardReading versionReading childrenReading visitReading walkReading rootReading offsetReading bigTiffReading treeReading
-big-layout =
-    record { answer = refl; asked = refl; circle-ends = refl; long8-unknown = refl; short-header = refl; not-eight = refl; not-zero = refl }
+worked : Worked
+unfolding trace run andThen pick numberAt numberOf littleOf bigOf bind kindOf plainOf sizeOf headerOf placeTest entryReading orderTest shapeFrom
+    ifdReading findFrom wholeReading valueReading testedReading absentOf valuesReading faultOf judgedOf firstReading oneReading lookReading
+    backwardReading versionReading childrenReading visitReading walkReading rootReading offsetReading bigTiffReading treeReading
+worked =
+    record {
+      answer = refl;
+      asked = refl;
+      circle-ends = refl;
+      big-answer = refl;
+      big-asked = refl;
+      big-circle-ends = refl;
+      long8-unknown = refl;
+      short-header = refl;
+      not-eight = refl;
+      not-zero = refl;
+    }

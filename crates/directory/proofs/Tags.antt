@@ -20,7 +20,9 @@ use Rattle.directory.specs.Out.{Out, Out.refused, Out.is}
 use Rattle.directory.specs.Widths.{headWidth, entryWidth}
 use Rattle.directory.specs.Entry.{codeOf, plainOf, sizes, sizeOf, bytesOf, headerOf}
 use Rattle.directory.specs.Shape.{entryReading, shapeFrom}
-use Rattle.directory.specs.Tag.{findFrom, foundReading, allowsOf, valuesAt, noValues, wholeReading, valueReading, testedReading, valuesFound, valuesOut, valuesReading, ValuesIn, Placed, Long, SizeIn, Numeric, Placed-values, required, optional, faultOf, judgedOf, firstReading, eachReading, InRange, NumberIn}
+use Rattle.directory.specs.Tag.{findFrom, foundReading, allowsOf, valuesAt, noValues, wholeReading, valueReading, testedReading, valuesFound}
+use Rattle.directory.specs.Tag.{valuesOut, valuesReading, ValuesIn, Placed, Long, SizeIn, Numeric, Placed-values, required, optional, faultOf}
+use Rattle.directory.specs.Tag.{judgedOf, firstReading, eachReading, InRange, NumberIn}
 use Rattle.directory.specs.declared.Ifd.{Ifd}
 use Rattle.directory.specs.declared.Widths.{Widths}
 use Rattle.directory.specs.declared.Number.{Number}

@@ -20,7 +20,9 @@ use Rattle.directory.specs.Out.{Out.refused, Out.is}
 use Rattle.directory.specs.Widths.{classic, bigTiff, Laid}
 use Rattle.directory.specs.Shape.{ifdReading}
 use Rattle.directory.specs.Tag.{valuesReading}
-use Rattle.directory.specs.Tree.{Seen, raw-one, parent, childrenRule, subfileReading, lookReading, versionRule, backwardRule, backwardReading, versionReading, Walked, left, afterLook, afterChild, childrenReading, visitReading, listVisit, rootReading, sameBytes, classicMark, bigTiffMark, offsetReading, bigTiffReading, treeReading}
+use Rattle.directory.specs.Tree.{Seen, raw-one, parent, childrenRule, subfileReading, lookReading, versionRule, backwardRule, backwardReading}
+use Rattle.directory.specs.Tree.{versionReading, Walked, left, afterLook, afterChild, childrenReading, visitReading, listVisit, rootReading}
+use Rattle.directory.specs.Tree.{sameBytes, classicMark, bigTiffMark, offsetReading, bigTiffReading, treeReading}
 use Rattle.directory.specs.declared.Ifd.{Ifd}
 use Rattle.directory.specs.declared.Widths.{Widths}
 use Rattle.directory.specs.declared.tag.Values.{Values}

@@ -72,7 +72,8 @@ fn check_blacks(
 pub fn black_of(file: &[u8], ifd: Ifd, repeat: Repeat, samples: usize) -> Given
     requires { ⌜ Tested (now file) ifd ⌝ }
     requires { ⌜ Repeated-in repeat × (samples ≤ 3) ⌝ }
-    ensures { λ r. ⌜ (valuesOut r ≡ run (now (file .entry)) (blackReading ifd repeat samples)) × BlacksIn (now (file .entry)) (ifd .order) (blackRule repeat samples) kindFor r ⌝ }
+    ensures { λ r. ⌜ valuesOut r ≡ run (now (file .entry)) (blackReading ifd repeat samples) ⌝ }
+    ensures { λ r. ⌜ BlacksIn (now (file .entry)) (ifd .order) (blackRule repeat samples) kindFor r ⌝ }
 {
     let cells = repeat.rows * repeat.columns * samples;
     let rule = Rule {
@@ -100,7 +101,8 @@ pub fn black_of(file: &[u8], ifd: Ifd, repeat: Repeat, samples: usize) -> Given
 // 50715 or 50716.
 pub fn delta_of(file: &[u8], ifd: Ifd, tag: usize, many: usize) -> Given
     requires { ⌜ Tested (now file) ifd ⌝ }
-    ensures { λ r. ⌜ (valuesOut r ≡ run (now (file .entry)) (deltaReading ifd tag many)) × BlacksIn (now (file .entry)) (ifd .order) (deltaRule tag many) (λ _. BlackKind.SignedRational) r ⌝ }
+    ensures { λ r. ⌜ valuesOut r ≡ run (now (file .entry)) (deltaReading ifd tag many) ⌝ }
+    ensures { λ r. ⌜ BlacksIn (now (file .entry)) (ifd .order) (deltaRule tag many) (λ _. BlackKind.SignedRational) r ⌝ }
 {
     let rule = Rule {
         tag,

@@ -30,7 +30,8 @@ pub enum Leveled {
 pub fn level_tags_of(file: &[u8], ifd: Ifd, samples: usize, rows: usize, columns: usize) -> Leveled
     requires { ⌜ Tested (now file) ifd ⌝ }
     requires { ⌜ samples ≤ 3 ⌝ }
-    ensures { λ r. ⌜ (levelTagsOut r ≡ run (now (file .entry)) (levelTagsReading ifd samples rows columns)) × LevelTagsIn (now (file .entry)) (ifd .order) samples rows columns r ⌝ }
+    ensures { λ r. ⌜ levelTagsOut r ≡ run (now (file .entry)) (levelTagsReading ifd samples rows columns) ⌝ }
+    ensures { λ r. ⌜ LevelTagsIn (now (file .entry)) (ifd .order) samples rows columns r ⌝ }
 {
     let table = match white::table_of(file, ifd) {
         Given::Refused { number, detail } => return Leveled::Refused { number, detail },

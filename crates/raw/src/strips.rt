@@ -77,7 +77,8 @@ fn check_strips(
 pub fn strips_of(file: &[u8], ifd: Ifd, frame: Frame, layout: Layout) -> Given
     requires { ⌜ Tested (now file) ifd ⌝ }
     requires { ⌜ Framed-in frame × Laid-in layout ⌝ }
-    ensures { λ r. ⌜ (valuesOut r ≡ run (now (file .entry)) (stripsReading (length (now (file .entry))) ifd frame layout)) × StripsIn (now (file .entry)) (ifd .order) frame layout r ⌝ }
+    ensures { λ r. ⌜ valuesOut r ≡ run (now (file .entry)) (stripsReading (length (now (file .entry))) ifd frame layout) ⌝ }
+    ensures { λ r. ⌜ StripsIn (now (file .entry)) (ifd .order) frame layout r ⌝ }
 {
     let rows = layout.rows;
     let count = (frame.length - 1) / rows + 1;

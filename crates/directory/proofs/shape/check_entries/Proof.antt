@@ -89,4 +89,7 @@ returns-3 c =
     shape-none (l .before .before .args .widths) (now (l .before .before .args .file)) _ _ _ _ ∙ sym (rw z at (l .loop .inv .0))
 
 pub check-entries-spec : {M : Type 1} → statement M
-check-entries-spec = tie.close (tie.spec Inv-loop μ-loop add-step add-step-2 loop-holds placed-tag-requires enum-known-number returns enum-known-t returns-2 add-low add-p sub-left loop-less loop-again returns-3)
+check-entries-spec =
+    tie.close
+    (tie.spec Inv-loop μ-loop add-step add-step-2 loop-holds placed-tag-requires enum-known-number returns enum-known-t returns-2 add-low add-p
+    sub-left loop-less loop-again returns-3)

@@ -102,4 +102,7 @@ returns-5 c =
     (ifd-outside (a .widths) (now (a .file)) _ _ _ (leb-false _ _ (sym (c .before .inside .ensures) ∙ c .if1 .left)), tt)
 
 pub ifd-at-spec : {M : Type 1} → statement M
-ifd-at-spec = tie.close (tie.spec inside-requires value-requires add-first add-many-inside add-many-inside-2 add-many-inside-3 many-inside-requires check-entries-requires enum-known-number enum-told returns returns-2 returns-3 returns-4 returns-5)
+ifd-at-spec =
+    tie.close
+    (tie.spec inside-requires value-requires add-first add-many-inside add-many-inside-2 add-many-inside-3 many-inside-requires check-entries-requires
+    enum-known-number enum-told returns returns-2 returns-3 returns-4 returns-5)

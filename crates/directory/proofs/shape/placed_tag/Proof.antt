@@ -93,4 +93,7 @@ returns-3 c =
     (entry-outside (a .widths) (now (a .file)) _ _ _ (entry h) (head h) b _ (v .value2 .ensures) r, tt)
 
 pub placed-tag-spec : {M : Type 1} → statement M
-placed-tag-spec = tie.close (tie.spec add-head short-requires cast-tag add-short short-requires-2 cast-size-of size-of-requires add-value value-requires fits-requires returns add-value-2 value-requires-2 many-inside-requires returns-2 returns-3)
+placed-tag-spec =
+    tie.close
+    (tie.spec add-head short-requires cast-tag add-short short-requires-2 cast-size-of size-of-requires add-value value-requires fits-requires returns
+    add-value-2 value-requires-2 many-inside-requires returns-2 returns-3)

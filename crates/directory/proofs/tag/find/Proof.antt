@@ -91,4 +91,7 @@ returns-2 c =
     (find-none (l .before .before .args .widths) (now (l .before .before .args .file)) _ _ _ ∙ sym (rw z at (l .loop .inv .0)), tt)
 
 pub find-spec : {M : Type 1} → statement M
-find-spec = tie.close (tie.spec Inv-loop μ-loop add-head add-step loop-holds short-requires cast-if1 add-t15 header-requires returns add-p sub-left loop-less loop-again returns-2)
+find-spec =
+    tie.close
+    (tie.spec Inv-loop μ-loop add-head add-step loop-holds short-requires cast-if1 add-t15 header-requires returns add-p sub-left loop-less loop-again
+    returns-2)

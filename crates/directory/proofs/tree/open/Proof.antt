@@ -6,7 +6,8 @@ use denote.Ref.{now}
 use lib.ListN.{length, take}
 use Rattle.reading.specs.declared.number.Order.the-variants.{Little, Big}
 use Rattle.directory.specs.Tree.{sameBytes, classicMark, bigTiffMark}
-use Rattle.directory.proofs.Trees.{classic-laid, tree-small, tree-large, tree-classic-little, tree-classic-big, tree-big-tiff-little, tree-big-tiff-big, tree-other}
+use Rattle.directory.proofs.Trees.{classic-laid, tree-small, tree-large, tree-classic-little, tree-classic-big, tree-big-tiff-little}
+use Rattle.directory.proofs.Trees.{tree-big-tiff-big, tree-other}
 use Rattle.directory.proofs.tree.open.Statement.{statement}
 use Rattle.directory.proofs.tree.open.Tie as tie
 
@@ -112,4 +113,7 @@ returns-7 c =
     )
 
 pub open-spec : {M : Type 1} → statement M
-open-spec = tie.close (tie.spec returns returns-2 starts-with-requires root-from-requires returns-3 starts-with-requires-2 root-from-requires-2 returns-4 starts-with-requires-3 big-tiff-root-requires returns-5 starts-with-requires-4 big-tiff-root-requires-2 returns-6 returns-7)
+open-spec =
+    tie.close
+    (tie.spec returns returns-2 starts-with-requires root-from-requires returns-3 starts-with-requires-2 root-from-requires-2 returns-4
+    starts-with-requires-3 big-tiff-root-requires returns-5 starts-with-requires-4 big-tiff-root-requires-2 returns-6 returns-7)
