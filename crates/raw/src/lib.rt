@@ -20,6 +20,7 @@ pub mod area;
 pub mod black;
 pub mod frame;
 pub mod front;
+pub mod greatest;
 pub mod layout;
 pub mod level_tags;
 pub mod lists;

@@ -1,0 +1,21 @@
+-- The simplest levels, for worked examples: a mosaic of so many active rows and columns, no table, no deltas.
+use mathlib.Core.List.{List, [], _∷_}
+use Prim.Native.Nat.{ℕ}
+use lib.IntN.{ℤ}
+use Rattle.levels.specs.Levels.{Levels}
+
+-- one cell, or none where 50714 is absent, and a white level
+abbrev pub plain : ℕ → ℕ → List ℤ → ℕ → Levels
+plain rows columns cells white =
+    record {
+      rows = rows;
+      columns = columns;
+      table = [];
+      repeat-rows = 1;
+      repeat-columns = 1;
+      samples = 1;
+      cells = cells;
+      column-deltas = [];
+      row-deltas = [];
+      whites = white ∷ [];
+    }

@@ -1,0 +1,185 @@
+// M: the greatest B over the active samples of a plane. Rows a repeat apart meet the same cells, so of their deltas only the
+// greatest counts, and likewise for columns: a step for each row, each column and each cell is enough.
+ghost use mathlib.Core.Path.{_≡_};
+ghost use Prim.Native.Nat.{ℕ, _+_, _*_, _≤_, _<_};
+ghost use lib.ListN.{length};
+ghost use lib.IntN.{natAbs};
+ghost use Rattle.reading.specs.Reading.{run};
+ghost use Rattle.levels.specs.Run.{runOf};
+ghost use Rattle.levels.specs.Black.{widthOf, blackAt, partsOf, greatestOf, Small};
+ghost use Rattle.levels.specs.Levels.{greatestBlack};
+ghost use Rattle.levels.specs.Residues.{deltaMost, Mosts, residueBlack, residuesMost};
+ghost use Rattle.raw.specs.Raw.{Tags-in};
+ghost use Rattle.raw.specs.Stored.{blacksReading, levelsReading};
+ghost use Rattle.raw.specs.Greatest.{Deltas-of, Mosts-in};
+use crate::Tags;
+use crate::area::ActiveColumn;
+use crate::area::ActiveRow;
+use crate::sample;
+use directory::tag;
+use directory::tag::Values;
+use levels::black::Black;
+use levels::black::BlackKind;
+use reading::number;
+use reading::number::Order;
+
+// The greatest deltas of the columns and of the rows, by residue: by the column and the row of the repeat that they meet.
+pub struct DeltaMosts {
+    pub columns: [i64; 8],
+    pub rows: [i64; 8],
+}
+
+// The greatest of carried blacks; of none, 0.
+fn greatest_parts(
+    file: &[u8],
+    order: Order,
+    kind: BlackKind,
+    at: usize,
+    step: usize,
+    count: usize,
+) -> i64
+    requires { ⌜ ((i : ℕ) → i < count → at + step * i + widthOf kind ≤ length (now file)) × (0 < count → step ≤ 65536) ⌝ }
+    ensures { λ r. ⌜ r ≡ partsOf (greatestOf (runOf (blackAt kind order (now (file .entry))) step at count)) ⌝ }
+    ensures { λ r. ⌜ natAbs r ≤ 16776960 ⌝ }
+{
+    match levels::black::greatest(file, order, kind, at, step, count) {
+        Black::Parts(b) => b,
+        Black::Illegal => 0,
+        Black::NotCarried => 0,
+    }
+}
+
+// The greatest of the deltas `first`, `first + step` .. of `n` rows or columns; of an absent tag, 0.
+fn delta_most(file: &[u8], order: Order, deltas: Values, n: usize, step: usize, first: usize) -> i64
+    requires { ⌜ Deltas-of (now file) order n deltas ⌝ }
+    requires { ⌜ (n ≤ 16384) × (1 ≤ step) × (step ≤ 8) × (first < n) ⌝ }
+    ensures { λ r. ⌜ r ≡ deltaMost (run (now (file .entry)) (blacksReading order BlackKind.SignedRational deltas)) n step first ⌝ }
+    ensures { λ r. ⌜ natAbs r ≤ 16776960 ⌝ }
+{
+    let size = deltas.size;
+    let place = deltas.place;
+    if deltas.count == 0 {
+        return 0;
+    }
+    let times = (n - 1 - first) / step + 1;
+    greatest_parts(
+        file,
+        order,
+        BlackKind::SignedRational,
+        place + size * first,
+        size * step,
+        times,
+    )
+}
+
+// The greatest deltas of `n` rows or columns by residue, of the residues that occur.
+fn by_residue(file: &[u8], order: Order, deltas: Values, n: usize, step: usize) -> [i64; 8]
+    requires { ⌜ Deltas-of (now file) order n deltas ⌝ }
+    requires { ⌜ (n ≤ 16384) × (1 ≤ step) × (step ≤ 8) ⌝ }
+    ensures { λ r. ⌜ Mosts (run (now (file .entry)) (blacksReading order BlackKind.SignedRational deltas)) n step r ⌝ }
+{
+    let last = number::smaller(step, n);
+    let mut most = [0; 8];
+    let mut i = 0;
+    while i < last {
+        most[i] = delta_most(file, order, deltas, n, step, i);
+        i += 1;
+    }
+    most
+}
+
+pub fn delta_mosts(file: &[u8], order: Order, tags: Tags) -> DeltaMosts
+    requires { ⌜ Tags-in (now file) order tags ⌝ }
+    ensures { λ r. ⌜ Mosts-in (run (now (file .entry)) (levelsReading order tags)) r ⌝ }
+{
+    let area = tags.area;
+    let repeat = tags.levels.repeat;
+    let column_deltas = tags.levels.column_deltas;
+    let row_deltas = tags.levels.row_deltas;
+    let columns = by_residue(
+        file,
+        order,
+        column_deltas,
+        area.right - area.left,
+        repeat.columns,
+    );
+    let rows = by_residue(file, order, row_deltas, area.bottom - area.top, repeat.rows);
+    DeltaMosts { columns, rows }
+}
+
+// The greatest B of the samples whose row has residue i and whose column has residue j.
+fn residue_black(
+    file: &[u8],
+    order: Order,
+    tags: Tags,
+    mosts: DeltaMosts,
+    plane: usize,
+    i: usize,
+    j: usize,
+) -> i64
+    requires { ⌜ Tags-in (now file) order tags × (plane < tags .frame .samples) ⌝ }
+    requires { ⌜ Small (mosts .columns) × Small (mosts .rows) × (i < 8) × (j < 8) ⌝ }
+    ensures { λ r. ⌜ r ≡ residueBlack (run (now (file .entry)) (levelsReading order tags)) (mosts .columns) (mosts .rows) plane i j ⌝ }
+    ensures { λ r. ⌜ natAbs r ≤ 50330880 ⌝ }
+{
+    let columns = mosts.columns;
+    let rows = mosts.rows;
+    let cell = sample::cell_at(file, order, tags, ActiveRow(i), ActiveColumn(j), plane);
+    levels::black_sum(cell, columns[j], rows[i])
+}
+
+// The greatest B over so many residues of the rows and of the columns.
+fn residues_most(
+    file: &[u8],
+    order: Order,
+    tags: Tags,
+    mosts: DeltaMosts,
+    plane: usize,
+    down: usize,
+    across: usize,
+) -> i64
+    requires { ⌜ Tags-in (now file) order tags × (plane < tags .frame .samples) ⌝ }
+    requires { ⌜ Small (mosts .columns) × Small (mosts .rows) × (1 ≤ down) × (down ≤ 8) × (1 ≤ across) × (across ≤ 8) ⌝ }
+    ensures { λ r. ⌜ r ≡ residuesMost (run (now (file .entry)) (levelsReading order tags)) (mosts .columns) (mosts .rows) plane down across ⌝ }
+    ensures { λ r. ⌜ natAbs r ≤ 50330880 ⌝ }
+{
+    let pairs = down * across;
+    let mut best = residue_black(file, order, tags, mosts, plane, 0, 0);
+    let mut k = 1;
+    while k < pairs {
+        let next = residue_black(
+            file,
+            order,
+            tags,
+            mosts,
+            plane,
+            k / across,
+            k % across,
+        );
+        best = levels::greater(best, next);
+        k += 1;
+    }
+    best
+}
+
+// M of a plane: the residues that occur are those below the repeat and below the active area's size.
+pub fn greatest_black(
+    file: &[u8],
+    order: Order,
+    tags: Tags,
+    mosts: DeltaMosts,
+    plane: usize,
+) -> i64
+    requires { ⌜ Tags-in (now file) order tags × (plane < tags .frame .samples) ⌝ }
+    requires { ⌜ Mosts-in (run (now file) (levelsReading order tags)) mosts ⌝ }
+    ensures { λ r. ⌜ r ≡ greatestBlack (run (now (file .entry)) (levelsReading order tags)) plane ⌝ }
+    ensures { λ r. ⌜ natAbs r ≤ 50330880 ⌝ }
+{
+    let area = tags.area;
+    let repeat = tags.levels.repeat;
+    let rows = area.bottom - area.top;
+    let columns = area.right - area.left;
+    let down = number::smaller(repeat.rows, rows);
+    let across = number::smaller(repeat.columns, columns);
+    residues_most(file, order, tags, mosts, plane, down, across)
+}
