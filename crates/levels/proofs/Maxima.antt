@@ -33,7 +33,7 @@ pub record Meets (X Y : Type 0) (f : X → ℤ) (g : Y → ℤ) : Type 0 where
   pub from : Y → X
   pub from-above : (y : Y) → leZ (g y) (f (from y)) ≡ true
 
--- a family of which each member is one of another, and none of the other is above all of it, has the other's greatest
+-- where each of X is one of Y, and none of Y is above all of X, the greatest of X is the greatest of Y
 pub carried-over : (X Y : Type 0) (f : X → ℤ) (g : Y → ℤ) (z : ℤ) → Meets X Y f g → Greatest X f z → Greatest Y g z
 carried-over X Y f g z m h =
     record {
@@ -43,12 +43,12 @@ carried-over X Y f g z m h =
     }
 
 -- ---- of a list
-pub record Among (xs : List ℤ) : Type 0 where
+pub record Below (n : ℕ) : Type 0 where
   pub place : ℕ
-  pub inside : place < length xs
+  pub inside : place < n
 
-abbrev pub picked : (xs : List ℤ) → Among xs → ℤ
-picked xs a = getD xs (a .place) (pos 0)
+abbrev picked : (xs : List ℤ) → Below (length xs) → ℤ
+picked xs x = getD xs (x .place) (pos 0)
 
 from-at : (m : ℤ) (xs : List ℤ) → (i : ℕ) → i < suc (length xs) → leZ (getD (m ∷ xs) i (pos 0)) (maxFrom m xs) ≡ true
 unfolding maxFrom
@@ -60,52 +60,41 @@ from-at m (x ∷ xs) (suc zero) h =
     leZ-trans x (greaterOf m x) (maxFrom (greaterOf m x) xs) (greater-right m x) (from-at (greaterOf m x) xs 0 (omega arith))
 from-at m (x ∷ xs) (suc (suc i)) h = from-at (greaterOf m x) xs (suc i) (le-of-suc-le-suc h)
 
-record Hit (m : ℤ) (xs : List ℤ) (z : ℤ) : Type 0 where
-  place : ℕ
-  inside : place < suc (length xs)
-  same : getD (m ∷ xs) place (pos 0) ≡ z
+record Hit (xs : List ℤ) (z : ℤ) : Type 0 where
+  at : Below (length xs)
+  same : picked xs at ≡ z
 
-one-more : (m x : ℤ) (xs : List ℤ) (z : ℤ) → Hit (greaterOf m x) xs z → Hit m (x ∷ xs) z
-one-more m x xs z h = go (h .place) (leZ m x) refl (h .inside) (h .same)
+one-more : (m x : ℤ) (xs : List ℤ) (z : ℤ) → Hit (greaterOf m x ∷ xs) z → Hit (m ∷ x ∷ xs) z
+one-more m x xs z h = go (h .at .place) (leZ m x) refl (h .at .inside) (h .same)
   where
-    go : (i : ℕ) (t : Bool) → leZ m x ≡ t → i < suc (length xs) → getD (greaterOf m x ∷ xs) i (pos 0) ≡ z → Hit m (x ∷ xs) z
-    go (suc i) t e k s = record { place = suc (suc i); inside = omega arith; same = s }
-    go zero true e k s = let q : x ≡ z = rw e at s in record { place = 1; inside = omega arith; same = q }
-    go zero false e k s = let q : m ≡ z = rw e at s in record { place = 0; inside = omega arith; same = q }
+    go : (i : ℕ) (t : Bool) → leZ m x ≡ t → i < suc (length xs) → getD (greaterOf m x ∷ xs) i (pos 0) ≡ z → Hit (m ∷ x ∷ xs) z
+    go (suc i) t e k s = record { at = record { place = suc (suc i); inside = omega arith }; same = s }
+    go zero true e k s = let q : x ≡ z = rw e at s in record { at = record { place = 1; inside = omega arith }; same = q }
+    go zero false e k s = let q : m ≡ z = rw e at s in record { at = record { place = 0; inside = omega arith }; same = q }
 
-from-hit : (m : ℤ) (xs : List ℤ) → Hit m xs (maxFrom m xs)
+from-hit : (m : ℤ) (xs : List ℤ) → Hit (m ∷ xs) (maxFrom m xs)
 unfolding maxFrom
-from-hit m [] = record { place = 0; inside = omega arith; same = refl }
+from-hit m [] = record { at = record { place = 0; inside = omega arith }; same = refl }
 from-hit m (x ∷ xs) = one-more m x xs (maxFrom (greaterOf m x) xs) (from-hit (greaterOf m x) xs)
 
-list-greatest : (xs : List ℤ) → 0 < length xs → Greatest (Among xs) (picked xs) (maxOf xs)
+list-greatest : (xs : List ℤ) → 0 < length xs → Greatest (Below (length xs)) (picked xs) (maxOf xs)
 unfolding maxOf
 list-greatest [] h = absurd (not-suc-le-zero h)
-list-greatest (x ∷ xs) h =
-    let k = from-hit x xs in
-    record {
-      at = record { place = k .place; inside = k .inside };
-      attained = k .same;
-      above = λ a. from-at x xs (a .place) (a .inside);
-    }
+list-greatest (x ∷ xs) h = let k = from-hit x xs in record { at = k .at; attained = k .same; above = λ b. from-at x xs (b .place) (b .inside) }
 
 -- ---- of f 0 .. f (n - 1)
-pub record Below (n : ℕ) : Type 0 where
-  pub place : ℕ
-  pub inside : place < n
-
 pub most-greatest : (n : ℕ) (f : ℕ → ℤ) → 0 < n → Greatest (Below n) (λ x. f (x .place)) (mostOf n f)
 unfolding mostOf
 most-greatest n f h =
     let xs = runOf f 1 0 n in
     let e : length xs ≡ n = length-run f 1 0 n in
     let some : 0 < length xs = rw e h in
-    carried-over (Among xs) (Below n) (picked xs) (λ x. f (x .place)) (maxOf xs) (meets xs refl e) (list-greatest xs some)
+    carried-over (Below (length xs)) (Below n) (picked xs) (λ x. f (x .place)) (maxOf xs) (meets xs refl e) (list-greatest xs some)
   where
     same : (i : ℕ) → i < n → f i ≡ getD (runOf f 1 0 n) i (pos 0)
     same i k = let e : 0 + 1 * i ≡ i = omega (arith, one-mul i) in sym (run-at f 1 0 n i (pos 0) k ∙ ap f e)
 
-    meets : (xs : List ℤ) → xs ≡ runOf f 1 0 n → length xs ≡ n → Meets (Among xs) (Below n) (picked xs) (λ x. f (x .place))
+    meets : (xs : List ℤ) → xs ≡ runOf f 1 0 n → length xs ≡ n → Meets (Below (length xs)) (Below n) (picked xs) (λ x. f (x .place))
     meets xs q e =
         record {
           to = λ a. record { place = a .place; inside = rw (← e) (a .inside) };
@@ -114,7 +103,7 @@ most-greatest n f h =
           from-above = λ b. rw (q, ← same (b .place) (b .inside)) (leZ-refl (f (b .place)));
         }
 
--- of a row of rows
+-- ---- of f 0 0 .. f (n - 1) (m - 1), row by row
 pub record Spot (n m : ℕ) : Type 0 where
   pub row : Below n
   pub column : Below m
@@ -132,7 +121,7 @@ spots-greatest n m f h k =
           (most-greatest m (f (s .row .place)) k .above (s .column)) (g .above (s .row));
     }
 
--- of the same, pair after pair
+-- the same, pair after pair
 pub pairs-greatest : (n m : ℕ) (f : ℕ → ℕ → ℤ) → 0 < n → 0 < m →
     Greatest (Spot n m) (λ s. f (s .row .place) (s .column .place)) (mostOf (n * m) (λ k. f (k / m) (k % m)))
 pairs-greatest n m f h k =
@@ -169,22 +158,22 @@ pairs-greatest n m f h k =
               rw (quotient i j l, rest i j l) (leZ-refl (f i j));
         }
 
--- ---- as a loop finds it: the greatest of what is behind i and the rest make the whole
-pub record Folded (f : ℕ → ℤ) (n i : ℕ) (best : ℤ) : Type 0 where
-  pub below : i ≤ n
-  pub rest : maxFrom best (runOf f 1 i (n - i)) ≡ mostOf n f
+-- ---- as a loop finds it: the greatest of what is behind i, and the rest, make the whole
+abbrev pub Folded : (ℕ → ℤ) → ℕ → ℕ → ℤ → Type 0
+Folded f n i best = maxFrom best (runOf f 1 i (n - i)) ≡ mostOf n f
 
 pub fold-start : (f : ℕ → ℤ) (n : ℕ) (best : ℤ) → 1 ≤ n → best ≡ f 0 → Folded f n 1 best
 unfolding mostOf runOf maxOf
 fold-start f zero best h e = absurd (not-suc-le-zero h)
-fold-start f (suc n) best h e = let q : suc n - 1 ≡ n = omega arith in record { below = h; rest = rw (e, q) }
+fold-start f (suc n) best h e = let q : suc n - 1 ≡ n = omega arith in rw (e, q)
 
-pub fold-step : (f : ℕ → ℤ) (n i : ℕ) (best next found : ℤ) → Folded f n i best → i < n → next ≡ f i → found ≡ greaterOf best next → Folded f n (i + 1) found
-unfolding maxFrom
-fold-step f n i best next found s h e g =
-    let more : maxFrom best (runOf f 1 i (n - i)) ≡ maxFrom (greaterOf best (f i)) (runOf f 1 (i + 1) (n - (i + 1))) = rw (run-next f 1 i n i h) in
-    record { below = omega arith; rest = rw (g, e) (sym more ∙ s .rest) }
+module _ (f : ℕ → ℤ) (n : ℕ) where
+  pub fold-step : (i : ℕ) (best next found : ℤ) → Folded f n i best → i < n → next ≡ f i → found ≡ greaterOf best next → Folded f n (i + 1) found
+  unfolding maxFrom
+  fold-step i best next found s h e g =
+      let more : maxFrom best (runOf f 1 i (n - i)) ≡ maxFrom (greaterOf best (f i)) (runOf f 1 (i + 1) (n - (i + 1))) = rw (run-next f 1 i n i h) in
+      rw (g, e) (sym more ∙ s)
 
-pub fold-end : (f : ℕ → ℤ) (n i : ℕ) (best : ℤ) → Folded f n i best → n ≤ i → best ≡ mostOf n f
-unfolding maxFrom
-fold-end f n i best s h = let e : maxFrom best (runOf f 1 i (n - i)) ≡ best = rw (run-over f 1 i n i h) in sym e ∙ s .rest
+  pub fold-end : (i : ℕ) (best : ℤ) → Folded f n i best → n ≤ i → best ≡ mostOf n f
+  unfolding maxFrom
+  fold-end i best s h = let e : maxFrom best (runOf f 1 i (n - i)) ≡ best = rw (run-over f 1 i n i h) in sym e ∙ s

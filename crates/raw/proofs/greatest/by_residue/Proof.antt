@@ -41,7 +41,7 @@ delta-most-requires : tie.Need-delta-most-requires Inv-loop μ-loop
 delta-most-requires c κs =
     let s = c .before .before .before .before in
     let h = s .pre .1 in
-    (s .pre .0, (h .0, h .1, h .2, occurs c .0))
+    (s .pre .0, (h .0, omega (arith, h .1), omega (arith, h .2), omega (arith, occurs c .0)))
 
 mul-most : tie.Need-mul-most Inv-loop μ-loop
 mul-most c = search needs
