@@ -1,13 +1,13 @@
 -- M by residues is the greatest B over the active samples.
 -- Assumes nothing.
-use mathlib.Core.Path.{_≡_, refl, sym, ap, _∙_}
+use mathlib.Core.Path.{_≡_, refl, sym, _∙_}
 use mathlib.Core.Bool.{true}
 use mathlib.Core.List.{List}
 use Prim.Native.Nat.{ℕ, _+_, _-_, _*_, _/_, _%_, _≤_, _<_, min}
 use native.Mathlib.Nat.{mod-lt, mod-le, mod-mod, mod-eq-of-lt, add-mul-mod-self-left, div-add-mod'}
 use native.Mathlib.Nat.{div-mul-le-self, le-div-iff-mul-le, mul-comm, mul-le-mul-left}
 use native.Mathlib.Omega.{arith}
-use lib.IntN.{ℤ, pos, _+ℤ_}
+use lib.IntN.{ℤ, pos}
 use lib.ListN.{getD}
 use lib.Signed.{leZ}
 use Rattle.levels.specs.Levels.{Levels, mostOf, cellFor, blackFor, greatestBlack}

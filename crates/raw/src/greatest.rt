@@ -147,15 +147,7 @@ fn residues_most(
     let mut best = residue_black(file, order, tags, mosts, plane, 0, 0);
     let mut k = 1;
     while k < pairs {
-        let next = residue_black(
-            file,
-            order,
-            tags,
-            mosts,
-            plane,
-            k / across,
-            k % across,
-        );
+        let next = residue_black(file, order, tags, mosts, plane, k / across, k % across);
         best = levels::greater(best, next);
         k += 1;
     }
@@ -163,13 +155,7 @@ fn residues_most(
 }
 
 // M of a plane: the residues that occur are those below the repeat and below the active area's size.
-pub fn greatest_black(
-    file: &[u8],
-    order: Order,
-    tags: Tags,
-    mosts: DeltaMosts,
-    plane: usize,
-) -> i64
+pub fn greatest_black(file: &[u8], order: Order, tags: Tags, mosts: DeltaMosts, plane: usize) -> i64
     requires { ⌜ Tags-in (now file) order tags × (plane < tags .frame .samples) ⌝ }
     requires { ⌜ Mosts-in (run (now file) (levelsReading order tags)) mosts ⌝ }
     ensures { λ r. ⌜ r ≡ greatestBlack (run (now (file .entry)) (levelsReading order tags)) plane ⌝ }

@@ -1,6 +1,6 @@
 -- The invariant: the greatest of the pairs before k, and the pairs from k on, make the greatest of all.
-use mathlib.Core.Path.{_≡_, sym, _∙_}
-use Prim.Native.Nat.{ℕ, _-_, _*_, _/_, _%_, _≤_, _<_}
+use mathlib.Core.Path.{_≡_}
+use Prim.Native.Nat.{ℕ, _-_, _*_, _/_, _%_, _≤_}
 use native.Mathlib.Nat.{mul-le-mul, mul-pos, zero-div, zero-mod, mod-lt, div-lt-iff-lt-mul}
 use native.Mathlib.Omega.{arith}
 use denote.Ref.{now}
@@ -9,7 +9,6 @@ use mir.Syntax.{w64}
 use mir.Val.{toZ, SFits}
 use mir.Facts.{toZ-ofZ}
 use Rattle.reading.specs.Reading.{run}
-use Rattle.levels.specs.Levels.{Levels}
 use Rattle.levels.specs.Residues.{residueBlack}
 use Rattle.levels.proofs.Maxima.{Folded, fold-start, fold-step, fold-end}
 use Rattle.raw.specs.Stored.{levelsReading}
