@@ -90,6 +90,17 @@ impl Tag {
         self
     }
 
+    /// The same values as SHORT if they are LONG and small enough.
+    pub fn shortened(self) -> Tag {
+        let Data::Longs(values) = &self.data else {
+            return self;
+        };
+        match values.iter().map(|v| u16::try_from(*v)).collect::<Result<Vec<u16>, _>>() {
+            Ok(values) => Tag { kind: SHORT, data: Data::Shorts(values), ..self },
+            Err(_) => self,
+        }
+    }
+
     /// The same values as LONG8 if they are LONG, as IFD8 if they are IFD.
     pub fn widened(self) -> Tag {
         let kind = match self.kind {

@@ -2,6 +2,10 @@
 
 use crate::tag_test::Fraction;
 
+/// In a greater frame a visit to every sample, which every call would make
+/// again, would cost too much.
+const GREATEST_VISITED: u64 = 1 << 16;
+
 #[derive(Clone, Debug)]
 pub struct Levels {
     repeat_rows: u64,
@@ -39,10 +43,44 @@ impl Levels {
         levels
     }
 
-    /// M: "the plane's greatest BlackLevel + the greatest 50715 + the greatest 50716"
+    /// M: "the greatest B over all active samples of the plane" (document 02),
+    /// by whichever way is affordable.
     pub fn greatest_black(&self, plane: u64) -> i128 {
-        let of_plane = self.black.iter().skip(plane as usize).step_by(self.samples as usize);
-        greatest(of_plane) + greatest(self.column_delta.iter()) + greatest(self.row_delta.iter())
+        if self.rows() * self.columns() <= GREATEST_VISITED {
+            self.greatest_of_samples(plane)
+        } else {
+            self.greatest_of_rows(plane)
+        }
+    }
+
+    /// M as it is defined: every active row with every active column.
+    pub fn greatest_of_samples(&self, plane: u64) -> i128 {
+        greatest((0..self.rows()).map(|row| self.greatest_of_row(row, plane)))
+    }
+
+    /// The same maximum. A row's greatest B is its delta + the greatest sum of
+    /// a cell and a column's delta in it. That sum is the same in all rows that
+    /// take the same cells, so it is looked for only in the first row to take
+    /// them; the maximum still goes over every active row.
+    pub fn greatest_of_rows(&self, plane: u64) -> i128 {
+        let first_rows = 0..self.repeat_rows.min(self.rows());
+        let without_delta = |row| self.greatest_of_row(row, plane) - self.row_delta[row as usize];
+        let of_cells: Vec<i128> = first_rows.map(without_delta).collect();
+        let in_row = |row| of_cells[(row % self.repeat_rows) as usize] + self.row_delta[row as usize];
+        greatest((0..self.rows()).map(in_row))
+    }
+
+    fn greatest_of_row(&self, row: u64, plane: u64) -> i128 {
+        greatest((0..self.columns()).map(|column| self.black_at(row, column, plane)))
+    }
+
+    /// There is one 50716, stored or by default, to an active row.
+    fn rows(&self) -> u64 {
+        self.row_delta.len() as u64
+    }
+
+    fn columns(&self) -> u64 {
+        self.column_delta.len() as u64
     }
 
     /// "S = W - M must be positive on every plane (9)"
@@ -83,6 +121,6 @@ fn in_256ths(values: &[Fraction]) -> Vec<i128> {
     values.iter().map(|v| 256 * v.numerator / v.denominator).collect()
 }
 
-fn greatest<'a>(values: impl Iterator<Item = &'a i128>) -> i128 {
-    *values.max().expect("every level tag has a value or a default")
+fn greatest(values: impl Iterator<Item = i128>) -> i128 {
+    values.max().expect("an active area has a row and a column")
 }

@@ -1,7 +1,7 @@
 //! An independent reference for document 01, "From stored DNG samples to
-//! developed values", and the 64-bit layout of document 02. The modules follow
-//! document 01's sections; each rule stands once, beside the words of the
-//! document that demand it.
+//! developed values", with the greatest black (T-02) and the 64-bit layout
+//! (T-09) of document 02. The modules follow document 01's sections; each rule
+//! stands once, beside the words of the document that demand it.
 
 #![forbid(unsafe_code)]
 

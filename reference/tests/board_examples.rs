@@ -1,4 +1,4 @@
-//! Board examples 1 to 11.
+//! Board examples 1 to 11, the fourth as document 02 has it.
 
 mod common;
 
@@ -29,7 +29,7 @@ fn example_3_a_rational_black() {
 }
 
 #[test]
-fn example_4_greatest_black_with_column_deltas() {
+fn example_4_the_greatest_black_that_occurs() {
     let picture = Picture { stored: vec![37, 0, 0, 0], ..Picture::counting(2, 2, 1, 8) };
     let with_white = |white: u16| {
         Dng::new(ByteOrder::Little, &picture)
@@ -38,10 +38,10 @@ fn example_4_greatest_black_with_column_deltas() {
             .with(Tag::srationals(50715, &[(5, 1), (0, 1)]))
             .with(Tag::shorts(50717, &[white]))
     };
-    assert_eq!(levels(&with_white(100))[0], 26214);
-    // M is 45: a white of 46 is above it, one of 45 is not.
-    assert_eq!(answer(&with_white(46)), DONE);
-    assert_eq!(answer(&with_white(45)), refusal(9, 0));
+    assert_eq!(levels(&with_white(100))[0], 24030);
+    // M is 40: a white of 41 is above it, one of 40 is not.
+    assert_eq!(answer(&with_white(41)), DONE);
+    assert_eq!(answer(&with_white(40)), refusal(9, 0));
 }
 
 #[test]

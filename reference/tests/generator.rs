@@ -3,7 +3,10 @@
 use std::collections::{BTreeMap, BTreeSet};
 
 use reference::cases::{answer_line, Call, Fingerprint};
+use reference::develop::{accept, Accepted};
+use reference::directory::walk;
 use reference::generate::{generate, generate_valid};
+use reference::tag_test::{fine, Tags, LONG, RATIONAL, SHORT, SRATIONAL};
 use reference::{card, colour_window, spot, window, Answer};
 
 /// The number and detail of a call's answer.
@@ -21,8 +24,8 @@ fn answer(file: &[u8], call: &Call) -> Answer {
 }
 
 /// Of the first 3,000 cases of seed 1: their files and calls, their answers.
-const FILES: Fingerprint = Fingerprint(12697278099359301318);
-const ANSWERS: Fingerprint = Fingerprint(2267186677011306878);
+const FILES: Fingerprint = Fingerprint(9312240981084700139);
+const ANSWERS: Fingerprint = Fingerprint(14519976510253022503);
 
 #[test]
 fn the_first_cases_have_a_known_fingerprint() {
@@ -119,4 +122,115 @@ fn every_refusal_occurs_with_every_tag() {
     assert!(counts.contains_key(&Answer::TOO_MANY_OPCODES));
     println!("{done} of {cases} files are accepted");
     assert!(done * 3 >= cases as u32, "{done} of {cases} files are accepted");
+}
+
+/// What the level tags of an accepted file say, in 256ths.
+struct LevelTags {
+    repeat: [usize; 2],
+    /// Row, column, plane.
+    cells: Vec<i128>,
+    columns: Option<Vec<i128>>,
+    rows: Option<Vec<i128>>,
+    white: Vec<i128>,
+}
+
+impl LevelTags {
+    fn read(accepted: &Accepted) -> LevelTags {
+        let tree = walk(&accepted.file).expect("the file was accepted");
+        let tags = Tags { file: &accepted.file, directory: &tree.raw };
+        let read = |tag| {
+            let kinds = [SHORT, LONG, RATIONAL, SRATIONAL];
+            tags.optional(tag, &kinds, 1..=u64::MAX, fine).expect("the file was accepted")
+        };
+        let in_256ths = |tag| {
+            let values = read(tag)?;
+            Some(values.iter().map(|v| 256 * v.numerator / v.denominator).collect::<Vec<i128>>())
+        };
+        let repeat = read(50713).map_or([1, 1], |sides| [0, 1].map(|i: usize| sides[i].whole() as usize));
+        let samples = accepted.size().samples as usize;
+        let default_white = 256 * ((1 << accepted.raw.stored.bits) - 1);
+        LevelTags {
+            repeat,
+            cells: in_256ths(50714).unwrap_or_else(|| vec![0; repeat[0] * repeat[1] * samples]),
+            columns: in_256ths(50715),
+            rows: in_256ths(50716),
+            white: in_256ths(50717).unwrap_or_else(|| vec![default_white; samples]),
+        }
+    }
+
+    /// The greatest cell of a plane among those that are taken.
+    fn greatest_cell(&self, plane: usize, taken: impl Fn(usize, usize) -> bool) -> i128 {
+        let samples = self.white.len();
+        let of_plane = self.cells.iter().skip(plane).step_by(samples).enumerate();
+        let taken = of_plane.filter(|(cell, _)| taken(cell / self.repeat[1], cell % self.repeat[1]));
+        *taken.map(|(_, black)| black).max().expect("a sample meets the first cell")
+    }
+
+    /// What document 01 adds to a cell: "the greatest 50715 + the greatest 50716".
+    fn greatest_deltas(&self) -> i128 {
+        let greatest = |deltas: &Option<Vec<i128>>| deltas.iter().flatten().max().copied().unwrap_or(0);
+        greatest(&self.columns) + greatest(&self.rows)
+    }
+}
+
+/// The kinds of document 02's greatest black to which an accepted file belongs.
+fn kinds_of_greatest_black(accepted: &Accepted) -> Vec<&'static str> {
+    let tags = LevelTags::read(accepted);
+    let (rows, columns) = (accepted.size().rows as usize, accepted.size().columns as usize);
+    let past = [tags.repeat[0] > rows, tags.repeat[1] > columns];
+    let negative = |deltas: &Option<Vec<i128>>| deltas.iter().any(|d| d.iter().all(|delta| *delta < 0));
+    let mut kinds = vec![
+        (past == [true, false], "repeat past the rows"),
+        (past == [false, true], "repeat past the columns"),
+        (past == [true, true], "repeat past both"),
+        (tags.columns.is_some() && tags.rows.is_none(), "column deltas alone"),
+        (tags.columns.is_none() && tags.rows.is_some(), "row deltas alone"),
+        (negative(&tags.columns), "column deltas all negative"),
+        (negative(&tags.rows), "row deltas all negative"),
+    ];
+    for plane in 0..tags.white.len() {
+        let m = accepted.raw.levels.greatest_black(plane as u64);
+        let of_all = tags.greatest_cell(plane, |_, _| true);
+        let of_met = tags.greatest_cell(plane, |row, column| row < rows && column < columns);
+        let sum = of_all + tags.greatest_deltas();
+        assert!(m <= sum);
+        kinds.extend([
+            (of_met < of_all, "greatest cell unmet"),
+            (m < of_met + tags.greatest_deltas(), "maxima that never meet"),
+            (m < sum, ["less on plane 0", "less on plane 1", "less on plane 2"][plane]),
+            (tags.white[plane] <= sum, "refused by the sum of the maxima"),
+        ]);
+    }
+    let of_file: BTreeSet<&str> = kinds.into_iter().filter(|(met, _)| *met).map(|(_, kind)| kind).collect();
+    of_file.into_iter().collect()
+}
+
+#[test]
+fn the_greatest_black_that_occurs_often_differs_from_the_sum_of_maxima() {
+    let mut counts: BTreeMap<&str, u32> = BTreeMap::new();
+    for index in 0..1_500 {
+        let file = generate(1, index).file;
+        let Ok(accepted) = accept(&file) else { continue };
+        for kind in kinds_of_greatest_black(&accepted) {
+            *counts.entry(kind).or_default() += 1;
+        }
+    }
+    println!("{counts:?}");
+    for (kind, least) in [
+        ("repeat past the rows", 40),
+        ("repeat past the columns", 40),
+        ("repeat past both", 30),
+        ("column deltas alone", 120),
+        ("row deltas alone", 120),
+        ("column deltas all negative", 80),
+        ("row deltas all negative", 80),
+        ("greatest cell unmet", 100),
+        ("maxima that never meet", 80),
+        ("less on plane 0", 150),
+        ("less on plane 1", 70),
+        ("less on plane 2", 70),
+        ("refused by the sum of the maxima", 70),
+    ] {
+        assert!(counts.get(kind).is_some_and(|count| *count >= least), "{kind}: {counts:?}");
+    }
 }

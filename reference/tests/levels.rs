@@ -7,22 +7,6 @@ use reference::builder::{Dng, Picture, Tag};
 use reference::bytes::ByteOrder;
 use reference::random::Random;
 
-/// L for whole numbers in 256ths, found by search: the greatest L whose
-/// lower half-step is not above 65535 D / S.
-fn level_by_search(d: i64, s: i64) -> u32 {
-    let (d, s) = (i128::from(d), i128::from(s));
-    let (mut low, mut high) = (0i128, 65_535i128);
-    while low < high {
-        let middle = (low + high + 1) / 2;
-        if (2 * middle - 1) * s <= 2 * 65_535 * d {
-            low = middle;
-        } else {
-            high = middle - 1;
-        }
-    }
-    low as u32
-}
-
 #[test]
 fn levels_are_rounded_to_nearest_halves_up() {
     let random = &mut Random::new(7);
@@ -96,7 +80,7 @@ fn deltas_belong_to_active_rows_and_columns() {
         .with(Tag::srationals(50715, &[(-2, 1), (3, 2), (0, 1)]))
         .with(Tag::srationals(50716, &[(1, 1), (-1, 256)]))
         .with(Tag::shorts(50717, &[200]));
-    // In 256ths: M is 50 + 1.5 + 1.
+    // In 256ths: M is 50 + 1.5 + 1, at the first row's second column.
     let span = 256 * 200 - (256 * 50 + 384 + 256);
     let d = |column: i64, row: i64| 256 * 100 - (256 * 50 + column + row);
     let expected: Vec<u32> = [256, -1]
@@ -104,32 +88,6 @@ fn deltas_belong_to_active_rows_and_columns() {
         .flat_map(|row| [-512, 384, 0].map(|column| level_by_search(d(column, *row), span)))
         .collect();
     assert_eq!(levels(&dng), expected);
-}
-
-#[test]
-fn the_greatest_black_counts_cells_that_meet_no_sample() {
-    let with_white = |white: u16| {
-        row_of(&[1])
-            .with(Tag::shorts(50713, &[2, 2]))
-            .with(Tag::shorts(50714, &[0, 0, 0, 90]))
-            .with(Tag::shorts(50717, &[white]))
-    };
-    refuses(&with_white(90), 9, 0);
-    accepts(&with_white(91));
-}
-
-#[test]
-fn the_greatest_delta_may_be_negative() {
-    let dng = |white: u16| {
-        row_of(&[10, 10])
-            .with(Tag::shorts(50714, &[20]))
-            .with(Tag::srationals(50715, &[(-15, 1), (-12, 1)]))
-            .with(Tag::shorts(50717, &[white]))
-    };
-    // M is 20 - 12.
-    refuses(&dng(8), 9, 0);
-    accepts(&dng(9));
-    assert_eq!(levels(&dng(16)), [40959, 16384]);
 }
 
 #[test]

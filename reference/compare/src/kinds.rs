@@ -3,15 +3,15 @@
 
 use std::collections::BTreeMap;
 
-use reference::bytes::{ByteOrder, File};
+use reference::bytes::ByteOrder;
 use reference::colour;
 use reference::develop::{accept, Accepted};
 use reference::directory::{walk, Tree};
-use reference::opcodes::{Action, Grid, Opcode};
-use reference::tag_test::{fine, Tags, IFD8, LONG, LONG8, SLONG8};
+use reference::opcodes::{Action, FrameSize, Grid, Opcode};
+use reference::tag_test::{fine, Fraction, Tags, IFD8, LONG, LONG8, SHORT, SLONG8, SRATIONAL};
 
 /// Every kind that must occur in each layout.
-const KINDS: [&str; 33] = [
+const KINDS: [&str; 38] = [
     "mosaic 8 II",
     "mosaic 8 MM",
     "mosaic 16 II",
@@ -24,6 +24,11 @@ const KINDS: [&str; 33] = [
     "repeat",
     "column deltas",
     "row deltas",
+    "column deltas alone",
+    "row deltas alone",
+    "deltas all below 0",
+    "repeat past the rows",
+    "repeat past the columns",
     "several strips",
     "area off the corner",
     "raw IFD below IFD 0",
@@ -59,7 +64,7 @@ impl Kinds {
             return;
         };
         let mut kinds = of_frame(&accepted);
-        kinds.extend(of_tags(&accepted.file));
+        kinds.extend(of_tags(&accepted));
         kinds.extend(of_list(&accepted));
         kinds.extend(of_colour(&accepted));
         kinds.sort_unstable();
@@ -96,14 +101,37 @@ fn of_frame(accepted: &Accepted) -> Vec<&'static str> {
     kinds
 }
 
-fn of_tags(file: &File) -> Vec<&'static str> {
-    let tree = walk(file).expect("the file was accepted");
+fn of_tags(accepted: &Accepted) -> Vec<&'static str> {
+    let file = &accepted.file;
+    let tree = walk(file).expect(ACCEPTED);
     let tags = [(50712, "table"), (50713, "repeat"), (50715, "column deltas"), (50716, "row deltas")];
     let found = tags.into_iter().filter(|(tag, _)| tree.raw.find(*tag).is_some());
     let first = Tags { file, directory: &tree.first };
     let below = first.one_or(254, &[LONG], 0, fine) != Ok(0);
     let kinds = found.map(|(_, kind)| kind).chain(below.then_some("raw IFD below IFD 0"));
-    kinds.chain(of_types(&tree)).collect()
+    let raw = Tags { file, directory: &tree.raw };
+    kinds.chain(of_levels(&raw, accepted.size())).chain(of_types(&tree)).collect()
+}
+
+const ACCEPTED: &str = "the file was accepted";
+
+/// What decides where black levels and deltas meet.
+fn of_levels(raw: &Tags, size: FrameSize) -> Vec<&'static str> {
+    let repeat = raw.all_or(50713, &[SHORT], 2, 1, fine).expect(ACCEPTED);
+    let [columns, rows] =
+        [50715, 50716].map(|tag| raw.optional(tag, &[SRATIONAL], 1..=u64::MAX, fine).expect(ACCEPTED));
+    let below_0 = |deltas: &Vec<Fraction>| deltas.iter().all(|delta| delta.numerator < 0);
+    met([
+        (columns.is_some() && rows.is_none(), "column deltas alone"),
+        (rows.is_some() && columns.is_none(), "row deltas alone"),
+        (columns.iter().chain(&rows).any(below_0), "deltas all below 0"),
+        (repeat[0].whole() > size.rows, "repeat past the rows"),
+        (repeat[1].whole() > size.columns, "repeat past the columns"),
+    ])
+}
+
+fn met<const N: usize>(kinds: [(bool, &'static str); N]) -> Vec<&'static str> {
+    kinds.into_iter().filter(|(met, _)| *met).map(|(_, kind)| kind).collect()
 }
 
 /// The types of 8 bytes, of tags that are read or not.
@@ -127,12 +155,11 @@ fn of_list(accepted: &Accepted) -> Vec<&'static str> {
             }
         }
     }
-    let some = [
+    kinds.extend(met([
         (kept > 0 && kept < accepted.opcodes.len(), "kept and skipped"),
         (kept >= 2, "two kept or more"),
         (kept >= 9, "nine kept or more"),
-    ];
-    kinds.extend(some.into_iter().filter(|(met, _)| *met).map(|(_, kind)| kind));
+    ]));
     kinds
 }
 
@@ -149,12 +176,11 @@ fn of_action(action: &Action) -> &'static str {
 
 /// A pitch counts where the grid has a second row or column.
 fn of_grid(grid: &Grid, samples: u64) -> Vec<&'static str> {
-    let some = [
+    met([
         (grid.row_pitch > 1 && grid.rows() > 1, "row pitch"),
         (grid.column_pitch > 1 && grid.columns() > 1, "column pitch"),
         (grid.planes < samples, "some planes"),
-    ];
-    some.into_iter().filter(|(met, _)| *met).map(|(_, kind)| kind).collect()
+    ])
 }
 
 fn of_colour(accepted: &Accepted) -> Option<&'static str> {

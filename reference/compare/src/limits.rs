@@ -2,6 +2,7 @@
 //! answer that the document gives. Both programs must give that answer, and
 //! where nothing else is said they must give it in both layouts.
 
+mod blacks;
 mod colour;
 mod headers;
 mod lists;
@@ -59,6 +60,7 @@ pub fn check(tally: &mut Tally) {
     shapes::check(tally);
     trees::check(tally);
     tags::check(tally);
+    blacks::check(tally);
     wide::check(tally);
     lists::check(tally);
     parameters::check(tally);

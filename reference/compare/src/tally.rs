@@ -62,6 +62,15 @@ impl Tally {
         expected
     }
 
+    /// The same of a window whose values are stated.
+    pub fn ask_values(&mut self, label: &str, file: &[u8], call: &Call, stated: &[f64]) {
+        let found = self.ask(label, file, call, Some((0, 0)));
+        if !found.values(call).iter().copied().eq(stated.iter().map(|value| value.to_bits())) {
+            self.differences += 1;
+            println!("{label}: {call:?}: {:x?}, stated {stated:?}", found.values(call));
+        }
+    }
+
     pub fn calls(&self) -> u64 {
         self.met.iter().flat_map(BTreeMap::values).sum()
     }

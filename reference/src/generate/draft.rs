@@ -5,6 +5,7 @@ use crate::bytes::ByteOrder;
 use crate::random::Random;
 use crate::tag_test::{LONG, SHORT};
 
+use super::levels::{self, Frame};
 use super::{layouts, lists, trees};
 
 /// A description that can still be edited; the opcode list is kept apart.
@@ -15,6 +16,8 @@ pub struct Draft {
     /// Active rows and columns.
     pub rows: u32,
     pub columns: u32,
+    /// The greatest black of each plane, in 256ths.
+    pub greatest_black: Vec<i128>,
     pub list: Option<OpcodeList>,
 }
 
@@ -32,7 +35,8 @@ impl Draft {
         draft.choose_optional_tags(random);
         draft.choose_active_area(random);
         draft.choose_table(random);
-        draft.choose_levels(random);
+        let frame = draft.frame();
+        draft.greatest_black = levels::choose(random, &mut draft.dng, frame);
         draft.list = lists::list(random, &draft);
         draft.choose_colour(random);
         draft.choose_noise(random);
@@ -56,6 +60,10 @@ impl Draft {
         self.picture.samples
     }
 
+    fn frame(&self) -> Frame {
+        Frame { rows: self.rows, columns: self.columns, samples: self.samples(), bits: self.picture.bits }
+    }
+
     fn plain(random: &mut Random) -> Draft {
         let greatest = if random.one_in(24) { 40 } else { random.pick(&[9, 9, 16]) };
         let (width, length) = (random.small(1, greatest), random.small(1, greatest));
@@ -72,7 +80,7 @@ impl Draft {
         let order = random.pick(&[ByteOrder::Little, ByteOrder::Big]);
         let picture = Picture { width, length, samples, bits, rows_per_strip, stored };
         let dng = Dng::new(order, &picture);
-        Draft { dng, rows: length, columns: width, picture, list: None }
+        Draft { dng, rows: length, columns: width, picture, greatest_black: Vec::new(), list: None }
     }
 
     /// SHORT or LONG, apart or overlapping.
@@ -108,13 +116,8 @@ impl Draft {
 
     /// Turns a tag of LONGs into one of SHORTs where the values allow it.
     fn shorten(&mut self, tag: u16) {
-        if let Some(Tag { kind, data, .. }) = self.dng.raw_ifd().get_mut(tag) {
-            if let Data::Longs(values) = data {
-                if values.iter().all(|v| *v <= 65_535) {
-                    *data = Data::Shorts(values.iter().map(|v| *v as u16).collect());
-                    *kind = SHORT;
-                }
-            }
+        if let Some(tag) = self.dng.raw_ifd().get_mut(tag) {
+            *tag = tag.clone().shortened();
         }
     }
 
@@ -175,69 +178,6 @@ impl Draft {
         self.dng.raw_ifd().set(Tag::shorts(50712, &entries));
     }
 
-    /// Blacks, deltas and a white above them all.
-    fn choose_levels(&mut self, random: &mut Random) {
-        let mut greatest = 0;
-        if random.one_in(2) {
-            greatest = self.choose_black(random);
-        }
-        for (tag, count) in [(50715, self.columns), (50716, self.rows)] {
-            if random.one_in(3) {
-                let deltas: Vec<(i32, i32)> = (0..count).map(|_| delta(random)).collect();
-                greatest += deltas.iter().map(|(n, d)| i64::from(256 / d) * i64::from(*n)).max().unwrap_or(0);
-                self.dng.raw_ifd().set(Tag::srationals(tag, &deltas));
-            }
-        }
-        self.choose_white(random, greatest);
-    }
-
-    /// Gives the greatest cell in 256ths.
-    fn choose_black(&mut self, random: &mut Random) -> i64 {
-        let mut cells = self.samples();
-        if random.one_in(2) {
-            let greatest = random.pick(&[2, 2, 3, 8]);
-            let (rows, columns) = (random.small(1, greatest), random.small(1, greatest));
-            self.dng.raw_ifd().set(Tag::shorts(50713, &[rows as u16, columns as u16]));
-            cells *= rows * columns;
-        }
-        let denominators: &[u32] = if random.one_in(2) { &[1] } else { &[1, 2, 4, 8, 16, 32, 64, 128, 256] };
-        let top = if self.picture.bits == 8 { 60 } else { random.pick(&[60, 600, 30_000]) };
-        let blacks: Vec<(u32, u32)> = (0..cells)
-            .map(|_| {
-                let denominator = random.pick(denominators);
-                (random.small(0, top * denominator), denominator)
-            })
-            .collect();
-        let wholes: Vec<u32> = blacks.iter().map(|(n, _)| *n).collect();
-        let tag =
-            if denominators.len() > 1 { Tag::rationals(50714, &blacks) } else { Tag::longs(50714, &wholes) };
-        self.dng.raw_ifd().set(tag);
-        if random.one_in(2) {
-            self.shorten(50714);
-        }
-        blacks.iter().map(|(n, d)| i64::from(256 / d) * i64::from(*n)).max().unwrap_or(0)
-    }
-
-    fn choose_white(&mut self, random: &mut Random, greatest_black: i64) {
-        let least = (greatest_black.div_euclid(256) + 1).max(0);
-        let default = (1 << self.picture.bits) - 1;
-        if default >= least && random.one_in(3) {
-            return;
-        }
-        let whites: Vec<u32> = (0..self.samples())
-            .map(|_| match random.index(3) {
-                0 => least,
-                1 => random.between(least, 65_535),
-                _ => default.max(least),
-            })
-            .map(|white| white as u32)
-            .collect();
-        self.dng.raw_ifd().set(Tag::longs(50717, &whites));
-        if random.one_in(2) {
-            self.shorten(50717);
-        }
-    }
-
     fn choose_colour(&mut self, random: &mut Random) {
         if random.one_in(if self.samples() == 3 { 6 } else { 2 }) {
             return;
@@ -271,11 +211,4 @@ impl Draft {
             self.dng.raw_ifd().set(noise);
         }
     }
-}
-
-/// "carried are 1, 2, 4 .. 256"; negative ones too.
-fn delta(random: &mut Random) -> (i32, i32) {
-    let denominator = random.pick(&[1, 2, 4, 8, 16, 32, 64, 128, 256]);
-    let reach = 6 * i64::from(denominator);
-    (random.between(-reach, reach) as i32, denominator)
 }

@@ -300,17 +300,26 @@ fn version(random: &mut Random, draft: &mut Draft) {
     draft.dng.first_ifd().set(Tag::bytes(tag, &random.pick(&versions)));
 }
 
-/// A white one below, at, or one above the greatest black.
+/// White levels next to the greatest black of their planes, which comes of the
+/// draft's own black levels and deltas or of one black for all.
 fn white(random: &mut Random, draft: &mut Draft) {
-    let samples = draft.samples() as usize;
+    if random.one_in(2) {
+        one_black(random, draft);
+    }
+    let next = |m: &i128| (m.div_euclid(256) + i128::from(random.pick(&[-1, 0, 1, 1, 1]))).clamp(0, 65_535);
+    let whites: Vec<u32> = draft.greatest_black.iter().map(next).map(|white| white as u32).collect();
+    draft.dng.raw_ifd().set(Tag::longs(50717, &whites));
+}
+
+fn one_black(random: &mut Random, draft: &mut Draft) {
     let black = random.small(1, 200);
-    let white = random.small(black - 1, black + 1);
+    let samples = draft.samples() as usize;
     let raw = draft.dng.raw_ifd();
     for tag in [50713, 50715, 50716] {
         raw.remove(tag);
     }
     raw.set(Tag::longs(50714, &vec![black; samples]));
-    raw.set(Tag::longs(50717, &vec![white; samples]));
+    draft.greatest_black = vec![256 * i128::from(black); samples];
 }
 
 /// The draft's list, made if there is none.

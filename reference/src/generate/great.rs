@@ -6,6 +6,7 @@ use crate::random::Random;
 use crate::tag_test::SHORT;
 
 use super::layouts;
+use super::levels::{self, Frame};
 
 /// Every strip is one row; all strips stand in one block of a few rows.
 pub fn great(random: &mut Random) -> Vec<u8> {
@@ -20,15 +21,17 @@ pub fn great(random: &mut Random) -> Vec<u8> {
     let picture = Picture { width, length, samples, bits, rows_per_strip: 1, stored: Vec::new() };
     let mut dng = Dng::new(order, &picture)
         .with(Tag::new(273, SHORT, Data::ShortPlaces(offsets)))
-        .with(Tag::longs(279, &vec![row_bytes; length as usize]))
-        .with(Tag::shorts(50714, &vec![random.small(0, 99) as u16; samples as usize]));
+        .with(Tag::longs(279, &vec![row_bytes; length as usize]));
     dng.blocks = vec![block];
+    let mut frame = Frame { rows: length, columns: width, samples, bits };
     if random.one_in(2) {
         let (top, left) = (random.small(0, length - 1), random.small(0, width - 1));
         dng = dng.with(Tag::longs(50829, &[top, left, length, width]));
+        frame = Frame { rows: length - top, columns: width - left, ..frame };
     } else {
         dng = dng.with_opcodes(&[stripes(length, width, samples)]);
     }
+    levels::choose(random, &mut dng, frame);
     layouts::lay_out_in_either(random, &mut dng);
     dng.file()
 }

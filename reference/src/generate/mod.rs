@@ -6,6 +6,7 @@ mod draft;
 mod faults;
 mod great;
 mod layouts;
+mod levels;
 mod lists;
 mod questions;
 mod trees;

@@ -55,6 +55,22 @@ pub fn levels(dng: &Dng) -> Vec<u32> {
     frame(dng).into_iter().map(|x| (x * 65535.0).round() as u32).collect()
 }
 
+/// L for whole numbers in 256ths, found by search: the greatest L whose
+/// lower half-step is not above 65535 D / S.
+pub fn level_by_search(d: i64, s: i64) -> u32 {
+    let (d, s) = (i128::from(d), i128::from(s));
+    let (mut low, mut high) = (0i128, 65_535i128);
+    while low < high {
+        let middle = (low + high + 1) / 2;
+        if (2 * middle - 1) * s <= 2 * 65_535 * d {
+            low = middle;
+        } else {
+            high = middle - 1;
+        }
+    }
+    low as u32
+}
+
 /// The colour of the whole active frame.
 pub fn colours(dng: &Dng) -> Vec<f64> {
     let file = dng.file();

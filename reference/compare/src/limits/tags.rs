@@ -49,7 +49,9 @@ const FORBIDDEN: [u16; 2] = [51008, 51022];
 
 /// Tags of one value, their type, and values in the mosaic: carried, illegal
 /// (4), legal but not carried (8).
-const SINGLE: &[(&[u16], u16, [&[u32]; 3])] = &[
+type Single = (&'static [u16], u16, [&'static [u32]; 3]);
+
+const SINGLE: &[Single] = &[
     (&[256, 257], SHORT, [&[], &[0], &[16_385, 65_535]]),
     (&[256, 257], LONG, [&[], &[0], &[16_385, 65_536, 65_539, MAX]]),
     (&[262], SHORT, [&[32_803], &[], &[0, 32_802, 32_804, 34_891, 34_893, 65_535]]),
@@ -70,7 +72,9 @@ const SINGLE: &[(&[u16], u16, [&[u32]; 3])] = &[
 ];
 
 /// A base file, a tag with its type, and lists of values with one number.
-const SEVERAL: &[(usize, u16, u16, &[&[u32]], u32)] = &[
+type Several = (usize, u16, u16, &'static [&'static [u32]], u32);
+
+const SEVERAL: &[Several] = &[
     (MOSAIC, 50707, BYTE, &[&[1, 7, 1, 0], &[1, 7, 0, 255], &[1, 6, 255, 255], &[0, 255, 255, 255]], 0),
     (MOSAIC, 50707, BYTE, &[&[1, 7, 1, 1], &[1, 7, 2, 0], &[1, 8, 0, 0], &[2, 0, 0, 0], &[255; 4]], 7),
     (MOSAIC, 50706, BYTE, &[&[1, 7, 1, 1], &[1, 7, 255, 255], &[1, 6, 255, 255], &[0, 255, 0, 0]], 0),
@@ -104,18 +108,6 @@ const OTHER_DENOMINATORS: [i64; 21] =
 /// The ends of signed and unsigned numbers of 32 bits.
 const ENDS: [i64; 4] = [-1 << 31, (1 << 31) - 1, 1 << 31, (1 << 32) - 1];
 
-/// 65,535 in 256ths.
-const FULL: i64 = 65_535 * 256;
-
-/// A white level; in 256ths, the greatest column delta, the greatest row delta
-/// and the black level that add up to just as much.
-const LEVEL: [(u32, &[[i64; 3]]); 4] = [
-    (0, &[[-1, 0, 1], [0, -1, 1], [1, -2, 1], [-FULL, FULL - 1, 1]]),
-    (1, &[[0, 0, 256], [255, 0, 1], [0, 255, 1], [100, 56, 100], [-1, 0, 257], [0, -1, 257]]),
-    (1, &[[-1, -1, 258], [FULL, -FULL, 256], [-FULL, FULL, 256]]),
-    (65_535, &[[1, 0, FULL - 1], [0, 1, FULL - 1], [FULL - 1, 0, 1], [1 - FULL, FULL, FULL - 1]]),
-];
-
 /// Every case of a tag.
 pub fn check(tally: &mut Tally) {
     types_and_counts(tally);
@@ -125,8 +117,6 @@ pub fn check(tally: &mut Tally) {
     counts_of_strips(tally);
     counts_of_levels(tally);
     fractions(tally);
-    levels(tally);
-    cells(tally);
     order_of_tests(tally);
 }
 
@@ -349,45 +339,6 @@ fn fractions(tally: &mut Tally) {
         case((1, 0), (1, 3), 4);
         case((65_536, 1), (1, 0), 8);
         case((1, 0), (65_536, 1), 4);
-    }
-}
-
-/// Refusal 9: S = 1, 0 and -1, with the greatest deltas at every place.
-fn levels(tally: &mut Tally) {
-    let fraction = |n: i64| (n as i32, 256);
-    let rows = LEVEL.iter().flat_map(|(white, rows)| rows.iter().map(move |row| (*white, *row)));
-    for ((white, [column, row, black]), place) in rows.flat_map(|row| [0, 1, 2].map(|place| (row, place))) {
-        let (mut columns, mut rows) = ([fraction(-FULL); 3], [fraction(-FULL); 2]);
-        columns[place] = fraction(column);
-        rows[place % 2] = fraction(row);
-        let dng = plain(MOSAIC)
-            .with(Tag::longs(50717, &[white]))
-            .with(Tag::srationals(50715, &columns))
-            .with(Tag::srationals(50716, &rows));
-        for (black, number) in [(black - 1, 0), (black, 9), (black + 1, 9)] {
-            let dng = dng.clone().with(Tag::rationals(50714, &[(black as u32, 256)]));
-            everywhere(tally, &format!("white {white}, {black} {columns:?} {rows:?}"), &dng, (number, 0));
-        }
-    }
-}
-
-/// Refusal 9 by one cell of 8 x 8, whether an active sample meets it or not,
-/// on the one plane whose white level is lower.
-fn cells(tally: &mut Tally) {
-    for (base, planes) in [(MOSAIC, 1), (LINEAR, 3)] {
-        let cells = 64 * planes;
-        for (cell, plane) in (0..cells).flat_map(|cell| (0..planes).map(move |plane| (cell, plane))) {
-            let mut white = vec![2; planes];
-            white[plane] = 1;
-            let dng = plain(base).with(Tag::shorts(50713, &[8, 8])).with(Tag::shorts(50717, &white));
-            for black in [255, 256, 257] {
-                let mut blacks = vec![(0, 256); cells];
-                blacks[cell] = (black, 256);
-                let number = if cell % planes == plane && black > 255 { 9 } else { 0 };
-                let label = format!("cell {cell} of {cells}, {black}/256, white {white:?}");
-                both(tally, &label, &dng.clone().with(Tag::rationals(50714, &blacks)), (number, 0));
-            }
-        }
     }
 }
 
