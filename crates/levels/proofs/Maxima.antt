@@ -11,7 +11,7 @@ use lib.IntN.{ℤ, pos}
 use lib.ListN.{length, getD}
 use lib.Signed.{leZ}
 use Rattle.levels.specs.Run.{runOf}
-use Rattle.levels.specs.Levels.{greaterOf, maxFrom, maxOf, mostOf}
+use Rattle.levels.specs.Levels.{greaterOf, maxFrom, maxOf, maxBelow}
 use Rattle.levels.proofs.Runs.{length-run, run-at, run-next, run-over}
 use Rattle.levels.proofs.SignedOrder.{leZ-refl, leZ-trans, leZ-antisym, greater-left, greater-right}
 
@@ -83,9 +83,9 @@ list-greatest [] h = absurd (not-suc-le-zero h)
 list-greatest (x ∷ xs) h = let k = from-hit x xs in record { at = k .at; attained = k .same; above = λ b. from-at x xs (b .place) (b .inside) }
 
 -- ---- of f 0 .. f (n - 1)
-pub most-greatest : (n : ℕ) (f : ℕ → ℤ) → 0 < n → Greatest (Below n) (λ x. f (x .place)) (mostOf n f)
-unfolding mostOf
-most-greatest n f h =
+pub below-greatest : (n : ℕ) (f : ℕ → ℤ) → 0 < n → Greatest (Below n) (λ x. f (x .place)) (maxBelow n f)
+unfolding maxBelow
+below-greatest n f h =
     let xs = runOf f 1 0 n in
     let e : length xs ≡ n = length-run f 1 0 n in
     let some : 0 < length xs = rw e h in
@@ -109,24 +109,24 @@ pub record Spot (n m : ℕ) : Type 0 where
   pub column : Below m
 
 pub spots-greatest : (n m : ℕ) (f : ℕ → ℕ → ℤ) → 0 < n → 0 < m →
-    Greatest (Spot n m) (λ s. f (s .row .place) (s .column .place)) (mostOf n (λ i. mostOf m (f i)))
+    Greatest (Spot n m) (λ s. f (s .row .place) (s .column .place)) (maxBelow n (λ i. maxBelow m (f i)))
 spots-greatest n m f h k =
-    let g = most-greatest n (λ (i : ℕ). mostOf m (f i)) h in
-    let b = most-greatest m (f (g .at .place)) k in
+    let g = below-greatest n (λ (i : ℕ). maxBelow m (f i)) h in
+    let b = below-greatest m (f (g .at .place)) k in
     record {
       at = record { row = g .at; column = b .at };
       attained = b .attained ∙ g .attained;
       above = λ s.
-          leZ-trans (f (s .row .place) (s .column .place)) (mostOf m (f (s .row .place))) (mostOf n (λ i. mostOf m (f i)))
-          (most-greatest m (f (s .row .place)) k .above (s .column)) (g .above (s .row));
+          leZ-trans (f (s .row .place) (s .column .place)) (maxBelow m (f (s .row .place))) (maxBelow n (λ i. maxBelow m (f i)))
+          (below-greatest m (f (s .row .place)) k .above (s .column)) (g .above (s .row));
     }
 
 -- the same, pair after pair
 pub pairs-greatest : (n m : ℕ) (f : ℕ → ℕ → ℤ) → 0 < n → 0 < m →
-    Greatest (Spot n m) (λ s. f (s .row .place) (s .column .place)) (mostOf (n * m) (λ k. f (k / m) (k % m)))
+    Greatest (Spot n m) (λ s. f (s .row .place) (s .column .place)) (maxBelow (n * m) (λ k. f (k / m) (k % m)))
 pairs-greatest n m f h k =
     carried-over (Below (n * m)) (Spot n m) (λ x. f (x .place / m) (x .place % m)) (λ s. f (s .row .place) (s .column .place)) _ meets
-    (most-greatest (n * m) (λ (k : ℕ). f (k / m) (k % m)) (mul-pos h k))
+    (below-greatest (n * m) (λ (k : ℕ). f (k / m) (k % m)) (mul-pos h k))
   where
     quotient : (i j : ℕ) → j < m → (i * m + j) / m ≡ i
     quotient i j l = omega (arith, mul-add-div-right k i j, div-eq-of-lt l)
@@ -160,10 +160,10 @@ pairs-greatest n m f h k =
 
 -- ---- as a loop finds it: the greatest of what is behind i, and the rest, make the whole
 abbrev pub Folded : (ℕ → ℤ) → ℕ → ℕ → ℤ → Type 0
-Folded f n i best = maxFrom best (runOf f 1 i (n - i)) ≡ mostOf n f
+Folded f n i best = maxFrom best (runOf f 1 i (n - i)) ≡ maxBelow n f
 
 pub fold-start : (f : ℕ → ℤ) (n : ℕ) (best : ℤ) → 1 ≤ n → best ≡ f 0 → Folded f n 1 best
-unfolding mostOf runOf maxOf
+unfolding maxBelow runOf maxOf
 fold-start f zero best h e = absurd (not-suc-le-zero h)
 fold-start f (suc n) best h e = let q : suc n - 1 ≡ n = omega arith in rw (e, q)
 
@@ -174,6 +174,6 @@ module _ (f : ℕ → ℤ) (n : ℕ) where
       let more : maxFrom best (runOf f 1 i (n - i)) ≡ maxFrom (greaterOf best (f i)) (runOf f 1 (i + 1) (n - (i + 1))) = rw (run-next f 1 i n i h) in
       rw (g, e) (sym more ∙ s)
 
-  pub fold-end : (i : ℕ) (best : ℤ) → Folded f n i best → n ≤ i → best ≡ mostOf n f
+  pub fold-end : (i : ℕ) (best : ℤ) → Folded f n i best → n ≤ i → best ≡ maxBelow n f
   unfolding maxFrom
   fold-end i best s h = let e : maxFrom best (runOf f 1 i (n - i)) ≡ best = rw (run-over f 1 i n i h) in sym e ∙ s

@@ -10,10 +10,10 @@ use native.Mathlib.Omega.{arith}
 use lib.IntN.{ℤ, pos}
 use lib.ListN.{getD}
 use lib.Signed.{leZ}
-use Rattle.levels.specs.Levels.{Levels, mostOf, cellFor, blackFor, greatestBlack}
-use Rattle.levels.specs.Residues.{timesOf, deltaMost, Mosts, residueBlack, residuesMost}
+use Rattle.levels.specs.Levels.{Levels, maxBelow, cellFor, blackFor, greatestBlack}
+use Rattle.levels.specs.Residues.{timesOf, greatestDelta, ByResidue, residueBlack, greatestByResidues}
 use Rattle.levels.proofs.SignedOrder.{leZ-refl, sum-same, sum-above}
-use Rattle.levels.proofs.Maxima.{Greatest, unique, Meets, carried-over, Below, most-greatest, Spot, spots-greatest, pairs-greatest}
+use Rattle.levels.proofs.Maxima.{Greatest, unique, Meets, carried-over, Below, below-greatest, Spot, spots-greatest, pairs-greatest}
 
 -- the places below n with a residue
 pub record Residue (n step i : ℕ) : Type 0 where
@@ -40,11 +40,11 @@ module _ (n step i : ℕ) (some : 1 ≤ step) (low : i < step) (occurs : i < n) 
   which-place : (r : ℕ) → r % step ≡ i → i + step * (r / step) ≡ r
   which-place r e = omega (arith, div-add-mod' r step, mul-comm step (r / step))
 
-  pub delta-greatest : (deltas : List ℤ) → Greatest (Residue n step i) (λ x. getD deltas (x .place) (pos 0)) (deltaMost deltas n step i)
-  unfolding deltaMost
+  pub delta-greatest : (deltas : List ℤ) → Greatest (Residue n step i) (λ x. getD deltas (x .place) (pos 0)) (greatestDelta deltas n step i)
+  unfolding greatestDelta
   delta-greatest deltas =
       carried-over (Below (timesOf n step i)) (Residue n step i) (λ x. getD deltas (i + step * x .place) (pos 0)) (λ x. getD deltas (x .place) (pos 0))
-      (mostOf (timesOf n step i) (λ (k : ℕ). getD deltas (i + step * k) (pos 0)))
+      (maxBelow (timesOf n step i) (λ (k : ℕ). getD deltas (i + step * k) (pos 0)))
       (record {
         to = λ x. record { place = i + step * x .place; inside = nth-inside n step i (x .place) occurs (x .inside); same = nth-residue (x .place) };
         to-same = λ x. refl;
@@ -53,18 +53,18 @@ module _ (n step i : ℕ) (some : 1 ≤ step) (low : i < step) (occurs : i < n) 
             let e : i + step * (y .place / step) ≡ y .place = which-place (y .place) (y .same) in
             rw e (leZ-refl (getD deltas (y .place) (pos 0)));
       })
-      (most-greatest (timesOf n step i) (λ (k : ℕ). getD deltas (i + step * k) (pos 0)) (omega arith))
+      (below-greatest (timesOf n step i) (λ (k : ℕ). getD deltas (i + step * k) (pos 0)) (omega arith))
 
   -- so is what stands at its place among the greatest by residue
-  pub mosts-greatest : (deltas most : List ℤ) → Mosts deltas n step most →
-      Greatest (Residue n step i) (λ x. getD deltas (x .place) (pos 0)) (getD most i (pos 0))
-  mosts-greatest deltas most h = rw (h .each i (omega arith)) (delta-greatest deltas)
+  pub by-residue-greatest : (deltas found : List ℤ) → ByResidue deltas n step found →
+      Greatest (Residue n step i) (λ x. getD deltas (x .place) (pos 0)) (getD found i (pos 0))
+  by-residue-greatest deltas found h = rw (h .each i (omega arith)) (delta-greatest deltas)
 
 -- a residue that occurs is one of the first n places
 residue-below : (n step r : ℕ) → 1 ≤ step → r < n → r % step < min step n
 residue-below n step r h k = omega (arith, mod-lt r h, mod-le r step)
 
--- the cell of a row and a column is the one of their residues
+-- rows with one residue, and columns with one, have one cell
 pub cell-same : (l : Levels) (r c i j p : ℕ) → r % l .repeat-rows ≡ i % l .repeat-rows → c % l .repeat-columns ≡ j % l .repeat-columns →
     cellFor l r c p ≡ cellFor l i j p
 unfolding cellFor
@@ -73,8 +73,8 @@ cell-same l r c i j p e f = rw (e, f)
 module _
     (l : Levels) (p : ℕ) (columns rows : List ℤ)
     (some-rows : 0 < l .rows) (some-columns : 0 < l .columns) (down : 1 ≤ l .repeat-rows) (across : 1 ≤ l .repeat-columns)
-    (by-columns : Mosts (l .column-deltas) (l .columns) (l .repeat-columns) columns)
-    (by-rows : Mosts (l .row-deltas) (l .rows) (l .repeat-rows) rows)
+    (by-columns : ByResidue (l .column-deltas) (l .columns) (l .repeat-columns) columns)
+    (by-rows : ByResidue (l .row-deltas) (l .rows) (l .repeat-rows) rows)
   where
     abbrev Pair : Type 0
     Pair = Spot (min (l .repeat-rows) (l .rows)) (min (l .repeat-columns) (l .columns))
@@ -89,30 +89,30 @@ module _
     atSample s = blackFor l (s .row .place) (s .column .place) p
 
     -- the greatest deltas of a pair of residues
-    row-most : (s : Pair) → let i = s .row .place in
+    row-delta : (s : Pair) → let i = s .row .place in
         Greatest (Residue (l .rows) (l .repeat-rows) i) (λ x. getD (l .row-deltas) (x .place) (pos 0)) (getD rows i (pos 0))
-    row-most s =
+    row-delta s =
         let h = s .row .inside in
-        mosts-greatest (l .rows) (l .repeat-rows) (s .row .place) down (omega arith) (omega arith) (l .row-deltas) rows by-rows
+        by-residue-greatest (l .rows) (l .repeat-rows) (s .row .place) down (omega arith) (omega arith) (l .row-deltas) rows by-rows
 
-    column-most : (s : Pair) → let j = s .column .place in
+    column-delta : (s : Pair) → let j = s .column .place in
         Greatest (Residue (l .columns) (l .repeat-columns) j) (λ x. getD (l .column-deltas) (x .place) (pos 0)) (getD columns j (pos 0))
-    column-most s =
+    column-delta s =
         let h = s .column .inside in
-        mosts-greatest (l .columns) (l .repeat-columns) (s .column .place) across (omega arith) (omega arith) (l .column-deltas) columns by-columns
+        by-residue-greatest (l .columns) (l .repeat-columns) (s .column .place) across (omega arith) (omega arith) (l .column-deltas) columns by-columns
 
     -- the sample where they meet
     met : Pair → Sample
     met s =
-        let r = row-most s .at in
-        let c = column-most s .at in
+        let r = row-delta s .at in
+        let c = column-delta s .at in
         record { row = record { place = r .place; inside = r .inside }; column = record { place = c .place; inside = c .inside } }
 
     met-same : (s : Pair) → atSample (met s) ≡ atPair s
     unfolding blackFor met
     met-same s =
-        let r = row-most s in
-        let c = column-most s in
+        let r = row-delta s in
+        let c = column-delta s in
         let i = s .row .place in
         let j = s .column .place in
         let h : i < l .repeat-rows = omega (arith, s .row .inside) in
@@ -140,15 +140,15 @@ module _
         let f = sym (mod-mod c (l .repeat-columns)) in
         sum-above _ _ _ _ _ _
         (cell-same l r c (r % l .repeat-rows) (c % l .repeat-columns) p e f)
-        (column-most (residues s) .above (record { place = c; inside = s .column .inside; same = refl }))
-        (row-most (residues s) .above (record { place = r; inside = s .row .inside; same = refl }))
+        (column-delta (residues s) .above (record { place = c; inside = s .column .inside; same = refl }))
+        (row-delta (residues s) .above (record { place = r; inside = s .row .inside; same = refl }))
 
     -- the greatest over the pairs of residues that occur is the greatest over the active samples
-    pub residues-most : (n m : ℕ) → n ≡ min (l .repeat-rows) (l .rows) → m ≡ min (l .repeat-columns) (l .columns) →
-        residuesMost l columns rows p n m ≡ greatestBlack l p
+    pub greatest-by-residues : (n m : ℕ) → n ≡ min (l .repeat-rows) (l .rows) → m ≡ min (l .repeat-columns) (l .columns) →
+        greatestByResidues l columns rows p n m ≡ greatestBlack l p
     unfolding greatestBlack
-    residues-most n m e f =
-        let z = residuesMost l columns rows p (min (l .repeat-rows) (l .rows)) (min (l .repeat-columns) (l .columns)) in
+    greatest-by-residues n m e f =
+        let z = greatestByResidues l columns rows p (min (l .repeat-rows) (l .rows)) (min (l .repeat-columns) (l .columns)) in
         let pairs : Greatest Pair atPair z =
         pairs-greatest (min (l .repeat-rows) (l .rows)) (min (l .repeat-columns) (l .columns)) (residueBlack l columns rows p) (omega arith) (omega arith) in
         let meets : Meets Pair Sample atPair atSample = record { to = met; to-same = met-same; from = residues; from-above = residues-above } in

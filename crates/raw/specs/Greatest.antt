@@ -6,10 +6,10 @@ use lib.ListN.{length}
 use Rattle.reading.specs.declared.number.Order.{Order}
 use Rattle.directory.specs.declared.tag.Values.{Values}
 use Rattle.levels.specs.Levels.{Levels}
-use Rattle.levels.specs.Residues.{Mosts}
+use Rattle.levels.specs.Residues.{ByResidue}
 use Rattle.levels.specs.declared.black.BlackKind.the-variants as kind
 use Rattle.raw.specs.Black.{CarriedRun}
-use Rattle.raw.specs.declared.greatest.DeltaMosts.{DeltaMosts}
+use Rattle.raw.specs.declared.greatest.GreatestDeltas.{GreatestDeltas}
 
 -- the deltas of n rows or columns, or of none: they lie in the file, and all are carried
 pub record Deltas-of (f : List ℕ) (o : Order) (n : ℕ) (v : Values) : Type 0 where
@@ -19,6 +19,6 @@ pub record Deltas-of (f : List ℕ) (o : Order) (n : ℕ) (v : Values) : Type 0 
   pub carried : CarriedRun f o kind.SignedRational (v .size) (v .count) (v .place)
 
 -- the greatest deltas of the columns and of the rows, by residue
-pub record Mosts-in (l : Levels) (m : DeltaMosts) : Type 0 where
-  pub by-columns : Mosts (l .column-deltas) (l .columns) (l .repeat-columns) (m .columns)
-  pub by-rows : Mosts (l .row-deltas) (l .rows) (l .repeat-rows) (m .rows)
+pub record Greatest-in (l : Levels) (m : GreatestDeltas) : Type 0 where
+  pub by-columns : ByResidue (l .column-deltas) (l .columns) (l .repeat-columns) (m .columns)
+  pub by-rows : ByResidue (l .row-deltas) (l .rows) (l .repeat-rows) (m .rows)

@@ -8,10 +8,10 @@ ghost use Rattle.reading.specs.Reading.{run};
 ghost use Rattle.levels.specs.Run.{runOf};
 ghost use Rattle.levels.specs.Black.{widthOf, blackAt, partsOf, greatestOf, Small};
 ghost use Rattle.levels.specs.Levels.{greatestBlack};
-ghost use Rattle.levels.specs.Residues.{deltaMost, Mosts, residueBlack, residuesMost};
+ghost use Rattle.levels.specs.Residues.{greatestDelta, ByResidue, residueBlack, greatestByResidues};
 ghost use Rattle.raw.specs.Raw.{Tags-in};
 ghost use Rattle.raw.specs.Stored.{blacksReading, levelsReading};
-ghost use Rattle.raw.specs.Greatest.{Deltas-of, Mosts-in};
+ghost use Rattle.raw.specs.Greatest.{Deltas-of, Greatest-in};
 use crate::Tags;
 use crate::area::ActiveColumn;
 use crate::area::ActiveRow;
@@ -24,7 +24,7 @@ use reading::number;
 use reading::number::Order;
 
 // The greatest deltas of the columns and of the rows, by residue: by the column and the row of the repeat that they meet.
-pub struct DeltaMosts {
+pub struct GreatestDeltas {
     pub columns: [i64; 8],
     pub rows: [i64; 8],
 }
@@ -50,10 +50,17 @@ fn greatest_parts(
 }
 
 // The greatest of the deltas `first`, `first + step` .. of `n` rows or columns; of an absent tag, 0.
-fn delta_most(file: &[u8], order: Order, deltas: Values, n: usize, step: usize, first: usize) -> i64
+fn greatest_delta(
+    file: &[u8],
+    order: Order,
+    deltas: Values,
+    n: usize,
+    step: usize,
+    first: usize,
+) -> i64
     requires { ⌜ Deltas-of (now file) order n deltas ⌝ }
     requires { ⌜ (n ≤ 16384) × (1 ≤ step) × (step ≤ 8) × (first < n) ⌝ }
-    ensures { λ r. ⌜ r ≡ deltaMost (run (now (file .entry)) (blacksReading order BlackKind.SignedRational deltas)) n step first ⌝ }
+    ensures { λ r. ⌜ r ≡ greatestDelta (run (now (file .entry)) (blacksReading order BlackKind.SignedRational deltas)) n step first ⌝ }
     ensures { λ r. ⌜ natAbs r ≤ 16776960 ⌝ }
 {
     let size = deltas.size;
@@ -76,21 +83,21 @@ fn delta_most(file: &[u8], order: Order, deltas: Values, n: usize, step: usize, 
 fn by_residue(file: &[u8], order: Order, deltas: Values, n: usize, step: usize) -> [i64; 8]
     requires { ⌜ Deltas-of (now file) order n deltas ⌝ }
     requires { ⌜ (n ≤ 16384) × (1 ≤ step) × (step ≤ 8) ⌝ }
-    ensures { λ r. ⌜ Mosts (run (now (file .entry)) (blacksReading order BlackKind.SignedRational deltas)) n step r ⌝ }
+    ensures { λ r. ⌜ ByResidue (run (now (file .entry)) (blacksReading order BlackKind.SignedRational deltas)) n step r ⌝ }
 {
     let last = number::smaller(step, n);
-    let mut most = [0; 8];
+    let mut found = [0; 8];
     let mut i = 0;
     while i < last {
-        most[i] = delta_most(file, order, deltas, n, step, i);
+        found[i] = greatest_delta(file, order, deltas, n, step, i);
         i += 1;
     }
-    most
+    found
 }
 
-pub fn delta_mosts(file: &[u8], order: Order, tags: Tags) -> DeltaMosts
+pub fn greatest_deltas(file: &[u8], order: Order, tags: Tags) -> GreatestDeltas
     requires { ⌜ Tags-in (now file) order tags ⌝ }
-    ensures { λ r. ⌜ Mosts-in (run (now (file .entry)) (levelsReading order tags)) r ⌝ }
+    ensures { λ r. ⌜ Greatest-in (run (now (file .entry)) (levelsReading order tags)) r ⌝ }
 {
     let area = tags.area;
     let repeat = tags.levels.repeat;
@@ -104,7 +111,7 @@ pub fn delta_mosts(file: &[u8], order: Order, tags: Tags) -> DeltaMosts
         repeat.columns,
     );
     let rows = by_residue(file, order, row_deltas, area.bottom - area.top, repeat.rows);
-    DeltaMosts { columns, rows }
+    GreatestDeltas { columns, rows }
 }
 
 // The greatest B of the samples whose row has residue i and whose column has residue j.
@@ -112,42 +119,42 @@ fn residue_black(
     file: &[u8],
     order: Order,
     tags: Tags,
-    mosts: DeltaMosts,
+    deltas: GreatestDeltas,
     plane: usize,
     i: usize,
     j: usize,
 ) -> i64
     requires { ⌜ Tags-in (now file) order tags × (plane < tags .frame .samples) ⌝ }
-    requires { ⌜ Small (mosts .columns) × Small (mosts .rows) × (i < 8) × (j < 8) ⌝ }
-    ensures { λ r. ⌜ r ≡ residueBlack (run (now (file .entry)) (levelsReading order tags)) (mosts .columns) (mosts .rows) plane i j ⌝ }
+    requires { ⌜ Small (deltas .columns) × Small (deltas .rows) × (i < 8) × (j < 8) ⌝ }
+    ensures { λ r. ⌜ r ≡ residueBlack (run (now (file .entry)) (levelsReading order tags)) (deltas .columns) (deltas .rows) plane i j ⌝ }
     ensures { λ r. ⌜ natAbs r ≤ 50330880 ⌝ }
 {
-    let columns = mosts.columns;
-    let rows = mosts.rows;
+    let columns = deltas.columns;
+    let rows = deltas.rows;
     let cell = sample::cell_at(file, order, tags, ActiveRow(i), ActiveColumn(j), plane);
     levels::black_sum(cell, columns[j], rows[i])
 }
 
 // The greatest B over so many residues of the rows and of the columns.
-fn residues_most(
+fn greatest_by_residues(
     file: &[u8],
     order: Order,
     tags: Tags,
-    mosts: DeltaMosts,
+    deltas: GreatestDeltas,
     plane: usize,
     down: usize,
     across: usize,
 ) -> i64
     requires { ⌜ Tags-in (now file) order tags × (plane < tags .frame .samples) ⌝ }
-    requires { ⌜ Small (mosts .columns) × Small (mosts .rows) × (1 ≤ down) × (down ≤ 8) × (1 ≤ across) × (across ≤ 8) ⌝ }
-    ensures { λ r. ⌜ r ≡ residuesMost (run (now (file .entry)) (levelsReading order tags)) (mosts .columns) (mosts .rows) plane down across ⌝ }
+    requires { ⌜ Small (deltas .columns) × Small (deltas .rows) × (1 ≤ down) × (down ≤ 8) × (1 ≤ across) × (across ≤ 8) ⌝ }
+    ensures { λ r. ⌜ r ≡ greatestByResidues (run (now (file .entry)) (levelsReading order tags)) (deltas .columns) (deltas .rows) plane down across ⌝ }
     ensures { λ r. ⌜ natAbs r ≤ 50330880 ⌝ }
 {
     let pairs = down * across;
-    let mut best = residue_black(file, order, tags, mosts, plane, 0, 0);
+    let mut best = residue_black(file, order, tags, deltas, plane, 0, 0);
     let mut k = 1;
     while k < pairs {
-        let next = residue_black(file, order, tags, mosts, plane, k / across, k % across);
+        let next = residue_black(file, order, tags, deltas, plane, k / across, k % across);
         best = levels::greater(best, next);
         k += 1;
     }
@@ -155,9 +162,15 @@ fn residues_most(
 }
 
 // M of a plane: the residues that occur are those below the repeat and below the active area's size.
-pub fn greatest_black(file: &[u8], order: Order, tags: Tags, mosts: DeltaMosts, plane: usize) -> i64
+pub fn greatest_black(
+    file: &[u8],
+    order: Order,
+    tags: Tags,
+    deltas: GreatestDeltas,
+    plane: usize,
+) -> i64
     requires { ⌜ Tags-in (now file) order tags × (plane < tags .frame .samples) ⌝ }
-    requires { ⌜ Mosts-in (run (now file) (levelsReading order tags)) mosts ⌝ }
+    requires { ⌜ Greatest-in (run (now file) (levelsReading order tags)) deltas ⌝ }
     ensures { λ r. ⌜ r ≡ greatestBlack (run (now (file .entry)) (levelsReading order tags)) plane ⌝ }
     ensures { λ r. ⌜ natAbs r ≤ 50330880 ⌝ }
 {
@@ -167,5 +180,5 @@ pub fn greatest_black(file: &[u8], order: Order, tags: Tags, mosts: DeltaMosts, 
     let columns = area.right - area.left;
     let down = number::smaller(repeat.rows, rows);
     let across = number::smaller(repeat.columns, columns);
-    residues_most(file, order, tags, mosts, plane, down, across)
+    greatest_by_residues(file, order, tags, deltas, plane, down, across)
 }

@@ -8,7 +8,7 @@ use mir.Val.{SFits}
 use mir.Facts.{toZ-ofZ}
 use Rattle.reading.specs.Reading.{run}
 use Rattle.levels.specs.declared.black.BlackKind.the-variants as kind
-use Rattle.levels.specs.Residues.{deltaMost}
+use Rattle.levels.specs.Residues.{greatestDelta}
 use Rattle.levels.proofs.Fills.{Filled, fill-start, fill-step, fill-end, zeros-small}
 use Rattle.raw.specs.Stored.{blacksReading}
 use borrow.Author.Needs.{needs}
@@ -16,11 +16,11 @@ use Rattle.raw.proofs.greatest.by_residue.Statement.{statement}
 use Rattle.raw.proofs.greatest.by_residue.Tie as tie
 
 abbrev Inv-loop : tie.InvT-loop
-Inv-loop file order deltas n step last most₀ i₀ most i =
-    Filled (deltaMost (run file (blacksReading order kind.SignedRational deltas)) n step) i (replicate 8 (pos 0)) most
+Inv-loop file order deltas n step last found₀ i₀ found i =
+    Filled (greatestDelta (run file (blacksReading order kind.SignedRational deltas)) n step) i (replicate 8 (pos 0)) found
 
 abbrev μ-loop : tie.MeasureT-loop
-μ-loop file order deltas n step last most₀ i₀ most i = last - i
+μ-loop file order deltas n step last found₀ i₀ found i = last - i
 
 smaller-requires : tie.Need-smaller-requires Inv-loop μ-loop
 smaller-requires c κs = search needs
@@ -36,17 +36,17 @@ occurs c =
     let e = c .before .before .smaller .ensures in
     (omega (arith, c .loop-test .taken, e), omega (arith, c .loop-test .taken, e, h .2))
 
-delta-most-requires : tie.Need-delta-most-requires Inv-loop μ-loop
-delta-most-requires c κs =
+greatest-delta-requires : tie.Need-greatest-delta-requires Inv-loop μ-loop
+greatest-delta-requires c κs =
     let s = c .before .before .before .before in
     let h = s .pre .1 in
     (s .pre .0, (h .0, omega (arith, h .1), omega (arith, h .2), omega (arith, occurs c .0)))
 
-mul-most : tie.Need-mul-most Inv-loop μ-loop
-mul-most c = search needs
+mul-found : tie.Need-mul-found Inv-loop μ-loop
+mul-found c = search needs
 
-array-set-from-most : tie.Need-array-set-from-most Inv-loop μ-loop
-array-set-from-most c = occurs (c .before) .1
+array-set-from-found : tie.Need-array-set-from-found Inv-loop μ-loop
+array-set-from-found c = occurs (c .before) .1
 
 add-i : tie.Need-add-i Inv-loop μ-loop
 add-i c = search needs
@@ -57,14 +57,14 @@ loop-less c = search needs
 loop-again : tie.Need-loop-again Inv-loop μ-loop
 loop-again c =
     let l = c .before .before .loop in
-    let g = c .delta-most .ensures in
-    let f : SFits w64 (c .delta-most .result) = search needs in
-    rw (toZ-ofZ f) (fill-step _ (l .i) _ (l .most) _ (occurs (c .before) .1) (g .0) (g .1) (l .inv))
+    let g = c .greatest-delta .ensures in
+    let f : SFits w64 (c .greatest-delta .result) = search needs in
+    rw (toZ-ofZ f) (fill-step _ (l .i) _ (l .found) _ (occurs (c .before) .1) (g .0) (g .1) (l .inv))
 
 returns : tie.Need-returns Inv-loop μ-loop
 returns c =
     let l = c .before .loop in
-    let e = fill-end _ (l .i) _ _ (l .most) (c .loop-test .left) (l .inv) in
+    let e = fill-end _ (l .i) _ _ (l .found) (c .loop-test .left) (l .inv) in
     record { each = λ i h. e .0 i (omega (arith, c .before .before .smaller .ensures)); small = e .1 }
 
 pub by-residue-spec : {M : Type 1} → statement M
@@ -75,9 +75,9 @@ by-residue-spec =
     μ-loop
     smaller-requires
     loop-holds
-    delta-most-requires
-    mul-most
-    array-set-from-most
+    greatest-delta-requires
+    mul-found
+    array-set-from-found
     add-i
     loop-less
     loop-again

@@ -4,7 +4,7 @@ use denote.Ref.{now}
 use mir.Syntax.{w64}
 use mir.Val.{SFits}
 use mir.Facts.{toZ-ofZ}
-use Rattle.raw.proofs.TagFacts.{black-most}
+use Rattle.raw.proofs.TagFacts.{greatest-black-is}
 use borrow.Author.Needs.{needs}
 use Rattle.raw.proofs.greatest.greatest_black.Statement.{statement}
 use Rattle.raw.proofs.greatest.greatest_black.Tie as tie
@@ -21,8 +21,8 @@ smaller-requires c κs = search needs
 smaller-requires-2 : tie.Need-smaller-requires-2
 smaller-requires-2 c κs = search needs
 
-residues-most-requires : tie.Need-residues-most-requires
-residues-most-requires c κs =
+greatest-by-residues-requires : tie.Need-greatest-by-residues-requires
+greatest-by-residues-requires c κs =
     let s = c .before .before .before .before .before .before .before in
     let t = s .pre .0 .0 in
     let down = c .before .smaller .ensures in
@@ -42,11 +42,11 @@ returns : tie.Need-returns
 returns c =
     let s = c .before .before .before .before .before .before .before .before in
     let a = s .args in
-    let g = c .residues-most .ensures in
-    let f : SFits w64 (c .residues-most .result) = search needs in
+    let g = c .greatest-by-residues .ensures in
+    let f : SFits w64 (c .greatest-by-residues .result) = search needs in
     let down = c .before .before .smaller .ensures in
     let across = c .before .smaller2 .ensures in
-    let e = black-most (now (a .file)) (a .order) (a .tags) (a .mosts) (a .plane) _ _ (s .pre .0 .0) (s .pre .1) down across in
+    let e = greatest-black-is (now (a .file)) (a .order) (a .tags) (a .deltas) (a .plane) _ _ (s .pre .0 .0) (s .pre .1) down across in
     rw (toZ-ofZ f) (g .0 ∙ e, g .1)
 
 pub greatest-black-spec : {M : Type 1} → statement M
@@ -57,5 +57,5 @@ greatest-black-spec =
     sub-columns
     smaller-requires
     smaller-requires-2
-    residues-most-requires
+    greatest-by-residues-requires
     returns)

@@ -13,23 +13,23 @@ use Rattle.levels.specs.Residues.{residueBlack}
 use Rattle.levels.proofs.Maxima.{Folded, fold-start, fold-step, fold-end}
 use Rattle.raw.specs.Stored.{levelsReading}
 use borrow.Author.Needs.{needs}
-use Rattle.raw.proofs.greatest.residues_most.Statement.{statement}
-use Rattle.raw.proofs.greatest.residues_most.Tie as tie
+use Rattle.raw.proofs.greatest.greatest_by_residues.Statement.{statement}
+use Rattle.raw.proofs.greatest.greatest_by_residues.Tie as tie
 
 abbrev Inv-loop : tie.InvT-loop
-Inv-loop file order tags mosts plane down across pairs best₀ k₀ best k =
-    Folded (λ (k : ℕ). residueBlack (run file (levelsReading order tags)) (mosts .columns) (mosts .rows) plane (k / across) (k % across))
+Inv-loop file order tags deltas plane down across pairs best₀ k₀ best k =
+    Folded (λ (k : ℕ). residueBlack (run file (levelsReading order tags)) (deltas .columns) (deltas .rows) plane (k / across) (k % across))
     (down * across) k (toZ w64 best)
     × (natAbs (toZ w64 best) ≤ 50330880)
 
 abbrev μ-loop : tie.MeasureT-loop
-μ-loop file order tags mosts plane down across pairs best₀ k₀ best k = pairs - k
+μ-loop file order tags deltas plane down across pairs best₀ k₀ best k = pairs - k
 
 -- the greatest B of the k-th pair
 abbrev pair : tie.Start Inv-loop μ-loop → ℕ → ℤ
 pair s k =
     let a = s .args in
-    residueBlack (run (now (a .file)) (levelsReading (a .order) (a .tags))) (a .mosts .columns) (a .mosts .rows) (a .plane) (k / a .across) (k % a .across)
+    residueBlack (run (now (a .file)) (levelsReading (a .order) (a .tags))) (a .deltas .columns) (a .deltas .rows) (a .plane) (k / a .across) (k % a .across)
 
 mul-pairs : tie.Need-mul-pairs Inv-loop μ-loop
 mul-pairs c = let h = c .before .pre .1 in omega (arith, mul-le-mul (h .3) (h .5))
@@ -91,8 +91,8 @@ returns c =
     let s = c .before .before .before .before in
     (fold-end (pair s) _ (l .k) _ (l .inv .0) (c .loop-test .left), l .inv .1)
 
-pub residues-most-spec : {M : Type 1} → statement M
-residues-most-spec =
+pub greatest-by-residues-spec : {M : Type 1} → statement M
+greatest-by-residues-spec =
     tie.close
     (tie.spec
     Inv-loop

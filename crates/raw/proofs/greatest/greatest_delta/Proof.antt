@@ -7,16 +7,16 @@ use mir.Syntax.{w64}
 use mir.Val.{SFits}
 use mir.Facts.{toZ-ofZ}
 use Rattle.levels.proofs.Runs.{within}
-use Rattle.raw.proofs.StoredLaws.{run-place, deltas-none, delta-inside, deltas-most}
+use Rattle.raw.proofs.StoredLaws.{run-place, greatest-delta-none, delta-inside, greatest-delta-is}
 use borrow.Author.Needs.{needs}
-use Rattle.raw.proofs.greatest.delta_most.Statement.{statement}
-use Rattle.raw.proofs.greatest.delta_most.Tie as tie
+use Rattle.raw.proofs.greatest.greatest_delta.Statement.{statement}
+use Rattle.raw.proofs.greatest.greatest_delta.Tie as tie
 
 returns : tie.Need-returns
 returns c =
     let s = c .before .before .before in
     let a = s .args in
-    (sym (deltas-none (now (a .file)) (a .order) (a .deltas) (a .n) (a .step) (a .first) (s .pre .0) (c .if1 .taken)), omega arith)
+    (sym (greatest-delta-none (now (a .file)) (a .order) (a .deltas) (a .n) (a .step) (a .first) (s .pre .0) (c .if1 .taken)), omega arith)
 
 -- a tag with values has 8 bytes for each
 some : (c : tie.Else1) → 0 < c .before .before .before .args .deltas .count
@@ -67,11 +67,11 @@ returns-2 c =
     let a = s .args in
     let g = c .greatest-parts .ensures in
     let f : SFits w64 (c .greatest-parts .result) = search needs in
-    let e = deltas-most (now (a .file)) (a .order) (a .deltas) (a .n) (a .step) (a .first) (s .pre .0) (some (c .before)) (s .pre .1 .3) in
+    let e = greatest-delta-is (now (a .file)) (a .order) (a .deltas) (a .n) (a .step) (a .first) (s .pre .0) (some (c .before)) (s .pre .1 .3) in
     rw (toZ-ofZ f) (g .0 ∙ e, g .1)
 
-pub delta-most-spec : {M : Type 1} → statement M
-delta-most-spec =
+pub greatest-delta-spec : {M : Type 1} → statement M
+greatest-delta-spec =
     tie.close
     (tie.spec
     returns

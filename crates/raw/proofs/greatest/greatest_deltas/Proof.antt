@@ -3,8 +3,8 @@ use denote.Ref.{now}
 use Rattle.raw.proofs.StoredLaws.{column-deltas-are, row-deltas-are, rows-are, columns-are, repeat-rows-are, repeat-columns-are}
 use Rattle.raw.proofs.TagFacts.{deltas-of}
 use borrow.Author.Needs.{needs}
-use Rattle.raw.proofs.greatest.delta_mosts.Statement.{statement}
-use Rattle.raw.proofs.greatest.delta_mosts.Tie as tie
+use Rattle.raw.proofs.greatest.greatest_deltas.Statement.{statement}
+use Rattle.raw.proofs.greatest.greatest_deltas.Tie as tie
 
 sub-by-residue : tie.Need-sub-by-residue
 sub-by-residue c = search needs
@@ -39,7 +39,7 @@ returns c =
       by-rows = rw (row-deltas-are f o t, rows-are f o t, repeat-rows-are f o t) (c .by-residue2 .ensures);
     }
 
-pub delta-mosts-spec : {M : Type 1} → statement M
-delta-mosts-spec =
+pub greatest-deltas-spec : {M : Type 1} → statement M
+greatest-deltas-spec =
     tie.close
     (tie.spec sub-by-residue by-residue-requires sub-by-residue-2 by-residue-requires-2 returns)
