@@ -41,7 +41,6 @@ module _ (n step i : ℕ) (some : 1 ≤ step) (low : i < step) (occurs : i < n) 
   which-place r e = omega (arith, div-add-mod' r step, mul-comm step (r / step))
 
   pub delta-greatest : (deltas : List ℤ) → Greatest (Residue n step i) (λ x. getD deltas (x .place) (pos 0)) (greatestDelta deltas n step i)
-  unfolding greatestDelta
   delta-greatest deltas =
       carried-over (Below (timesOf n step i)) (Residue n step i) (λ x. getD deltas (i + step * x .place) (pos 0)) (λ x. getD deltas (x .place) (pos 0))
       (maxBelow (timesOf n step i) (λ (k : ℕ). getD deltas (i + step * k) (pos 0)))

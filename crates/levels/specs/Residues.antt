@@ -14,7 +14,7 @@ abbrev pub timesOf : ℕ → ℕ → ℕ → ℕ
 timesOf n step i = (n - 1 - i) / step + 1
 
 -- the greatest of the deltas at these places
-unfoldable pub greatestDelta : List ℤ → ℕ → ℕ → ℕ → ℤ
+abbrev pub greatestDelta : List ℤ → ℕ → ℕ → ℕ → ℤ
 greatestDelta deltas n step i = maxBelow (timesOf n step i) (λ k. getD deltas (i + step * k) (pos 0))
 
 -- the greatest deltas by residue, of the residues that occur among n places

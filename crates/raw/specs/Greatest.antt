@@ -3,20 +3,16 @@ use mathlib.Core.Path.{_≡_}
 use mathlib.Core.List.{List}
 use Prim.Native.Nat.{ℕ, _+_, _*_, _≤_, _<_}
 use lib.ListN.{length}
-use Rattle.reading.specs.declared.number.Order.{Order}
 use Rattle.directory.specs.declared.tag.Values.{Values}
 use Rattle.levels.specs.Levels.{Levels}
 use Rattle.levels.specs.Residues.{ByResidue}
-use Rattle.levels.specs.declared.black.BlackKind.the-variants as kind
-use Rattle.raw.specs.Black.{CarriedRun}
 use Rattle.raw.specs.declared.greatest.GreatestDeltas.{GreatestDeltas}
 
--- the deltas of n rows or columns, or of none: they lie in the file, and all are carried
-pub record Deltas-of (f : List ℕ) (o : Order) (n : ℕ) (v : Values) : Type 0 where
+-- the deltas of n rows or columns, or of none, lie in the file
+pub record Deltas-of (f : List ℕ) (n : ℕ) (v : Values) : Type 0 where
   pub inside : v .place + v .size * v .count ≤ length f
   pub sized : 0 < v .count → v .size ≡ 8
   pub count : 0 < v .count → v .count ≡ n
-  pub carried : CarriedRun f o kind.SignedRational (v .size) (v .count) (v .place)
 
 -- the greatest deltas of the columns and of the rows, by residue
 pub record Greatest-in (l : Levels) (m : GreatestDeltas) : Type 0 where

@@ -1,12 +1,10 @@
 // M: the greatest B over the active samples of a plane. Rows a repeat apart meet the same cells, so of their deltas only the
 // greatest counts, and likewise for columns: a step for each row, each column and each cell is enough.
 ghost use mathlib.Core.Path.{_≡_};
-ghost use Prim.Native.Nat.{ℕ, _+_, _*_, _≤_, _<_};
-ghost use lib.ListN.{length};
+ghost use Prim.Native.Nat.{_≤_, _<_};
 ghost use lib.IntN.{natAbs};
 ghost use Rattle.reading.specs.Reading.{run};
-ghost use Rattle.levels.specs.Run.{runOf};
-ghost use Rattle.levels.specs.Black.{widthOf, blackAt, partsOf, greatestOf, Small};
+ghost use Rattle.levels.specs.Black.{Small};
 ghost use Rattle.levels.specs.Levels.{greatestBlack};
 ghost use Rattle.levels.specs.Residues.{greatestDelta, ByResidue, residueBlack, greatestByResidues};
 ghost use Rattle.raw.specs.Raw.{Tags-in};
@@ -18,7 +16,6 @@ use crate::area::ActiveRow;
 use crate::sample;
 use directory::tag;
 use directory::tag::Values;
-use levels::black::Black;
 use levels::black::BlackKind;
 use reading::number;
 use reading::number::Order;
@@ -27,26 +24,6 @@ use reading::number::Order;
 pub struct GreatestDeltas {
     pub columns: [i64; 8],
     pub rows: [i64; 8],
-}
-
-// The greatest of carried blacks; of none, 0.
-fn greatest_parts(
-    file: &[u8],
-    order: Order,
-    kind: BlackKind,
-    at: usize,
-    step: usize,
-    count: usize,
-) -> i64
-    requires { ⌜ ((i : ℕ) → i < count → at + step * i + widthOf kind ≤ length (now file)) × (0 < count → step ≤ 65536) ⌝ }
-    ensures { λ r. ⌜ r ≡ partsOf (greatestOf (runOf (blackAt kind order (now (file .entry))) step at count)) ⌝ }
-    ensures { λ r. ⌜ natAbs r ≤ 16776960 ⌝ }
-{
-    match levels::black::greatest(file, order, kind, at, step, count) {
-        Black::Parts(b) => b,
-        Black::Illegal => 0,
-        Black::NotCarried => 0,
-    }
 }
 
 // The greatest of the deltas `first`, `first + step` .. of `n` rows or columns; of an absent tag, 0.
@@ -58,30 +35,28 @@ fn greatest_delta(
     step: usize,
     first: usize,
 ) -> i64
-    requires { ⌜ Deltas-of (now file) order n deltas ⌝ }
+    requires { ⌜ Deltas-of (now file) n deltas ⌝ }
     requires { ⌜ (n ≤ 16384) × (1 ≤ step) × (step ≤ 8) × (first < n) ⌝ }
     ensures { λ r. ⌜ r ≡ greatestDelta (run (now (file .entry)) (blacksReading order BlackKind.SignedRational deltas)) n step first ⌝ }
     ensures { λ r. ⌜ natAbs r ≤ 16776960 ⌝ }
 {
-    let size = deltas.size;
-    let place = deltas.place;
     if deltas.count == 0 {
         return 0;
     }
     let times = (n - 1 - first) / step + 1;
-    greatest_parts(
-        file,
-        order,
-        BlackKind::SignedRational,
-        place + size * first,
-        size * step,
-        times,
-    )
+    let mut best = sample::delta_at(file, order, deltas, first);
+    let mut k = 1;
+    while k < times {
+        let next = sample::delta_at(file, order, deltas, first + step * k);
+        best = levels::greater(best, next);
+        k += 1;
+    }
+    best
 }
 
 // The greatest deltas of `n` rows or columns by residue, of the residues that occur.
 fn by_residue(file: &[u8], order: Order, deltas: Values, n: usize, step: usize) -> [i64; 8]
-    requires { ⌜ Deltas-of (now file) order n deltas ⌝ }
+    requires { ⌜ Deltas-of (now file) n deltas ⌝ }
     requires { ⌜ (n ≤ 16384) × (1 ≤ step) × (step ≤ 8) ⌝ }
     ensures { λ r. ⌜ ByResidue (run (now (file .entry)) (blacksReading order BlackKind.SignedRational deltas)) n step r ⌝ }
 {
