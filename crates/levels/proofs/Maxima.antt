@@ -103,6 +103,18 @@ below-greatest n f h =
           from-above = λ b. rw (q, ← same (b .place) (b .inside)) (leZ-refl (f (b .place)));
         }
 
+-- where all are 0, 0
+module _ (f : ℕ → ℤ) (zeros : (k : ℕ) → f k ≡ pos 0) where
+  from-zeros : (a n : ℕ) → maxFrom (pos 0) (runOf f 1 a n) ≡ pos 0
+  unfolding runOf maxFrom
+  from-zeros a zero = refl
+  from-zeros a (suc n) = rw (zeros a) (from-zeros (a + 1) n)
+
+  pub below-zeros : (n : ℕ) → maxBelow n f ≡ pos 0
+  unfolding maxBelow runOf maxOf
+  below-zeros zero = refl
+  below-zeros (suc n) = rw (zeros 0) (from-zeros (0 + 1) n)
+
 -- ---- of f 0 0 .. f (n - 1) (m - 1), row by row
 pub record Spot (n m : ℕ) : Type 0 where
   pub row : Below n

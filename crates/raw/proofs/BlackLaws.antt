@@ -31,10 +31,8 @@ use Rattle.directory.proofs.Outs.{bind-inverse}
 use Rattle.levels.specs.Run.{runOf}
 use Rattle.levels.specs.Black.{blackOf, widthOf, valueOf, blackAt, greatestOf}
 use Rattle.levels.specs.declared.black.Black.{Black}
-use Rattle.levels.specs.declared.black.Black.the-variants.{Parts, Illegal}
-use Rattle.levels.proofs.Runs.{run-same, run-at, length-run}
-use Rattle.levels.proofs.Greatest.{greatest-carried}
-use Rattle.raw.specs.Black.{kindFor, blackOut, blacksTest, CarriedRun}
+use Rattle.levels.proofs.Runs.{run-same}
+use Rattle.raw.specs.Black.{kindFor, blackOut, blacksTest}
 use Rattle.raw.specs.White.{whiteReading, whiteRule, WhitesIn}
 use Rattle.raw.proofs.Ranges.{each-to}
 
@@ -70,13 +68,6 @@ module _ (f : List ℕ) (o : Order) (k : BlackKind) (size n p : ℕ) (sized : 0 
   pub blacks-test : (tag : ℕ) (b : Black) → b ≡ greatestOf (runOf (blackAt k o f) size p n) → blackOut tag b ≡ run f (blacksTest o tag k size n p)
   unfolding blacksTest
   blacks-test tag b e = ap (blackOut tag) (e ∙ sym (ap greatestOf same-run)) ∙ sym (simp running)
-
--- where the greatest is there, every value is carried
-pub run-carried : (f : List ℕ) (o : Order) (k : BlackKind) (size n p : ℕ) (b : _) →
-    Parts b ≡ greatestOf (runOf (blackAt k o f) size p n) → CarriedRun f o k size n p
-run-carried f o k size n p b e i h =
-    let g = greatest-carried (runOf (blackAt k o f) size p n) b (sym e) i (subst (λ (m : ℕ). i < m) (sym (length-run (blackAt k o f) size p n)) h) in
-    rw (run-at (blackAt k o f) size p n i Illegal h) at g
 
 -- the white levels
 same-value : (v u : Values) → is v ≡ is u → v ≡ u

@@ -1,27 +1,20 @@
 -- The black levels: 50714, and the deltas 50715 and 50716.
-use mathlib.Core.Path.{_≡_}
-use mathlib.Core.List.{List}
-use Prim.Native.Nat.{ℕ, _+_, _*_, _<_}
+use Prim.Native.Nat.{ℕ, _*_}
 use lib.Dec.{eqb}
-use lib.ListN.{length}
 use Rattle.reading.specs.Reading.{Reading, Reading.answer, Reading.ask, pick}
 use Rattle.reading.specs.declared.number.Order.{Order}
 use Rattle.levels.specs.declared.black.BlackKind.{BlackKind}
 use Rattle.levels.specs.declared.black.BlackKind.the-variants as kind
 use Rattle.directory.specs.Out.{Out, Out.refused, Out.is, bind}
-use Rattle.directory.specs.Tag.{valuesReading, optional, Placed-values}
+use Rattle.directory.specs.Tag.{valuesReading, optional}
 use Rattle.directory.specs.Entry.{codeOf}
 use Rattle.directory.specs.declared.entry.Kind.{Kind}
 use Rattle.directory.specs.declared.Ifd.{Ifd}
-use Rattle.directory.specs.declared.Number.{Number}
-use Rattle.directory.specs.declared.Number.the-variants as number
 use Rattle.directory.specs.declared.tag.Kinds.the-variants as kinds
 use Rattle.directory.specs.declared.tag.Rule.{Rule}
 use Rattle.directory.specs.declared.tag.Values.{Values}
-use Rattle.directory.specs.declared.tag.Given.{Given}
-use Rattle.directory.specs.declared.tag.Given.the-variants as given
 use Rattle.levels.specs.Run.{runOf}
-use Rattle.levels.specs.Black.{blackAt, partsOf, greatestOf}
+use Rattle.levels.specs.Black.{blackAt, greatestOf}
 use Rattle.levels.specs.declared.black.Black.{Black}
 use Rattle.levels.specs.declared.black.Black.the-variants as black
 use Rattle.raw.specs.declared.repeat.Repeat.{Repeat}
@@ -57,19 +50,3 @@ unfoldable pub deltaReading : Ifd → ℕ → ℕ → Reading (Out Values)
 deltaReading d tag n =
     bind (valuesReading d (deltaRule tag n)) (λ v.
     bind (blacksTest (d .order) tag kind.SignedRational (v .size) (v .count) (v .place)) (λ _. answer (is v)))
-
--- every value is carried
-abbrev pub CarriedRun : List ℕ → Order → BlackKind → ℕ → ℕ → ℕ → Type 0
-CarriedRun f o k size n p = (i : ℕ) → i < n → blackAt k o f (p + size * i) ≡ black.Parts (partsOf (blackAt k o f (p + size * i)))
-
-abbrev pub AllCarried : List ℕ → Order → BlackKind → ℕ → ℕ → ℕ → Number → Type 0
-AllCarried f o k size n p (number.Refused a b) = Unit {0}
-AllCarried f o k size n p (number.Is z) = CarriedRun f o k size n p
-
-pub record Blacks-in (f : List ℕ) (o : Order) (r : Rule) (k : Kind → BlackKind) (v : Values) : Type 0 where
-  pub placed : Placed-values (length f) r v
-  pub carried : CarriedRun f o (k (v .kind)) (v .size) (v .count) (v .place)
-
-abbrev pub BlacksIn : List ℕ → Order → Rule → (Kind → BlackKind) → Given → Type 0
-BlacksIn f o r k (given.Refused n d) = Unit {0}
-BlacksIn f o r k (given.Is v) = Blacks-in f o r k v

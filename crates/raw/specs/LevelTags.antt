@@ -4,12 +4,11 @@ use Prim.Native.Nat.{ℕ}
 use lib.ListN.{length}
 use Rattle.reading.specs.Reading.{Reading, Reading.answer}
 use Rattle.reading.specs.declared.number.Order.{Order}
-use Rattle.levels.specs.declared.black.BlackKind.the-variants as kind
 use Rattle.directory.specs.Out.{Out, Out.refused, Out.is, bind}
 use Rattle.directory.specs.Tag.{Placed-values}
 use Rattle.directory.specs.declared.Ifd.{Ifd}
 use Rattle.raw.specs.Repeat.{repeatReading, Repeated-in}
-use Rattle.raw.specs.Black.{kindFor, blackReading, deltaReading, blackRule, deltaRule, Blacks-in}
+use Rattle.raw.specs.Black.{blackReading, deltaReading, blackRule, deltaRule}
 use Rattle.raw.specs.White.{whiteReading, whiteRule, tableReading, tableRule, Whites-in}
 use Rattle.raw.specs.declared.level_tags.LevelTags.{LevelTags}
 use Rattle.raw.specs.declared.level_tags.Leveled.{Leveled}
@@ -33,9 +32,9 @@ levelTagsReading d s rows columns =
 pub record Leveled-in (f : List ℕ) (o : Order) (s rows columns : ℕ) (v : LevelTags) : Type 0 where
   pub table : Placed-values (length f) tableRule (v .table)
   pub repeat : Repeated-in (v .repeat)
-  pub black : Blacks-in f o (blackRule (v .repeat) s) kindFor (v .black)
-  pub column-deltas : Blacks-in f o (deltaRule 50715 columns) (λ _. kind.SignedRational) (v .«column_deltas»)
-  pub row-deltas : Blacks-in f o (deltaRule 50716 rows) (λ _. kind.SignedRational) (v .«row_deltas»)
+  pub black : Placed-values (length f) (blackRule (v .repeat) s) (v .black)
+  pub column-deltas : Placed-values (length f) (deltaRule 50715 columns) (v .«column_deltas»)
+  pub row-deltas : Placed-values (length f) (deltaRule 50716 rows) (v .«row_deltas»)
   pub white : Whites-in f o (whiteRule s) (v .white)
 
 abbrev pub LevelTagsIn : List ℕ → Order → ℕ → ℕ → ℕ → Leveled → Type 0

@@ -6,9 +6,9 @@ ghost use Rattle.reading.specs.Reading.{run};
 ghost use Rattle.levels.specs.Black.{widthOf};
 ghost use Rattle.directory.specs.Out.{numberOut};
 ghost use Rattle.directory.specs.Shape.{Tested};
-ghost use Rattle.directory.specs.Tag.{valuesOut};
+ghost use Rattle.directory.specs.Tag.{valuesOut, ValuesIn};
 ghost use Rattle.raw.specs.Repeat.{Repeated-in};
-ghost use Rattle.raw.specs.Black.{kindFor, blacksTest, AllCarried, blackRule, blackReading, deltaRule, deltaReading, BlacksIn};
+ghost use Rattle.raw.specs.Black.{kindFor, blacksTest, blackRule, blackReading, deltaRule, deltaReading};
 use crate::repeat::Repeat;
 use directory::Ifd;
 use directory::Number;
@@ -53,7 +53,7 @@ fn check_blacks(
     place: usize,
 ) -> Number
     requires { ⌜ (place + size * count ≤ length (now file)) × (0 < count → size ≡ widthOf kind) ⌝ }
-    ensures { λ r. ⌜ (numberOut r ≡ run (now (file .entry)) (blacksTest order tag kind size count place)) × AllCarried (now (file .entry)) order kind size count place r ⌝ }
+    ensures { λ r. ⌜ numberOut r ≡ run (now (file .entry)) (blacksTest order tag kind size count place) ⌝ }
 {
     match black::greatest(file, order, kind, place, size, count) {
         Black::Parts(_) => Number::Is(0),
@@ -73,7 +73,7 @@ pub fn black_of(file: &[u8], ifd: Ifd, repeat: Repeat, samples: usize) -> Given
     requires { ⌜ Tested (now file) ifd ⌝ }
     requires { ⌜ Repeated-in repeat × (samples ≤ 3) ⌝ }
     ensures { λ r. ⌜ valuesOut r ≡ run (now (file .entry)) (blackReading ifd repeat samples) ⌝ }
-    ensures { λ r. ⌜ BlacksIn (now (file .entry)) (ifd .order) (blackRule repeat samples) kindFor r ⌝ }
+    ensures { λ r. ⌜ ValuesIn (length (now (file .entry))) (blackRule repeat samples) r ⌝ }
 {
     let cells = repeat.rows * repeat.columns * samples;
     let rule = Rule {
@@ -102,7 +102,7 @@ pub fn black_of(file: &[u8], ifd: Ifd, repeat: Repeat, samples: usize) -> Given
 pub fn delta_of(file: &[u8], ifd: Ifd, tag: usize, many: usize) -> Given
     requires { ⌜ Tested (now file) ifd ⌝ }
     ensures { λ r. ⌜ valuesOut r ≡ run (now (file .entry)) (deltaReading ifd tag many) ⌝ }
-    ensures { λ r. ⌜ BlacksIn (now (file .entry)) (ifd .order) (deltaRule tag many) (λ _. BlackKind.SignedRational) r ⌝ }
+    ensures { λ r. ⌜ ValuesIn (length (now (file .entry))) (deltaRule tag many) r ⌝ }
 {
     let rule = Rule {
         tag,
