@@ -29,7 +29,7 @@ use Rattle.directory.specs.declared.tag.Given.{Given}
 use Rattle.directory.specs.declared.tag.Given.the-variants as given
 use Rattle.directory.proofs.Outs.{bind-inverse}
 use Rattle.levels.specs.Run.{runOf}
-use Rattle.levels.specs.Black.{blackOf, widthOf, valueOf, blackAt, greatestOf}
+use Rattle.levels.specs.Black.{blackOf, widthOf, valueOf, blackAt, firstRefused}
 use Rattle.levels.specs.declared.black.Black.{Black}
 use Rattle.levels.proofs.Runs.{run-same}
 use Rattle.raw.specs.Black.{kindFor, blackOut, blacksTest}
@@ -65,9 +65,9 @@ module _ (f : List ℕ) (o : Order) (k : BlackKind) (size n p : ℕ) (sized : 0 
       let g : p + (0 + size * i) ≡ p + size * i = omega arith in
       ap (λ (bs : List ℕ). blackOf (valueOf k o bs)) (part-part f p (size * n) (0 + size * i) (widthOf k) b ∙ ap (λ (q : ℕ). part f q (widthOf k)) g))
 
-  pub blacks-test : (tag : ℕ) (b : Black) → b ≡ greatestOf (runOf (blackAt k o f) size p n) → blackOut tag b ≡ run f (blacksTest o tag k size n p)
+  pub blacks-test : (tag : ℕ) (b : Black) → b ≡ firstRefused (runOf (blackAt k o f) size p n) → blackOut tag b ≡ run f (blacksTest o tag k size n p)
   unfolding blacksTest
-  blacks-test tag b e = ap (blackOut tag) (e ∙ sym (ap greatestOf same-run)) ∙ sym (simp running)
+  blacks-test tag b e = ap (blackOut tag) (e ∙ sym (ap firstRefused same-run)) ∙ sym (simp running)
 
 -- the white levels
 same-value : (v u : Values) → is v ≡ is u → v ≡ u

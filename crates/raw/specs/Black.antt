@@ -14,7 +14,7 @@ use Rattle.directory.specs.declared.tag.Kinds.the-variants as kinds
 use Rattle.directory.specs.declared.tag.Rule.{Rule}
 use Rattle.directory.specs.declared.tag.Values.{Values}
 use Rattle.levels.specs.Run.{runOf}
-use Rattle.levels.specs.Black.{blackAt, greatestOf}
+use Rattle.levels.specs.Black.{blackAt, firstRefused}
 use Rattle.levels.specs.declared.black.Black.{Black}
 use Rattle.levels.specs.declared.black.Black.the-variants as black
 use Rattle.raw.specs.declared.repeat.Repeat.{Repeat}
@@ -31,7 +31,7 @@ blackOut tag black.NotCarried = refused 8 tag
 
 -- so many values of a size from a place on, in stored order: the first that is illegal or not carried refuses
 unfoldable pub blacksTest : Order → ℕ → BlackKind → ℕ → ℕ → ℕ → Reading (Out ℕ)
-blacksTest o tag k size n p = ask p (size * n) (λ bs. answer (blackOut tag (greatestOf (runOf (blackAt k o bs) size 0 n))))
+blacksTest o tag k size n p = ask p (size * n) (λ bs. answer (blackOut tag (firstRefused (runOf (blackAt k o bs) size 0 n))))
 
 abbrev pub blackRule : Repeat → ℕ → Rule
 blackRule r s = optional 50714 kinds.ShortLongOrRational (r .rows * r .columns * s)

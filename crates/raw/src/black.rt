@@ -55,7 +55,7 @@ fn check_blacks(
     requires { ⌜ (place + size * count ≤ length (now file)) × (0 < count → size ≡ widthOf kind) ⌝ }
     ensures { λ r. ⌜ numberOut r ≡ run (now (file .entry)) (blacksTest order tag kind size count place) ⌝ }
 {
-    match black::greatest(file, order, kind, place, size, count) {
+    match black::first_refused(file, order, kind, place, size, count) {
         Black::Parts(_) => Number::Is(0),
         Black::Illegal => Number::Refused {
             number: 4,
