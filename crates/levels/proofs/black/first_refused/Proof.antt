@@ -81,8 +81,10 @@ loop-less c = search needs
 loop-again : tie.Need-loop-again Inv-loop μ-loop
 loop-again c =
     let l = c .before .before .before .before .loop in
-    let a = c .before .before .before .before .before .before .args in
-    (omega (arith, mul-suc (a .step) (l .i), ap (λ (k : ℕ). a .step * k) (add-one (l .i)), l .inv .0), sym (next (c .before .before) _ (c .enum-told .given .1)))
+    let a = c .before .before .before .before .before .before .args in (
+      omega (arith, mul-suc (a .step) (l .i), ap (λ (k : ℕ). a .step * k) (add-one (l .i)), l .inv .0),
+      sym (next (c .before .before) _ (c .enum-told .given .1)),
+    )
 
 returns-3 : tie.Need-returns-3 Inv-loop μ-loop
 returns-3 c =
