@@ -21,7 +21,8 @@ module _ (g : ℕ → ℤ) where
   pub fill-start : (xs : List ℤ) → Small xs → Filled g 0 xs xs
   fill-start xs s = record { same = refl; below = λ k h. absurd (omega arith); small = s }
 
-  pub fill-step : (j : ℕ) (old new : List ℤ) (v : ℤ) → j < length old → v ≡ g j → natAbs v ≤ 16776960 → Filled g j old new → Filled g (j + 1) old (set new j v)
+  pub fill-step : (j : ℕ) (old new : List ℤ) (v : ℤ) → j < length old → v ≡ g j → natAbs v ≤ 16776960 →
+      Filled g j old new → Filled g (j + 1) old (set new j v)
   fill-step j old new v h e s w =
       record { same = length-set new j v ∙ w .same; below = λ k b. below k b (eqb k j) refl; small = λ k. small k (eqb k j) refl }
     where
@@ -39,7 +40,8 @@ module _ (g : ℕ → ℤ) where
       small k true q = rw (here k (eqb-true k j q)) s
       small k false q = rw (getD-set-other new j k v (pos 0) (eqb-false k j q)) (w .small k)
 
-  pub fill-end : (j count : ℕ) (old new : List ℤ) → count ≤ j → Filled g j old new → ((k : ℕ) → k < count → getD new k (pos 0) ≡ g k) × Small new
+  pub fill-end : (j count : ℕ) (old new : List ℤ) → count ≤ j → Filled g j old new →
+      ((k : ℕ) → k < count → getD new k (pos 0) ≡ g k) × Small new
   fill-end j count old new h w = (λ k b. w .below k (omega arith), w .small)
 
 -- zeros

@@ -180,7 +180,8 @@ fold-start f zero best h e = absurd (not-suc-le-zero h)
 fold-start f (suc n) best h e = let q : suc n - 1 ≡ n = omega arith in rw (e, q)
 
 module _ (f : ℕ → ℤ) (n : ℕ) where
-  pub fold-step : (i : ℕ) (best next found : ℤ) → Folded f n i best → i < n → next ≡ f i → found ≡ greaterOf best next → Folded f n (i + 1) found
+  pub fold-step : (i : ℕ) (best next found : ℤ) → Folded f n i best → i < n → next ≡ f i → found ≡ greaterOf best next →
+      Folded f n (i + 1) found
   unfolding maxFrom
   fold-step i best next found s h e g =
       let more : maxFrom best (runOf f 1 i (n - i)) ≡ maxFrom (greaterOf best (f i)) (runOf f 1 (i + 1) (n - (i + 1))) = rw (run-next f 1 i n i h) in

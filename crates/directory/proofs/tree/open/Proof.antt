@@ -29,7 +29,8 @@ not-little : (c : tie.After-starts-with2) → let a = c .before .before .before 
     sameBytes (take 4 (now (a .file))) (classicMark Little) ≡ false
 not-little c = sym (c .before .before .before .starts-with .ensures) ∙ c .before .before .if3 .left
 
-not-big : (c : tie.After-starts-with3) → let m = c .before .before .before in let a = m .before .before .before .before .before .before .before .before .args in
+not-big : (c : tie.After-starts-with3) →
+    let m = c .before .before .before in let a = m .before .before .before .before .before .before .before .before .args in
     sameBytes (take 4 (now (a .file))) (classicMark Big) ≡ false
 not-big c = sym (c .before .before .before .starts-with2 .ensures) ∙ c .before .before .if4 .left
 
