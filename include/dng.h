@@ -1,4 +1,4 @@
-/* The developed values of uncompressed DNG files, of the 32-bit or the 64-bit layout: the calls of document 01. */
+/* The developed values of uncompressed DNG files, of the 32-bit or the 64-bit layout: the calls of documents 01 and 02. */
 #ifndef DNG_H
 #define DNG_H
 
@@ -28,6 +28,11 @@ double dng_spot_value(const uint8_t *file, size_t file_len, size_t row, size_t c
 /* Three values to a pixel: X, Y, Z (D50). */
 uint64_t dng_colour_window(const uint8_t *file, size_t file_len, size_t top, size_t left, size_t height, size_t width,
                            double *out, size_t out_len);
+
+/* Half-size colour of a mosaic: top, left, height and width count in 2x2 blocks from the active corner, and a block has three
+   values, X, Y, Z (D50), of its red, the mean of its two greens and its blue. */
+uint64_t dng_half_window(const uint8_t *file, size_t file_len, size_t top, size_t left, size_t height, size_t width,
+                         double *out, size_t out_len);
 
 #ifdef __cplusplus
 }
