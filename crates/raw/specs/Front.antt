@@ -40,7 +40,7 @@ frontOut (front.Refused n d) = refused n d
 frontOut (front.Is v) = is v
 
 abbrev pub pictureOf : Ifd → Ifd → Raw → Picture
-pictureOf first d r = record { first = first; order = d .order; raw = r }
+pictureOf first d r = record { first = first; directory = d; order = d .order; raw = r }
 
 -- "1, 2, the tree, the raw tags, 9"
 unfoldable pub frontReading : ℕ → Reading (Out Picture)
@@ -59,6 +59,7 @@ RawIn f o (read.Is r) = Raw-in f o r
 pub record Picture-in (f : List ℕ) (p : Picture) : Type 0 where
   pub size : length f ≤ 67108864
   pub first : Tested f (p .first)
+  pub directory : Tested f (p .directory)
   pub raw : Raw-in f (p .order) (p .raw)
 
 abbrev pub FrontIn : List ℕ → Front → Type 0

@@ -25,9 +25,10 @@ pub enum Read {
     Is(Raw),
 }
 
-// IFD 0, the byte order, and what the raw directory says.
+// IFD 0, the raw directory, the byte order, and what the raw directory says.
 pub struct Picture {
     pub first: Ifd,
+    pub directory: Ifd,
     pub order: Order,
     pub raw: Raw,
 }
@@ -65,6 +66,11 @@ pub fn open(file: &[u8]) -> Front
     let order = ifd.order;
     match raw_of(file, ifd) {
         Read::Refused { number, detail } => Front::Refused { number, detail },
-        Read::Is(raw) => Front::Is(Picture { first, order, raw }),
+        Read::Is(raw) => Front::Is(Picture {
+            first,
+            directory: ifd,
+            order,
+            raw,
+        }),
     }
 }

@@ -24,6 +24,7 @@ pub mod greatest;
 pub mod layout;
 pub mod level_tags;
 pub mod lists;
+pub mod pattern;
 pub mod repeat;
 pub mod sample;
 pub mod spans;

@@ -1,0 +1,87 @@
+use mathlib.Core.Path.{_≡_, sym, ap, _∙_}
+use native.Mathlib.Omega.{arith}
+use Prim.Native.Nat.{_+_, _≤_}
+use denote.Ref.{now}
+use lib.ListN.{length}
+use Rattle.reading.specs.Reading.{run}
+use Rattle.directory.specs.Out.{Out.is}
+use Rattle.directory.specs.Tag.{valuesOut, valuesReading, Placed-values, optional}
+use Rattle.directory.specs.declared.tag.Kinds.the-variants as kinds
+use Rattle.directory.proofs.Outs.{bind-refused, bind-is}
+use Rattle.directory.proofs.Tags.{looked-up, counted}
+use Rattle.raw.specs.Pattern.{planesReading}
+use Rattle.raw.proofs.PatternLaws.{bytes-inside, three-bytes, three-default}
+use borrow.Author.Needs.{needs}
+use Rattle.raw.proofs.pattern.planes_of.Statement.{statement}
+use Rattle.raw.proofs.pattern.planes_of.Tie as tie
+
+-- the tag's values; where there are any, they are three bytes in the file
+values : (g : tie.After-v) → let a = g .before .before .before .before .args in
+    (is (g .v .given .0 .0) ≡ run (now (a .file)) (valuesReading (a .ifd) (optional 50710 kinds.Byte 3)))
+    × Placed-values (length (now (a .file))) (optional 50710 kinds.Byte 3) (g .v .given .0 .0)
+values g = let a = g .before .before .before .before .args in looked-up (now (a .file)) (a .ifd) _ (g .v .given .1) (g .before .before .look-up .ensures)
+
+inside : (k : tie.Else1) → let g = k .before .before in
+    g .v .given .0 .0 .place + 3 ≤ length (now (g .before .before .before .before .args .file))
+inside k = bytes-inside _ _ (k .before .before .v .given .0 .0) (counted 50710 kinds.Byte 3 (values (k .before .before) .1) (k .if1 .left))
+
+look-up-requires : tie.Need-look-up-requires
+look-up-requires c κs = search needs
+
+enum-known-number : tie.Need-enum-known-number
+enum-known-number c = search needs
+
+returns : tie.Need-returns
+unfolding planesReading
+returns c = bind-refused _ _ _ _ _ (ap valuesOut (sym (c .before .number .given .1)) ∙ c .before .before .before .look-up .ensures .0)
+
+enum-known-v : tie.Need-enum-known-v
+enum-known-v c = search needs
+
+planes-requires : tie.Need-planes-requires
+planes-requires c κs = search needs
+
+returns-2 : tie.Need-returns-2
+unfolding planesReading
+returns-2 c =
+    let k = c .before .before .before in
+    c .planes .ensures ∙ three-default _ _ (k .v .given .0 .0) (c .before .if1 .taken) ∙ sym (bind-is _ _ _ _ (values k .0))
+
+byte-requires : tie.Need-byte-requires
+byte-requires c κs = omega (arith, inside c)
+
+cast-a : tie.Need-cast-a
+cast-a c = search needs
+
+add-byte : tie.Need-add-byte
+add-byte c = omega (arith, inside (c .before))
+
+byte-requires-2 : tie.Need-byte-requires-2
+byte-requires-2 c κs = omega (arith, inside (c .before))
+
+cast-b : tie.Need-cast-b
+cast-b c = search needs
+
+add-byte-2 : tie.Need-add-byte-2
+add-byte-2 c = omega (arith, inside (c .before .before))
+
+byte-requires-3 : tie.Need-byte-requires-3
+byte-requires-3 c κs = omega (arith, inside (c .before .before))
+
+cast-c : tie.Need-cast-c
+cast-c c = search needs
+
+planes-requires-2 : tie.Need-planes-requires-2
+planes-requires-2 c κs = search needs
+
+returns-3 : tie.Need-returns-3
+unfolding planesReading
+returns-3 c =
+    let k = c .before .before .before .before .before .before in
+    let q = three-bytes _ _ (k .v .given .0 .0) _ _ _ (c .before .before .before .byte .ensures .0) (c .before .before .byte2 .ensures .0)
+    (c .before .byte3 .ensures .0) (c .before .before .before .before .if1 .left) in
+    c .planes2 .ensures ∙ q ∙ sym (bind-is _ _ _ _ (values k .0))
+
+pub planes-of-spec : {M : Type 1} → statement M
+planes-of-spec = tie.close (tie.spec look-up-requires enum-known-number returns enum-known-v planes-requires returns-2 byte-requires cast-a add-byte
+    byte-requires-2 cast-b add-byte-2 byte-requires-3 cast-c planes-requires-2 returns-3)

@@ -1,0 +1,95 @@
+-- The mosaic's pattern: 33421, 33422, 50710, 50711. Only half windows ask for it.
+use mathlib.Core.Bool.{_&&_}
+use Prim.Native.Nat.{ℕ, _+_, _<_}
+use lib.Dec.{eqb}
+use Rattle.reading.specs.Reading.{Reading, Reading.answer, andThen, pick, numberAt}
+use Rattle.reading.specs.declared.number.Order.{Order}
+use Rattle.directory.specs.Out.{Out, Out.refused, Out.is, bind}
+use Rattle.directory.specs.Tag.{valuesReading, oneReading, allReading, required, optional, range}
+use Rattle.directory.specs.declared.Ifd.{Ifd}
+use Rattle.directory.specs.declared.tag.Kinds.the-variants as kinds
+use Rattle.directory.specs.declared.tag.Values.{Values}
+use Rattle.raw.specs.declared.pattern.Pattern.{Pattern}
+use Rattle.raw.specs.declared.pattern.Patterned.{Patterned}
+use Rattle.raw.specs.declared.pattern.Patterned.the-variants as patterned
+
+abbrev pub patternOut : Patterned → Out Pattern
+patternOut (patterned.Refused n d) = refused n d
+patternOut (patterned.Is v) = is v
+
+-- how many of four numbers are x
+unfoldable pub oneOf : ℕ → ℕ → ℕ
+oneOf v x = pick (eqb v x) 1 0
+
+abbrev pub timesOf : ℕ → ℕ → ℕ → ℕ → ℕ → ℕ
+timesOf x a b c d = oneOf a x + oneOf b x + oneOf c x + oneOf d x
+
+-- the place of the first x among four numbers that have one, and of the last
+unfoldable pub firstOf : ℕ → ℕ → ℕ → ℕ → ℕ
+firstOf x a b c = pick (eqb a x) 0 (pick (eqb b x) 1 (pick (eqb c x) 2 3))
+
+unfoldable pub lastOf : ℕ → ℕ → ℕ → ℕ → ℕ
+lastOf x b c d = pick (eqb d x) 3 (pick (eqb c x) 2 (pick (eqb b x) 1 0))
+
+-- "Carried patterns hold one 0, two 1 and one 2"; the greens in row order
+unfoldable pub placesOf : ℕ → ℕ → ℕ → ℕ → Out Pattern
+placesOf a b c d =
+    pick (eqb (timesOf 0 a b c d) 1 && (eqb (timesOf 1 a b c d) 2 && eqb (timesOf 2 a b c d) 1))
+    (is (record { red = firstOf 0 a b c; green1 = firstOf 1 a b c; green2 = lastOf 1 b c d; blue = firstOf 2 a b c }))
+    (refused 8 33422)
+
+-- four BYTEs, the colours of a block row by row
+unfoldable pub fourReading : Order → Values → Reading (Out Pattern)
+fourReading o v =
+    andThen (numberAt o (v .place) 1) (λ a.
+    andThen (numberAt o (v .place + 1) 1) (λ b.
+    andThen (numberAt o (v .place + 2) 1) (λ c.
+    andThen (numberAt o (v .place + 3) 1) (λ d.
+    answer (placesOf a b c d)))))
+
+-- "default 0, 1, 2, only that carried"
+unfoldable pub planesOf : ℕ → ℕ → ℕ → Out ℕ
+planesOf a b c = pick (eqb a 0 && (eqb b 1 && eqb c 2)) (is 0) (refused 8 50710)
+
+unfoldable pub threeReading : Order → Values → Reading (Out ℕ)
+threeReading o v =
+    pick (eqb (v .count) 0) (answer (planesOf 0 1 2))
+    (andThen (numberAt o (v .place) 1) (λ a.
+    andThen (numberAt o (v .place + 1) 1) (λ b.
+    andThen (numberAt o (v .place + 2) 1) (λ c.
+    answer (planesOf a b c)))))
+
+-- CFARepeatPatternDim: "33421, SHORT 2, only 2, 2 carried"
+abbrev pub dimReading : Ifd → Reading (Out Values)
+dimReading d = allReading d (required 33421 kinds.Short 2) (range 0 2 2)
+
+-- CFAPattern: "33422, BYTE 4"
+unfoldable pub coloursReading : Ifd → Reading (Out Pattern)
+coloursReading d = bind (valuesReading d (required 33422 kinds.Byte 4)) (fourReading (d .order))
+
+-- CFAPlaneColor: "50710, BYTE 3"
+unfoldable pub planesReading : Ifd → Reading (Out ℕ)
+planesReading d = bind (valuesReading d (optional 50710 kinds.Byte 3)) (threeReading (d .order))
+
+-- CFALayout: "50711, SHORT 1, default 1, only 1 carried"
+abbrev pub layoutReading : Ifd → Reading (Out ℕ)
+layoutReading d = oneReading d (optional 50711 kinds.Short 1) 1 (range 0 1 1)
+
+-- "on each tag in turn"
+unfoldable pub patternReading : Ifd → Reading (Out Pattern)
+patternReading d =
+    bind (dimReading d) (λ _.
+    bind (coloursReading d) (λ p.
+    bind (planesReading d) (λ _.
+    bind (layoutReading d) (λ _.
+    answer (is p)))))
+
+pub record Pattern-in (p : Pattern) : Type 0 where
+  pub red : p .red < 4
+  pub green1 : p .green1 < 4
+  pub green2 : p .green2 < 4
+  pub blue : p .blue < 4
+
+abbrev pub PatternIn : Patterned → Type 0
+PatternIn (patterned.Refused n d) = Unit {0}
+PatternIn (patterned.Is p) = Pattern-in p

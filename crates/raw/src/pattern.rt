@@ -1,0 +1,225 @@
+// The mosaic's pattern: 33421, 33422, 50710, 50711.
+ghost use mathlib.Core.Path.{_≡_};
+ghost use Prim.Native.Nat.{_≤_, _<_};
+ghost use Rattle.reading.specs.Reading.{run};
+ghost use Rattle.directory.specs.Out.{numberOut};
+ghost use Rattle.directory.specs.Shape.{Tested};
+ghost use Rattle.directory.specs.Tag.{valuesOut};
+ghost use Rattle.raw.specs.Pattern.{oneOf, timesOf, firstOf, lastOf, patternOut, PatternIn, placesOf, dimReading, coloursReading, planesOf, planesReading, layoutReading, patternReading};
+use directory::Ifd;
+use directory::Number;
+use directory::tag;
+use directory::tag::Given;
+use directory::tag::Kinds;
+use directory::tag::Range;
+use directory::tag::Rule;
+use reading::number;
+
+// The places of a block's red, its two greens and its blue: 0 to 3, row by row.
+pub struct Pattern {
+    pub red: usize,
+    pub green1: usize,
+    pub green2: usize,
+    pub blue: usize,
+}
+
+pub enum Patterned {
+    Refused { number: usize, detail: usize },
+    Is(Pattern),
+}
+
+// 1 where two numbers are the same, else 0.
+fn one(v: usize, x: usize) -> usize
+    ensures { λ r. ⌜ (r ≡ oneOf v x) × (r ≤ 1) ⌝ }
+{
+    if v == x { 1 } else { 0 }
+}
+
+// How many of four numbers are x.
+fn times(x: usize, a: usize, b: usize, c: usize, d: usize) -> usize
+    ensures { λ r. ⌜ r ≡ timesOf x a b c d ⌝ }
+{
+    one(a, x) + one(b, x) + one(c, x) + one(d, x)
+}
+
+// The place of the first x of four numbers: the fourth, if it is none of the others.
+fn first(x: usize, a: usize, b: usize, c: usize) -> usize
+    ensures { λ r. ⌜ (r ≡ firstOf x a b c) × (r < 4) ⌝ }
+{
+    if a == x {
+        return 0;
+    }
+    if b == x {
+        return 1;
+    }
+    if c == x { 2 } else { 3 }
+}
+
+// And of the last: the first, if it is none of the others.
+fn last(x: usize, b: usize, c: usize, d: usize) -> usize
+    ensures { λ r. ⌜ (r ≡ lastOf x b c d) × (r < 4) ⌝ }
+{
+    if d == x {
+        return 3;
+    }
+    if c == x {
+        return 2;
+    }
+    if b == x { 1 } else { 0 }
+}
+
+// The places of four colours.
+fn places(a: usize, b: usize, c: usize, d: usize) -> Patterned
+    ensures { λ r. ⌜ (patternOut r ≡ placesOf a b c d) × PatternIn r ⌝ }
+{
+    if times(0, a, b, c, d) == 1 {
+        if times(1, a, b, c, d) == 2 {
+            if times(2, a, b, c, d) == 1 {
+                return Patterned::Is(Pattern {
+                    red: first(0, a, b, c),
+                    green1: first(1, a, b, c),
+                    green2: last(1, b, c, d),
+                    blue: first(2, a, b, c),
+                });
+            }
+        }
+    }
+    Patterned::Refused {
+        number: 8,
+        detail: 33422,
+    }
+}
+
+// 33421.
+fn dim_of(file: &[u8], ifd: Ifd) -> Given
+    requires { ⌜ Tested (now file) ifd ⌝ }
+    ensures { λ r. ⌜ valuesOut r ≡ run (now (file .entry)) (dimReading ifd) ⌝ }
+{
+    let rule = Rule {
+        tag: 33421,
+        kinds: Kinds::Short,
+        required: true,
+        least: 2,
+        most: 2,
+    };
+    let range = Range {
+        legal: 0,
+        from: 2,
+        to: 2,
+    };
+    tag::all(file, ifd, rule, range)
+}
+
+// 33422.
+fn colours_of(file: &[u8], ifd: Ifd) -> Patterned
+    requires { ⌜ Tested (now file) ifd ⌝ }
+    ensures { λ r. ⌜ (patternOut r ≡ run (now (file .entry)) (coloursReading ifd)) × PatternIn r ⌝ }
+{
+    let rule = Rule {
+        tag: 33422,
+        kinds: Kinds::Byte,
+        required: true,
+        least: 4,
+        most: 4,
+    };
+    let v = match tag::look_up(file, ifd, rule) {
+        Given::Refused { number, detail } => return Patterned::Refused { number, detail },
+        Given::Is(v) => v,
+    };
+    let place = v.place;
+    let order = ifd.order;
+    let a = number::byte(file, order, place) as usize;
+    let b = number::byte(file, order, place + 1) as usize;
+    let c = number::byte(file, order, place + 2) as usize;
+    let d = number::byte(file, order, place + 3) as usize;
+    places(a, b, c, d)
+}
+
+// 8 of three planes' colours that are not 0, 1, 2.
+fn planes(a: usize, b: usize, c: usize) -> Number
+    ensures { λ r. ⌜ numberOut r ≡ planesOf a b c ⌝ }
+{
+    if a == 0 {
+        if b == 1 {
+            if c == 2 {
+                return Number::Is(0);
+            }
+        }
+    }
+    Number::Refused {
+        number: 8,
+        detail: 50710,
+    }
+}
+
+// 50710.
+fn planes_of(file: &[u8], ifd: Ifd) -> Number
+    requires { ⌜ Tested (now file) ifd ⌝ }
+    ensures { λ r. ⌜ numberOut r ≡ run (now (file .entry)) (planesReading ifd) ⌝ }
+{
+    let rule = Rule {
+        tag: 50710,
+        kinds: Kinds::Byte,
+        required: false,
+        least: 3,
+        most: 3,
+    };
+    let v = match tag::look_up(file, ifd, rule) {
+        Given::Refused { number, detail } => return Number::Refused { number, detail },
+        Given::Is(v) => v,
+    };
+    let count = v.count;
+    if count == 0 {
+        return planes(0, 1, 2);
+    }
+    let place = v.place;
+    let order = ifd.order;
+    let a = number::byte(file, order, place) as usize;
+    let b = number::byte(file, order, place + 1) as usize;
+    let c = number::byte(file, order, place + 2) as usize;
+    planes(a, b, c)
+}
+
+// 50711.
+fn layout_of(file: &[u8], ifd: Ifd) -> Number
+    requires { ⌜ Tested (now file) ifd ⌝ }
+    ensures { λ r. ⌜ numberOut r ≡ run (now (file .entry)) (layoutReading ifd) ⌝ }
+{
+    let rule = Rule {
+        tag: 50711,
+        kinds: Kinds::Short,
+        required: false,
+        least: 1,
+        most: 1,
+    };
+    let range = Range {
+        legal: 0,
+        from: 1,
+        to: 1,
+    };
+    tag::one(file, ifd, rule, 1, range)
+}
+
+// The four tags of the raw IFD, in order of test.
+pub fn pattern_of(file: &[u8], ifd: Ifd) -> Patterned
+    requires { ⌜ Tested (now file) ifd ⌝ }
+    ensures { λ r. ⌜ (patternOut r ≡ run (now (file .entry)) (patternReading ifd)) × PatternIn r ⌝ }
+{
+    match dim_of(file, ifd) {
+        Given::Refused { number, detail } => return Patterned::Refused { number, detail },
+        Given::Is(_) => {}
+    }
+    let pattern = match colours_of(file, ifd) {
+        Patterned::Refused { number, detail } => return Patterned::Refused { number, detail },
+        Patterned::Is(p) => p,
+    };
+    match planes_of(file, ifd) {
+        Number::Refused { number, detail } => return Patterned::Refused { number, detail },
+        Number::Is(_) => {}
+    }
+    match layout_of(file, ifd) {
+        Number::Refused { number, detail } => return Patterned::Refused { number, detail },
+        Number::Is(_) => {}
+    }
+    Patterned::Is(pattern)
+}
