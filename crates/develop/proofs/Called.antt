@@ -28,7 +28,7 @@ use Rattle.develop.specs.View.{Viewed}
 use Rattle.develop.specs.Fill.{Fill-in, windowFault}
 use Rattle.develop.specs.declared.View.{View}
 use Rattle.develop.specs.declared.Answer.{Answer}
-use Rattle.develop.specs.declared.SpotAnswer.{SpotAnswer}
+use Rattle.develop.specs.declared.spot.SpotAnswer.{SpotAnswer}
 use Rattle.develop.proofs.Answers.{developed-alone, within-active, inside-fits, values-same}
 use Rattle.develop.proofs.Windows.{viewed-alone}
 use Rattle.develop.proofs.Colours.{pass-values}

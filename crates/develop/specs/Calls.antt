@@ -22,8 +22,8 @@ use Rattle.colour.specs.Tags.{colourReading}
 use Rattle.colour.specs.Pixel.{xyzOf}
 use Rattle.colour.specs.declared.Colour.{Colour}
 use Rattle.colour.specs.declared.pixel.Xyz.{Xyz}
-use Rattle.develop.specs.declared.CardAnswer.{CardAnswer}
-use Rattle.develop.specs.declared.SpotAnswer.{SpotAnswer}
+use Rattle.develop.specs.declared.card.CardAnswer.{CardAnswer}
+use Rattle.develop.specs.declared.spot.SpotAnswer.{SpotAnswer}
 use Rattle.develop.specs.declared.Answer.{Answer}
 
 -- ---- what the tests before 13 leave

@@ -3,7 +3,7 @@ use Prim.Native.Nat.{ℕ, _+_, _*_}
 use mathlib.Core.Bool.{_&&_}
 use lib.Dec.{eqb, ltb}
 use Rattle.reading.specs.Reading.{pick}
-use Rattle.develop.specs.declared.CardAnswer.{CardAnswer}
+use Rattle.develop.specs.declared.card.CardAnswer.{CardAnswer}
 
 -- 0 number, 1 detail, 2 active rows, 3 active columns, 4 samples, 5 opcodes kept, 6 opcodes skipped; other: 0
 unfoldable pub fieldOf : CardAnswer → ℕ → ℕ

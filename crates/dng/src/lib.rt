@@ -2,7 +2,11 @@
 ghost use mathlib.Core.Path.{_≡_};
 ghost use Rattle.develop.specs.Calls.{cardCall, spotCall, windowCall, colourWindowCall};
 ghost use Rattle.dng.specs.Field.{fieldOf, packedOf};
-use develop::CardAnswer;
+use develop::card;
+use develop::card::CardAnswer;
+use develop::colour_window;
+use develop::spot;
+use develop::window;
 
 // One number of a card.
 fn field(card: CardAnswer, which: u32) -> u64
@@ -34,7 +38,7 @@ fn field(card: CardAnswer, which: u32) -> u64
 pub extern "C" fn dng_card(file: &[u8], which: u32) -> u64
     ensures { λ r. ⌜ r ≡ fieldOf (cardCall (now (file .entry))) which ⌝ }
 {
-    field(develop::card(file), which)
+    field(card::card(file), which)
 }
 
 // A number and its detail in one: number * 2^32 + detail.
@@ -61,7 +65,7 @@ pub extern "C" fn dng_window(
     ensures { λ r. ⌜ r ≡ packedOf (windowCall (now (file .entry)) top left height width (now (out .entry)) .number) (windowCall (now (file .entry)) top left height width (now (out .entry)) .detail) ⌝ }
     ensures { λ r. ⌜ now (out .exit) ≡ windowCall (now (file .entry)) top left height width (now (out .entry)) .slice ⌝ }
 {
-    let answer = develop::window(file, top, left, height, width, out);
+    let answer = window::window(file, top, left, height, width, out);
     packed(answer.number, answer.detail)
 }
 
@@ -69,7 +73,7 @@ pub extern "C" fn dng_window(
 pub extern "C" fn dng_spot(file: &[u8], row: usize, column: usize, plane: usize) -> u64
     ensures { λ r. ⌜ r ≡ packedOf (spotCall (now (file .entry)) row column plane .number) (spotCall (now (file .entry)) row column plane .detail) ⌝ }
 {
-    let answer = develop::spot(file, row, column, plane);
+    let answer = spot::spot(file, row, column, plane);
     packed(answer.number, answer.detail)
 }
 
@@ -77,7 +81,7 @@ pub extern "C" fn dng_spot(file: &[u8], row: usize, column: usize, plane: usize)
 pub extern "C" fn dng_spot_value(file: &[u8], row: usize, column: usize, plane: usize) -> f64
     ensures { λ r. ⌜ r ≡ spotCall (now (file .entry)) row column plane .value ⌝ }
 {
-    let answer = develop::spot(file, row, column, plane);
+    let answer = spot::spot(file, row, column, plane);
     answer.value
 }
 
@@ -93,6 +97,6 @@ pub extern "C" fn dng_colour_window(
     ensures { λ r. ⌜ r ≡ packedOf (colourWindowCall (now (file .entry)) top left height width (now (out .entry)) .number) (colourWindowCall (now (file .entry)) top left height width (now (out .entry)) .detail) ⌝ }
     ensures { λ r. ⌜ now (out .exit) ≡ colourWindowCall (now (file .entry)) top left height width (now (out .entry)) .slice ⌝ }
 {
-    let answer = develop::colour_window(file, top, left, height, width, out);
+    let answer = colour_window::colour_window(file, top, left, height, width, out);
     packed(answer.number, answer.detail)
 }

@@ -14,6 +14,7 @@ ghost use Rattle.rows.specs.Part.{Units, Sized-in};
 ghost use Rattle.listing.specs.Text.{decimalOf, valueText, valuesText, refusedText, frameText, listedOf, bodyText};
 ghost use Rattle.listing.specs.Body.{Puts, linesText, Listed, Headed};
 use develop::Opening;
+use develop::window;
 use libc::STDIN_FILENO;
 use libc::STDOUT_FILENO;
 use opcodes::grid::Size;
@@ -172,7 +173,7 @@ fn put_rows(
 {
     let width = size.columns * size.samples;
     let m = height * width;
-    develop::window(file, top, 0, height, size.columns, &mut values[..m]);
+    window::window(file, top, 0, height, size.columns, &mut values[..m]);
     put_lines(text, &values[..m], height, width)
 }
 

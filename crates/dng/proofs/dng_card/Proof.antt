@@ -1,5 +1,5 @@
 use mathlib.Core.Path.{ap, _∙_}
-use Rattle.develop.specs.declared.CardAnswer.{CardAnswer}
+use Rattle.develop.specs.declared.card.CardAnswer.{CardAnswer}
 use Rattle.dng.specs.Field.{fieldOf}
 use borrow.Author.Needs.{needs}
 use Rattle.dng.proofs.dng_card.Statement.{statement}

@@ -2,7 +2,7 @@ use mathlib.Core.Path.{_≡_, refl, sym, ap, _∙_}
 use Prim.Native.Nat.{ℕ}
 use native.Mathlib.Omega.{arith}
 use denote.Ref.{now}
-use Rattle.develop.specs.declared.SpotAnswer.{SpotAnswer}
+use Rattle.develop.specs.declared.spot.SpotAnswer.{SpotAnswer}
 use Rattle.dng.proofs.Answered.{both}
 use borrow.Author.Needs.{needs}
 use Rattle.dng.proofs.dng_spot.Statement.{statement}

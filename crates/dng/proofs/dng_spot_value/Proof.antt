@@ -1,5 +1,5 @@
 use mathlib.Core.Path.{ap}
-use Rattle.develop.specs.declared.SpotAnswer.{SpotAnswer}
+use Rattle.develop.specs.declared.spot.SpotAnswer.{SpotAnswer}
 use borrow.Author.Needs.{needs}
 use Rattle.dng.proofs.dng_spot_value.Statement.{statement}
 use Rattle.dng.proofs.dng_spot_value.Tie as tie

@@ -1,0 +1,92 @@
+// A window.
+ghost use mathlib.Core.Path.{_≡_};
+ghost use mathlib.Core.Bool.{_&&_};
+ghost use Prim.Native.Nat.{_+_, _≤_};
+ghost use lib.Dec.{leb};
+ghost use Rattle.rows.specs.Part.{Sized-in};
+ghost use Rattle.develop.specs.Calls.{windowWith, windowCall};
+ghost use Rattle.develop.specs.View.{Viewed};
+ghost use Rattle.develop.specs.Fill.{windowFault};
+use crate::Answer;
+use crate::Opening;
+use crate::View;
+use crate::fill;
+use opcodes::grid::Size;
+
+// Whether so many from a first one on are some and lie below an end. Nothing wraps.
+fn spans(first: usize, count: usize, end: usize) -> bool
+    ensures { λ r. ⌜ r ≡ (leb 1 count && leb (first + count) end) ⌝ }
+{
+    if count < 1 {
+        return false;
+    }
+    if end < count {
+        return false;
+    }
+    first <= end - count
+}
+
+// 13 and 14 of a window with so many values to a pixel; 0 where neither refuses.
+pub fn window_fault(
+    size: Size,
+    values: usize,
+    top: usize,
+    left: usize,
+    height: usize,
+    width: usize,
+    len: usize,
+) -> usize
+    requires { ⌜ Sized-in size × (values ≤ 3) ⌝ }
+    ensures { λ r. ⌜ r ≡ windowFault size values top left height width len ⌝ }
+{
+    if spans(top, height, size.rows) {
+        if spans(left, width, size.columns) {
+            return if len == height * width * values {
+                0
+            } else {
+                14
+            };
+        }
+    }
+    13
+}
+
+// A window of an accepted file.
+fn window_in(
+    file: &[u8],
+    view: View,
+    top: usize,
+    left: usize,
+    height: usize,
+    width: usize,
+    out: &mut [f64],
+) -> Answer
+    requires { ⌜ Viewed (now file) view ⌝ }
+    ensures { λ r. ⌜ windowWith r (now (out .exit)) ≡ windowCall (now (file .entry)) top left height width (now (out .entry)) ⌝ }
+{
+    let size = view.size;
+    let fault = window_fault(size, size.samples, top, left, height, width, out.len());
+    if fault == 0 {
+        fill::fill_window(file, view, top, left, height, width, out);
+    }
+    Answer {
+        number: fault,
+        detail: 0,
+    }
+}
+
+pub fn window(
+    file: &[u8],
+    top: usize,
+    left: usize,
+    height: usize,
+    width: usize,
+    out: &mut [f64],
+) -> Answer
+    ensures { λ r. ⌜ windowWith r (now (out .exit)) ≡ windowCall (now (file .entry)) top left height width (now (out .entry)) ⌝ }
+{
+    match crate::open(file) {
+        Opening::Refused { number, detail } => Answer { number, detail },
+        Opening::Is(view) => window_in(file, view, top, left, height, width, out),
+    }
+}
