@@ -124,7 +124,7 @@ module _ (f : List ℕ) (v : View) (q : Viewed f v) (t l h w : ℕ) (old : List 
   abbrev file : Opened
   file = q .file
 
-  size-is : sizeOf (file .picture) ≡ v .size
+  pub size-is : sizeOf (file .picture) ≡ v .size
   size-is = ap sizeOf (q .picture) ∙ sym (q .size)
 
   unfoldable pub fill-in : (n : ℕ) → n ≡ v .size .samples → 0 ≡ windowFault (v .size) n t l h w (length old) → Fill-in f v t l h w old

@@ -1,5 +1,5 @@
--- The four calls: what each one answers, for every string of bytes and every argument, by equations.
-use Prim.Native.Nat.{ℕ, _+_, _*_}
+-- The five calls: what each one answers, for every string of bytes and every argument, by equations.
+use Prim.Native.Nat.{ℕ, _+_, _*_, _/_, _%_}
 use mathlib.Core.Bool.{Bool, _&&_}
 use mathlib.Core.List.{List, [], _∷_, _++_}
 use lib.Dec.{leb, ltb, eqb}
@@ -11,6 +11,7 @@ use Rattle.levels.specs.Clip.{plusZero}
 use Rattle.levels.specs.Run.{runOf}
 use Rattle.raw.specs.Raw.{activeRows, activeColumns}
 use Rattle.raw.specs.Front.{frontReading}
+use Rattle.raw.specs.Pattern.{patternReading}
 use Rattle.raw.specs.Stored.{Stored, storedReading}
 use Rattle.raw.specs.Sample.{scaledOf}
 use Rattle.raw.specs.declared.front.Picture.{Picture}
@@ -19,12 +20,13 @@ use Rattle.opcodes.specs.OpcodeList.{listReading, keptIn, skippedIn}
 use Rattle.opcodes.specs.Frame.{Frame, framed, standing, through}
 use Rattle.opcodes.specs.declared.grid.Size.{Size}
 use Rattle.colour.specs.Tags.{colourReading}
-use Rattle.colour.specs.Pixel.{xyzOf}
+use Rattle.colour.specs.Pixel.{xyzOf, meanOf}
 use Rattle.colour.specs.declared.Colour.{Colour}
 use Rattle.colour.specs.declared.pixel.Xyz.{Xyz}
 use Rattle.develop.specs.declared.card.CardAnswer.{CardAnswer}
 use Rattle.develop.specs.declared.spot.SpotAnswer.{SpotAnswer}
 use Rattle.develop.specs.declared.Answer.{Answer}
+use Rattle.develop.specs.declared.half_window.Half.{Half}
 
 -- ---- what the tests before 13 leave
 
@@ -56,6 +58,13 @@ opened f = runWhole f openReading
 abbrev pub colourFor : Picture → Reading (Out Colour)
 colourFor p = pick (eqb (p .raw .tags .frame .samples) 3) (colourReading (p .first)) (answer (refused 15 0))
 
+-- "15 for LinearRaw"; "on each tag in turn, after the colour tags", of the raw directory
+unfoldable pub halfFor : Picture → Reading (Out Half)
+halfFor p =
+    pick (eqb (p .raw .tags .frame .samples) 1)
+    (bind (colourReading (p .first)) (λ m. bind (patternReading (p .directory)) (λ q. answer (is (record { colour = m; pattern = q })))))
+    (answer (refused 15 0))
+
 -- ---- the developed frame
 
 -- the scaled value at an active row, an active column and a plane
@@ -73,6 +82,25 @@ channelOf v k = pick (eqb k 0) (v .x) (pick (eqb k 1) (v .y) (v .z))
 
 abbrev pub pixelIn : Colour → Frame → ℕ → ℕ → ℕ → Float
 pixelIn m q r c k = channelOf (xyzOf m (standing q r c 0) (standing q r c 1) (standing q r c 2)) k
+
+-- ---- a block of a mosaic
+
+-- "Each whole 2x2 block from the active corner": so many rows and columns of them, with three values each
+abbrev pub blocksOf : Size → Size
+blocksOf z = record { rows = z .rows / 2; columns = z .columns / 2; samples = 3 }
+
+-- the number at a place of the block in row i and column j of blocks; a block's four places count row by row
+abbrev pub blockAt : (ℕ → ℕ → ℕ → Float) → ℕ → ℕ → ℕ → Float
+blockAt x i j k = x (2 * i + k / 2) (2 * j + k % 2) 0
+
+-- "developed red, (first green + second green in row order) * 0.5, blue. These three then go through the colour step"
+abbrev pub blockXyz : Half → (ℕ → ℕ → ℕ → Float) → ℕ → ℕ → Xyz
+blockXyz m x i j =
+    let p = m .pattern in
+    xyzOf (m .colour) (blockAt x i j (p .red)) (meanOf (blockAt x i j (p .green1)) (blockAt x i j (p .green2))) (blockAt x i j (p .blue))
+
+abbrev pub blockIn : Half → (ℕ → ℕ → ℕ → Float) → ℕ → ℕ → ℕ → Float
+blockIn m x i j k = channelOf (blockXyz m x i j) k
 
 -- ---- card: "active rows, active columns, samples per pixel, corrections kept, corrections skipped"
 
@@ -161,3 +189,16 @@ colourWindowOf f t l h w old (is o) = colouredOf f t l h w old o (run f (colourF
 
 abbrev pub colourWindowCall : List ℕ → ℕ → ℕ → ℕ → ℕ → List Float → Window
 colourWindowCall f t l h w old = colourWindowOf f t l h w old (opened f)
+
+-- ---- half window: "Windows of this new call count in blocks"
+
+abbrev pub halvedOf : List ℕ → ℕ → ℕ → ℕ → ℕ → List Float → Opened → Out Half → Window
+halvedOf f t l h w old o (refused n d) = refusedWindow n d old
+halvedOf f t l h w old o (is m) = filledOf (blocksOf (sizeOf (o .picture))) 3 t l h w old (blockIn m (standing (frameOf f o)))
+
+abbrev pub halfWindowOf : List ℕ → ℕ → ℕ → ℕ → ℕ → List Float → Out Opened → Window
+halfWindowOf f t l h w old (refused n d) = refusedWindow n d old
+halfWindowOf f t l h w old (is o) = halvedOf f t l h w old o (run f (halfFor (o .picture)))
+
+abbrev pub halfWindowCall : List ℕ → ℕ → ℕ → ℕ → ℕ → List Float → Window
+halfWindowCall f t l h w old = halfWindowOf f t l h w old (opened f)

@@ -1,21 +1,25 @@
 -- The mosaic's pattern, case by case.
 -- Assumes nothing.
-use mathlib.Core.Path.{_≡_, sym, _∙_}
+use mathlib.Core.Path.{_≡_, refl, sym, _∙_, subst}
+use mathlib.Core.Bool.{Bool, true, false, _&&_}
 use mathlib.Core.List.{List}
-use Prim.Native.Nat.{ℕ, _+_, _*_, _≤_}
+use Prim.Native.Nat.{ℕ, _+_, _*_, _≤_, _<_}
 use native.Mathlib.Nat.{one-mul}
 use native.Mathlib.Omega.{arith}
+use lib.Dec.{eqb}
 use borrow.Author.Tests.{eq-eqb, ne-eqb}
 use Rattle.reading.specs.Bytes.{part}
 use Rattle.reading.specs.Number.{numberOf}
-use Rattle.reading.specs.Reading.{run}
+use Rattle.reading.specs.Reading.{run, pick}
 use Rattle.reading.specs.declared.number.Order.{Order}
 use Rattle.reading.proofs.Reading.{running, run-answer, pick-yes, pick-no}
 use Rattle.directory.specs.Out.{Out.refused, Out.is}
 use Rattle.directory.specs.declared.Ifd.{Ifd}
 use Rattle.directory.specs.declared.tag.Values.{Values}
-use Rattle.directory.proofs.Outs.{bind-refused, bind-is}
-use Rattle.raw.specs.Pattern.{oneOf, timesOf, firstOf, lastOf, placesOf, fourReading, planesOf, threeReading, dimReading, coloursReading, planesReading, layoutReading, patternReading}
+use Rattle.directory.specs.declared.tag.Kinds.the-variants as kinds
+use Rattle.directory.specs.Tag.{valuesReading, required}
+use Rattle.directory.proofs.Outs.{bind-refused, bind-is, bind-inverse, same-value, not-refused}
+use Rattle.raw.specs.Pattern.{oneOf, timesOf, firstOf, lastOf, placesOf, fourReading, planesOf, threeReading, dimReading, coloursReading, planesReading, layoutReading, patternReading, Pattern-in}
 use Rattle.raw.specs.declared.pattern.Pattern.{Pattern}
 
 pub one-same : (v x : ℕ) → v ≡ x → 1 ≡ oneOf v x
@@ -44,6 +48,39 @@ module _ (a b c d : ℕ) where
   pub places-blues : timesOf 0 a b c d ≡ 1 → timesOf 1 a b c d ≡ 2 → (timesOf 2 a b c d ≡ 1 → ⊥) → refused 8 33422 ≡ placesOf a b c d
   unfolding placesOf
   places-blues x y z = simp (eq-eqb _ _ x, eq-eqb _ _ y, ne-eqb _ _ z, pick-no)
+
+  first-below : (x : ℕ) → firstOf x a b c < 4
+  unfolding firstOf pick
+  first-below x = go (eqb a x) (eqb b x) (eqb c x)
+    where
+      go : (p q r : Bool) → pick p 0 (pick q 1 (pick r 2 3)) < 4
+      go true q r = omega arith
+      go false true r = omega arith
+      go false false true = omega arith
+      go false false false = omega arith
+
+  last-below : (x : ℕ) → lastOf x b c d < 4
+  unfolding lastOf pick
+  last-below x = go (eqb d x) (eqb c x) (eqb b x)
+    where
+      go : (p q r : Bool) → pick p 3 (pick q 2 (pick r 1 0)) < 4
+      go true q r = omega arith
+      go false true r = omega arith
+      go false false true = omega arith
+      go false false false = omega arith
+
+  -- whatever is carried has its places in the block
+  places-below : (p : Pattern) → is p ≡ placesOf a b c d → Pattern-in p
+  unfolding placesOf pick
+  places-below p = go (eqb (timesOf 0 a b c d) 1 && (eqb (timesOf 1 a b c d) 2 && eqb (timesOf 2 a b c d) 1))
+    where
+      v : Pattern
+      v = record { red = firstOf 0 a b c; green1 = firstOf 1 a b c; green2 = lastOf 1 b c d; blue = firstOf 2 a b c }
+      go : (t : Bool) → is p ≡ pick t (is v) (refused 8 33422) → Pattern-in p
+      go true e =
+          subst Pattern-in (sym (same-value p v e))
+          (record { red = first-below 0; green1 = first-below 1; green2 = last-below 1; blue = first-below 2 })
+      go false e = absurd (not-refused p 8 33422 e)
 
 module _ (a b c : ℕ) where
   pub planes-are : a ≡ 0 → b ≡ 1 → c ≡ 2 → is 0 ≡ planesOf a b c
@@ -104,3 +141,15 @@ module _ (f : List ℕ) (d : Ifd) where
         pub pattern-is : (b : ℕ) → is b ≡ run f (layoutReading d) → is p ≡ run f (patternReading d)
         unfolding patternReading
         pattern-is b h = sym (bind-is f _ _ v ev ∙ bind-is f _ _ p ep ∙ bind-is f _ _ a ea ∙ bind-is f _ _ b h ∙ run-answer f _)
+
+-- the places of a pattern that was read
+pub pattern-below : (f : List ℕ) (d : Ifd) (p : Pattern) → is p ≡ run f (patternReading d) → Pattern-in p
+unfolding patternReading coloursReading
+pattern-below f d p e =
+    let v = bind-inverse f (dimReading d) _ p e in
+    let c = bind-inverse f (coloursReading d) _ p (v .2) in
+    let a = bind-inverse f (planesReading d) _ p (c .2) in
+    let b = bind-inverse f (layoutReading d) _ p (a .2) in
+    let q : p ≡ c .0 = same-value p (c .0) (b .2 ∙ run-answer f _) in
+    let g = bind-inverse f (valuesReading d (required 33422 kinds.Byte 4)) (fourReading (d .order)) (c .0) (c .1) in
+    subst Pattern-in (sym q) (places-below _ _ _ _ (c .0) (g .2 ∙ sym (four-bytes f (d .order) (g .0) _ _ _ refl refl refl _ refl)))

@@ -84,12 +84,9 @@ patternReading d =
     bind (layoutReading d) (λ _.
     answer (is p)))))
 
+-- places of a block
 pub record Pattern-in (p : Pattern) : Type 0 where
   pub red : p .red < 4
   pub green1 : p .green1 < 4
   pub green2 : p .green2 < 4
   pub blue : p .blue < 4
-
-abbrev pub PatternIn : Patterned → Type 0
-PatternIn (patterned.Refused n d) = Unit {0}
-PatternIn (patterned.Is p) = Pattern-in p

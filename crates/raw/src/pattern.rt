@@ -1,11 +1,11 @@
 // The mosaic's pattern: 33421, 33422, 50710, 50711.
 ghost use mathlib.Core.Path.{_≡_};
-ghost use Prim.Native.Nat.{_≤_, _<_};
+ghost use Prim.Native.Nat.{_≤_};
 ghost use Rattle.reading.specs.Reading.{run};
 ghost use Rattle.directory.specs.Out.{numberOut};
 ghost use Rattle.directory.specs.Shape.{Tested};
 ghost use Rattle.directory.specs.Tag.{valuesOut};
-ghost use Rattle.raw.specs.Pattern.{oneOf, timesOf, firstOf, lastOf, patternOut, PatternIn, placesOf, dimReading, coloursReading, planesOf, planesReading, layoutReading, patternReading};
+ghost use Rattle.raw.specs.Pattern.{oneOf, timesOf, firstOf, lastOf, patternOut, placesOf, dimReading, coloursReading, planesOf, planesReading, layoutReading, patternReading};
 use directory::Ifd;
 use directory::Number;
 use directory::tag;
@@ -44,7 +44,7 @@ fn times(x: usize, a: usize, b: usize, c: usize, d: usize) -> usize
 
 // The place of the first x of four numbers: the fourth, if it is none of the others.
 fn first(x: usize, a: usize, b: usize, c: usize) -> usize
-    ensures { λ r. ⌜ (r ≡ firstOf x a b c) × (r < 4) ⌝ }
+    ensures { λ r. ⌜ r ≡ firstOf x a b c ⌝ }
 {
     if a == x {
         return 0;
@@ -57,7 +57,7 @@ fn first(x: usize, a: usize, b: usize, c: usize) -> usize
 
 // And of the last: the first, if it is none of the others.
 fn last(x: usize, b: usize, c: usize, d: usize) -> usize
-    ensures { λ r. ⌜ (r ≡ lastOf x b c d) × (r < 4) ⌝ }
+    ensures { λ r. ⌜ r ≡ lastOf x b c d ⌝ }
 {
     if d == x {
         return 3;
@@ -70,7 +70,7 @@ fn last(x: usize, b: usize, c: usize, d: usize) -> usize
 
 // The places of four colours.
 fn places(a: usize, b: usize, c: usize, d: usize) -> Patterned
-    ensures { λ r. ⌜ (patternOut r ≡ placesOf a b c d) × PatternIn r ⌝ }
+    ensures { λ r. ⌜ patternOut r ≡ placesOf a b c d ⌝ }
 {
     if times(0, a, b, c, d) == 1 {
         if times(1, a, b, c, d) == 2 {
@@ -113,7 +113,7 @@ fn dim_of(file: &[u8], ifd: Ifd) -> Given
 // 33422.
 fn colours_of(file: &[u8], ifd: Ifd) -> Patterned
     requires { ⌜ Tested (now file) ifd ⌝ }
-    ensures { λ r. ⌜ (patternOut r ≡ run (now (file .entry)) (coloursReading ifd)) × PatternIn r ⌝ }
+    ensures { λ r. ⌜ patternOut r ≡ run (now (file .entry)) (coloursReading ifd) ⌝ }
 {
     let rule = Rule {
         tag: 33422,
@@ -203,7 +203,7 @@ fn layout_of(file: &[u8], ifd: Ifd) -> Number
 // The four tags of the raw IFD, in order of test.
 pub fn pattern_of(file: &[u8], ifd: Ifd) -> Patterned
     requires { ⌜ Tested (now file) ifd ⌝ }
-    ensures { λ r. ⌜ (patternOut r ≡ run (now (file .entry)) (patternReading ifd)) × PatternIn r ⌝ }
+    ensures { λ r. ⌜ patternOut r ≡ run (now (file .entry)) (patternReading ifd) ⌝ }
 {
     match dim_of(file, ifd) {
         Given::Refused { number, detail } => return Patterned::Refused { number, detail },

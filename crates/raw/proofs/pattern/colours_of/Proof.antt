@@ -32,7 +32,7 @@ enum-known-number c = search needs
 
 returns : tie.Need-returns
 unfolding coloursReading
-returns c = (bind-refused _ _ _ _ _ (ap valuesOut (sym (c .before .number .given .1)) ∙ c .before .before .before .look-up .ensures .0), tt)
+returns c = bind-refused _ _ _ _ _ (ap valuesOut (sym (c .before .number .given .1)) ∙ c .before .before .before .look-up .ensures .0)
 
 enum-known-v : tie.Need-enum-known-v
 enum-known-v c = search needs
@@ -79,7 +79,7 @@ returns-2 c =
     let k = c .before .before .before .before .before .before in
     let q = four-bytes _ _ (k .v .given .0 .0) _ _ _ (c .before .before .before .before .byte .ensures .0) (c .before .before .before .byte2 .ensures .0)
     (c .before .before .byte3 .ensures .0) _ (c .before .byte4 .ensures .0) in
-    (c .places .ensures .0 ∙ q ∙ sym (bind-is _ _ _ _ (values k .0)), c .places .ensures .1)
+    c .places .ensures ∙ q ∙ sym (bind-is _ _ _ _ (values k .0))
 
 pub colours-of-spec : {M : Type 1} → statement M
 colours-of-spec = tie.close (tie.spec look-up-requires enum-known-number returns enum-known-v byte-requires cast-a add-byte byte-requires-2 cast-b

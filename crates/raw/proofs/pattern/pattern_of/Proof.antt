@@ -1,9 +1,9 @@
-use mathlib.Core.Path.{_≡_, sym, ap, subst, _∙_}
+use mathlib.Core.Path.{_≡_, sym, ap, _∙_}
 use denote.Ref.{now}
 use Rattle.reading.specs.Reading.{run}
 use Rattle.directory.specs.Out.{Out.is, numberOut}
 use Rattle.directory.specs.Tag.{valuesOut}
-use Rattle.raw.specs.Pattern.{patternOut, PatternIn, Pattern-in, dimReading, coloursReading, planesReading}
+use Rattle.raw.specs.Pattern.{patternOut, dimReading, coloursReading, planesReading}
 use Rattle.raw.proofs.PatternLaws.{pattern-dim, pattern-colours, pattern-planes, pattern-layout, pattern-is}
 use borrow.Author.Needs.{needs}
 use Rattle.raw.proofs.pattern.pattern_of.Statement.{statement}
@@ -15,10 +15,8 @@ dim : (k : tie.After-enum-told) → let a = k .before .before .before .before .a
 dim k = ap valuesOut (sym (k .enum-told .given .1)) ∙ k .before .before .dim-of .ensures
 
 colours : (k : tie.After-p) → let a = k .before .before .before .before .before .before .before .args in
-    (is (k .p .given .0 .0) ≡ run (now (a .file)) (coloursReading (a .ifd))) × Pattern-in (k .p .given .0 .0)
-colours k =
-    let e = k .before .before .colours-of .ensures in
-    (ap patternOut (sym (k .p .given .1)) ∙ e .0, subst PatternIn (k .p .given .1) (e .1))
+    is (k .p .given .0 .0) ≡ run (now (a .file)) (coloursReading (a .ifd))
+colours k = ap patternOut (sym (k .p .given .1)) ∙ k .before .before .colours-of .ensures
 
 planes : (k : tie.After-enum-told2) → let a = k .before .before .before .before .before .before .before .before .before .before .before .args in
     is (k .enum-told2 .given .0 .0) ≡ run (now (a .file)) (planesReading (a .ifd))
@@ -31,7 +29,7 @@ enum-known-number : tie.Need-enum-known-number
 enum-known-number c = search needs
 
 returns : tie.Need-returns
-returns c = (pattern-dim _ _ _ _ (ap valuesOut (sym (c .before .number .given .1)) ∙ c .before .before .before .dim-of .ensures), tt)
+returns c = pattern-dim _ _ _ _ (ap valuesOut (sym (c .before .number .given .1)) ∙ c .before .before .before .dim-of .ensures)
 
 enum-told : tie.Need-enum-told
 enum-told c = search needs
@@ -44,8 +42,8 @@ enum-known-number-2 c = search needs
 
 returns-2 : tie.Need-returns-2
 returns-2 c =
-    let e = ap patternOut (sym (c .before .number2 .given .1)) ∙ c .before .before .before .colours-of .ensures .0 in
-    (pattern-colours _ _ _ (dim (c .before .before .before .before)) _ _ e, tt)
+    let e = ap patternOut (sym (c .before .number2 .given .1)) ∙ c .before .before .before .colours-of .ensures in
+    pattern-colours _ _ _ (dim (c .before .before .before .before)) _ _ e
 
 enum-known-p : tie.Need-enum-known-p
 enum-known-p c = search needs
@@ -60,7 +58,7 @@ returns-3 : tie.Need-returns-3
 returns-3 c =
     let e = ap numberOut (sym (c .before .number3 .given .1)) ∙ c .before .before .before .planes-of .ensures in
     let p = c .before .before .before .before .before in
-    (pattern-planes _ _ _ (dim (p .before .before .before)) _ (colours p .0) _ _ e, tt)
+    pattern-planes _ _ _ (dim (p .before .before .before)) _ (colours p) _ _ e
 
 enum-told-2 : tie.Need-enum-told-2
 enum-told-2 c = search needs
@@ -76,7 +74,7 @@ returns-4 c =
     let e = ap numberOut (sym (c .before .number4 .given .1)) ∙ c .before .before .before .layout-of .ensures in
     let q = c .before .before .before .before in
     let p = q .before .before .before .before in
-    (pattern-layout _ _ _ (dim (p .before .before .before)) _ (colours p .0) _ (planes q) _ _ e, tt)
+    pattern-layout _ _ _ (dim (p .before .before .before)) _ (colours p) _ (planes q) _ _ e
 
 enum-told-3 : tie.Need-enum-told-3
 enum-told-3 c = search needs
@@ -86,7 +84,7 @@ returns-5 c =
     let e = ap numberOut (sym (c .enum-told3 .given .1)) ∙ c .before .before .layout-of .ensures in
     let q = c .before .before .before in
     let p = q .before .before .before .before in
-    (pattern-is _ _ _ (dim (p .before .before .before)) _ (colours p .0) _ (planes q) _ e, colours p .1)
+    pattern-is _ _ _ (dim (p .before .before .before)) _ (colours p) _ (planes q) _ e
 
 pub pattern-of-spec : {M : Type 1} → statement M
 pattern-of-spec = tie.close (tie.spec dim-of-requires enum-known-number returns enum-told colours-of-requires enum-known-number-2 returns-2 enum-known-p

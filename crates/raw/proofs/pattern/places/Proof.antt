@@ -32,28 +32,23 @@ returns c =
     let x = sym (q .before .before .before .times .ensures) ∙ q .before .before .if1 .taken in
     let y = sym (q .before .times2 .ensures) ∙ q .if2 .taken in
     let z = sym (k .before .times3 .ensures) ∙ k .if3 .taken in
-    let red = c .before .before .before .first .ensures in
-    let green1 = c .before .before .first2 .ensures in
-    let green2 = c .before .last .ensures in
-    let blue = c .first3 .ensures in (
-      places-are _ _ _ _ x y z _ _ _ _ (red .0) (green1 .0) (green2 .0) (blue .0),
-      record { red = red .1; green1 = green1 .1; green2 = green2 .1; blue = blue .1 },
-    )
+    places-are _ _ _ _ x y z _ _ _ _ (c .before .before .before .first .ensures) (c .before .before .first2 .ensures) (c .before .last .ensures)
+    (c .first3 .ensures)
 
 returns-2 : tie.Need-returns-2
 returns-2 c =
     let q = c .before .before in
     let x = sym (q .before .before .before .times .ensures) ∙ q .before .before .if1 .taken in
     let y = sym (q .before .times2 .ensures) ∙ q .if2 .taken in
-    (places-blues _ _ _ _ x y (λ h. c .if3 .left (c .before .times3 .ensures ∙ h)), tt)
+    places-blues _ _ _ _ x y (λ h. c .if3 .left (c .before .times3 .ensures ∙ h))
 
 returns-3 : tie.Need-returns-3
 returns-3 c =
     let x = sym (c .before .before .before .times .ensures) ∙ c .before .before .if1 .taken in
-    (places-greens _ _ _ _ x (λ h. c .if2 .left (c .before .times2 .ensures ∙ h)), tt)
+    places-greens _ _ _ _ x (λ h. c .if2 .left (c .before .times2 .ensures ∙ h))
 
 returns-4 : tie.Need-returns-4
-returns-4 c = (places-reds _ _ _ _ (λ h. c .if1 .left (c .before .times .ensures ∙ h)), tt)
+returns-4 c = places-reds _ _ _ _ (λ h. c .if1 .left (c .before .times .ensures ∙ h))
 
 pub places-spec : {M : Type 1} → statement M
 places-spec = tie.close (tie.spec times-requires times-requires-2 times-requires-3 first-requires first-requires-2 last-requires first-requires-3

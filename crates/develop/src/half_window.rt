@@ -1,0 +1,135 @@
+// A half window: the colour of the 2x2 blocks of a mosaic.
+ghost use mathlib.Core.Path.{_≡_};
+ghost use Prim.Native.Nat.{ℕ, _+_, _*_, _≤_, _<_};
+ghost use lib.ListN.{length};
+ghost use Rattle.reading.specs.Reading.{run};
+ghost use Rattle.directory.specs.Out;
+ghost use Rattle.raw.specs.Front.{Picture-in};
+ghost use Rattle.raw.specs.Pattern.{Pattern-in};
+ghost use Rattle.colour.specs.Bounds.{All, Developed, Finite};
+ghost use Rattle.colour.specs.Tags.{Colour-in};
+ghost use Rattle.rows.specs.Line.{Deltas-in};
+ghost use Rattle.develop.specs.Calls.{valuesOf, windowWith, halfFor, blocksOf, blockAt, blockXyz, blockIn, halvedOf, halfWindowCall};
+ghost use Rattle.develop.specs.Demand.{aloneIn};
+ghost use Rattle.develop.specs.View.{Viewed};
+ghost use Rattle.develop.specs.Fill.{halfOut, Blocks-in, pairOf, blockRow};
+use colour::Colour;
+use colour::Coloured;
+use colour::pixel;
+use colour::pixel::Xyz;
+use colour::tags;
+use crate::Answer;
+use crate::Opening;
+use crate::View;
+use crate::fill;
+use crate::window;
+use opcodes::grid::Size;
+use raw::front::Picture;
+use raw::pattern;
+use raw::pattern::Pattern;
+use raw::pattern::Patterned;
+use rows::scaled;
+
+// What a block's colour needs besides its four samples.
+pub struct Half {
+    pub colour: Colour,
+    pub pattern: Pattern,
+}
+
+pub enum Halved {
+    Refused { number: usize, detail: usize },
+    Is(Half),
+}
+
+// A window that counts in blocks.
+pub struct Blocks {
+    pub top: usize,
+    pub left: usize,
+    pub height: usize,
+    pub width: usize,
+}
+
+// 15, the colour tags, the pattern's.
+fn half_of(file: &[u8], picture: Picture) -> Halved
+    requires { ⌜ Picture-in (now file) picture ⌝ }
+    ensures { λ r. ⌜ halfOut r ≡ run (now (file .entry)) (halfFor picture) ⌝ }
+{
+    if picture.raw.tags.frame.samples != 1 {
+        return Halved::Refused {
+            number: 15,
+            detail: 0,
+        };
+    }
+    let colour = match tags::colour_of(file, picture.first) {
+        Coloured::Refused { number, detail } => return Halved::Refused { number, detail },
+        Coloured::Is(c) => c,
+    };
+    match pattern::pattern_of(file, picture.directory) {
+        Patterned::Refused { number, detail } => Halved::Refused { number, detail },
+        Patterned::Is(pattern) => Halved::Is(Half { colour, pattern }),
+    }
+}
+
+// The sample at a place of the j-th block of two rows, of so many samples each.
+fn sample_at(pair: &[f64], width: usize, j: usize, place: usize) -> f64
+    requires { ⌜ (place < 4) × (2 * j + 2 ≤ width) × (2 * width ≤ length (now pair)) ⌝ }
+    ensures { λ r. ⌜ r ≡ blockAt (pairOf (now (pair .entry)) width) 0 j place ⌝ }
+{
+    pair[place / 2 * width + (2 * j + place % 2)]
+}
+
+// The colour of the j-th block of two rows.
+fn block_at(half: Half, pair: &[f64], width: usize, j: usize) -> Xyz
+    requires { ⌜ Pattern-in (half .pattern) × (2 * j + 2 ≤ width) × (2 * width ≤ length (now pair)) ⌝ }
+    ensures { λ r. ⌜ r ≡ blockXyz half (pairOf (now (pair .entry)) width) 0 j ⌝ }
+    ensures { λ r. ⌜ (Colour-in (half .colour) → ((k : ℕ) → k < 4 → Developed (blockAt (pairOf (now (pair .entry)) width) 0 j k)) → All Finite (r .x) (r .y) (r .z)) ⌝ }
+{
+    let p = half.pattern;
+    let red = sample_at(pair, width, j, p.red);
+    let green1 = sample_at(pair, width, j, p.green1);
+    let green2 = sample_at(pair, width, j, p.green2);
+    let blue = sample_at(pair, width, j, p.blue);
+    pixel::xyz_of(half.colour, red, pixel::mean(green1, green2), blue)
+}
+
+// The colours of so many blocks, from their two rows.
+fn blocks_of(half: Half, pair: &[f64], count: usize, out: &mut [f64])
+    requires { ⌜ Pattern-in (half .pattern) × (4 * count ≤ length (now pair)) × (length (now out) ≡ count * 3) ⌝ }
+    ensures { λ _. ⌜ now (out .exit) ≡ blockRow (blockIn half (pairOf (now (pair .entry)) (2 * count))) 0 count 0 ⌝ }
+{
+    let width = 2 * count;
+    let mut j = 0;
+    let mut a = 0;
+    while j < count {
+        let v = block_at(half, pair, width, j);
+        out[a] = v.x;
+        out[a + 1] = v.y;
+        out[a + 2] = v.z;
+        a += 3;
+        j += 1;
+    }
+}
+
+// At most 512 blocks of one row of blocks: their two rows of samples, developed as a window's, then the blocks of these.
+fn block_part(
+    file: &[u8],
+    view: View,
+    half: Half,
+    part: Blocks,
+    deltas: &[i64],
+    pair: &mut [f64],
+    out: &mut [f64],
+)
+    requires { ⌜ Blocks-in (now file) view part (now out) × Pattern-in (half .pattern) × (part .height ≡ 1) ⌝ }
+    requires { ⌜ (1 ≤ part .width) × (part .width ≤ 512) × (2048 ≤ length (now pair)) ⌝ }
+    requires { ⌜ Deltas-in (now file) (view .picture .order) (view .picture .raw .tags) (now deltas) ⌝ }
+    ensures { λ _. ⌜ length (now (pair .exit)) ≡ length (now (pair .entry)) ⌝ }
+    ensures { λ _. ⌜ ((q : Viewed (now (file .entry)) view) → now (out .exit) ≡ blockRow (blockIn half (aloneIn (now (file .entry)) (q .file))) (part .left) (part .width) (part .top)) ⌝ }
+{
+    let top = 2 * part.top;
+    let left = 2 * part.left;
+    let width = 2 * part.width;
+    let both = 2 * width;
+    fill::fill_rows(file, view, top, left, 2, width, deltas, &mut pair[0..both]);
+    blocks_of(half, pair, part.width, out);
+}
