@@ -133,3 +133,83 @@ fn block_part(
     fill::fill_rows(file, view, top, left, 2, width, deltas, &mut pair[0..both]);
     blocks_of(half, pair, part.width, out);
 }
+
+// How many of so many blocks are worked out at once.
+fn part_of(left: usize) -> usize
+    requires { ⌜ 1 ≤ left ⌝ }
+    ensures { λ r. ⌜ (1 ≤ r) × (r ≤ left) × (r ≤ 512) ⌝ }
+{
+    if left < 512 { left } else { 512 }
+}
+
+// A row of blocks, part by part.
+fn block_row(
+    file: &[u8],
+    view: View,
+    half: Half,
+    row: Blocks,
+    deltas: &[i64],
+    pair: &mut [f64],
+    out: &mut [f64],
+)
+    requires { ⌜ Blocks-in (now file) view row (now out) × Pattern-in (half .pattern) × (row .height ≡ 1) ⌝ }
+    requires { ⌜ 2048 ≤ length (now pair) ⌝ }
+    requires { ⌜ Deltas-in (now file) (view .picture .order) (view .picture .raw .tags) (now deltas) ⌝ }
+    ensures { λ _. ⌜ length (now (pair .exit)) ≡ length (now (pair .entry)) ⌝ }
+    ensures { λ _. ⌜ ((q : Viewed (now (file .entry)) view) → now (out .exit) ≡ blockRow (blockIn half (aloneIn (now (file .entry)) (q .file))) (row .left) (row .width) (row .top)) ⌝ }
+{
+    let top = row.top;
+    let left = row.left;
+    let width = row.width;
+    let mut j = 0;
+    let mut a = 0;
+    while j < width {
+        let n = part_of(width - j);
+        let e = a + n * 3;
+        let part = Blocks {
+            top,
+            left: left + j,
+            height: 1,
+            width: n,
+        };
+        block_part(file, view, half, part, deltas, pair, &mut out[a..e]);
+        a = e;
+        j += n;
+    }
+}
+
+// With the columns' deltas at hand, row by row.
+fn block_rows(
+    file: &[u8],
+    view: View,
+    half: Half,
+    blocks: Blocks,
+    deltas: &[i64],
+    pair: &mut [f64],
+    out: &mut [f64],
+)
+    requires { ⌜ Blocks-in (now file) view blocks (now out) × Pattern-in (half .pattern) ⌝ }
+    requires { ⌜ 2048 ≤ length (now pair) ⌝ }
+    requires { ⌜ Deltas-in (now file) (view .picture .order) (view .picture .raw .tags) (now deltas) ⌝ }
+    ensures { λ _. ⌜ ((q : Viewed (now (file .entry)) view) → now (out .exit) ≡ valuesOf (blockIn half (aloneIn (now (file .entry)) (q .file))) (blocks .top) (blocks .left) (blocks .height) (blocks .width) 3) ⌝ }
+{
+    let top = blocks.top;
+    let left = blocks.left;
+    let height = blocks.height;
+    let width = blocks.width;
+    let m = width * 3;
+    let mut i = 0;
+    let mut a = 0;
+    while i < height {
+        let e = a + m;
+        let row = Blocks {
+            top: top + i,
+            left,
+            height: 1,
+            width,
+        };
+        block_row(file, view, half, row, deltas, pair, &mut out[a..e]);
+        a = e;
+        i += 1;
+    }
+}
