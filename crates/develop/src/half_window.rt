@@ -213,3 +213,102 @@ fn block_rows(
         i += 1;
     }
 }
+
+// With the columns' deltas worked out once, for every row.
+fn blocks_with_deltas(
+    file: &[u8],
+    view: View,
+    half: Half,
+    blocks: Blocks,
+    pair: &mut [f64],
+    out: &mut [f64],
+)
+    requires { ⌜ Blocks-in (now file) view blocks (now out) × Pattern-in (half .pattern) ⌝ }
+    requires { ⌜ 2048 ≤ length (now pair) ⌝ }
+    ensures { λ _. ⌜ ((q : Viewed (now (file .entry)) view) → now (out .exit) ≡ valuesOf (blockIn half (aloneIn (now (file .entry)) (q .file))) (blocks .top) (blocks .left) (blocks .height) (blocks .width) 3) ⌝ }
+{
+    let mut deltas: [i64; 16384] = [0; 16384];
+    fill::column_deltas(file, view, &mut deltas);
+    block_rows(file, view, half, blocks, &deltas, pair, out);
+}
+
+// Blocks inside the active area of an accepted mosaic.
+fn fill_blocks(file: &[u8], view: View, half: Half, blocks: Blocks, out: &mut [f64])
+    requires { ⌜ Blocks-in (now file) view blocks (now out) × Pattern-in (half .pattern) ⌝ }
+    ensures { λ _. ⌜ ((q : Viewed (now (file .entry)) view) → now (out .exit) ≡ valuesOf (blockIn half (aloneIn (now (file .entry)) (q .file))) (blocks .top) (blocks .left) (blocks .height) (blocks .width) 3) ⌝ }
+{
+    let mut pair: [f64; 2048] = [0.0; 2048];
+    let picture = view.picture;
+    let raw = picture.raw;
+    let values = raw.tags.levels.column_deltas;
+    if values.count == 0 {
+        let none: [i64; 1] = [0; 1];
+        block_rows(file, view, half, blocks, &none[0..0], &mut pair, out);
+    } else {
+        blocks_with_deltas(file, view, half, blocks, &mut pair, out);
+    }
+}
+
+// How many rows and columns of whole blocks a mosaic has.
+fn whole_blocks(size: Size) -> Size
+    ensures { λ r. ⌜ r ≡ blocksOf size ⌝ }
+{
+    Size {
+        rows: size.rows / 2,
+        columns: size.columns / 2,
+        samples: 3,
+    }
+}
+
+// A half window of an accepted mosaic whose colour tags and pattern are read: 13 and 14.
+fn halved_in(file: &[u8], view: View, half: Half, blocks: Blocks, out: &mut [f64]) -> Answer
+    requires { ⌜ Viewed (now file) view × (view .size .samples ≡ 1) × Pattern-in (half .pattern) ⌝ }
+    ensures { λ r. ⌜ ((q : Viewed (now (file .entry)) view) → windowWith r (now (out .exit)) ≡ halvedOf (now (file .entry)) (blocks .top) (blocks .left) (blocks .height) (blocks .width) (now (out .entry)) (q .file) (Out.is half)) ⌝ }
+{
+    let number = window::window_fault(
+        whole_blocks(view.size),
+        3,
+        blocks.top,
+        blocks.left,
+        blocks.height,
+        blocks.width,
+        out.len(),
+    );
+    if number == 0 {
+        fill_blocks(file, view, half, blocks, out);
+    }
+    Answer { number, detail: 0 }
+}
+
+// A half window of an accepted file: 15, the colour tags, the pattern's, then 13 and 14.
+fn half_window_in(file: &[u8], view: View, blocks: Blocks, out: &mut [f64]) -> Answer
+    requires { ⌜ Viewed (now file) view ⌝ }
+    ensures { λ r. ⌜ windowWith r (now (out .exit)) ≡ halfWindowCall (now (file .entry)) (blocks .top) (blocks .left) (blocks .height) (blocks .width) (now (out .entry)) ⌝ }
+{
+    match half_of(file, view.picture) {
+        Halved::Refused { number, detail } => Answer { number, detail },
+        Halved::Is(half) => halved_in(file, view, half, blocks, out),
+    }
+}
+
+pub fn half_window(
+    file: &[u8],
+    top: usize,
+    left: usize,
+    height: usize,
+    width: usize,
+    out: &mut [f64],
+) -> Answer
+    ensures { λ r. ⌜ windowWith r (now (out .exit)) ≡ halfWindowCall (now (file .entry)) top left height width (now (out .entry)) ⌝ }
+{
+    let blocks = Blocks {
+        top,
+        left,
+        height,
+        width,
+    };
+    match crate::open(file) {
+        Opening::Refused { number, detail } => Answer { number, detail },
+        Opening::Is(view) => half_window_in(file, view, blocks, out),
+    }
+}
