@@ -1,10 +1,11 @@
 // The C interface: each function is the call of the same name.
 ghost use mathlib.Core.Path.{_≡_};
-ghost use Rattle.develop.specs.Calls.{cardCall, spotCall, windowCall, colourWindowCall};
+ghost use Rattle.develop.specs.Calls.{cardCall, spotCall, windowCall, colourWindowCall, halfWindowCall};
 ghost use Rattle.dng.specs.Field.{fieldOf, packedOf};
 use develop::card;
 use develop::card::CardAnswer;
 use develop::colour_window;
+use develop::half_window;
 use develop::spot;
 use develop::window;
 
@@ -98,5 +99,21 @@ pub extern "C" fn dng_colour_window(
     ensures { λ r. ⌜ now (out .exit) ≡ colourWindowCall (now (file .entry)) top left height width (now (out .entry)) .slice ⌝ }
 {
     let answer = colour_window::colour_window(file, top, left, height, width, out);
+    packed(answer.number, answer.detail)
+}
+
+#[no_mangle]
+pub extern "C" fn dng_half_window(
+    file: &[u8],
+    top: usize,
+    left: usize,
+    height: usize,
+    width: usize,
+    out: &mut [f64],
+) -> u64
+    ensures { λ r. ⌜ r ≡ packedOf (halfWindowCall (now (file .entry)) top left height width (now (out .entry)) .number) (halfWindowCall (now (file .entry)) top left height width (now (out .entry)) .detail) ⌝ }
+    ensures { λ r. ⌜ now (out .exit) ≡ halfWindowCall (now (file .entry)) top left height width (now (out .entry)) .slice ⌝ }
+{
+    let answer = half_window::half_window(file, top, left, height, width, out);
     packed(answer.number, answer.detail)
 }
