@@ -3,15 +3,15 @@ ghost use mathlib.Core.Path.{_≡_};
 ghost use Rattle.directory.specs.Out;
 ghost use Rattle.develop.specs.Calls.{windowWith, colouredOf, colourWindowCall};
 ghost use Rattle.develop.specs.View.{Viewed};
-use colour::Colour;
-use colour::Coloured;
-use colour::pass;
-use colour::tags;
 use crate::Answer;
 use crate::Opening;
 use crate::View;
 use crate::fill;
 use crate::window;
+use colour::Colour;
+use colour::Coloured;
+use colour::pass;
+use colour::tags;
 
 // A colour window of an accepted file whose colour tags are read.
 fn coloured_in(

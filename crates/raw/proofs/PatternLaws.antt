@@ -76,6 +76,7 @@ module _ (a b c d : ℕ) where
     where
       v : Pattern
       v = record { red = firstOf 0 a b c; green1 = firstOf 1 a b c; green2 = lastOf 1 b c d; blue = firstOf 2 a b c }
+
       go : (t : Bool) → is p ≡ pick t (is v) (refused 8 33422) → Pattern-in p
       go true e =
           subst Pattern-in (sym (same-value p v e))
