@@ -30,7 +30,8 @@ impl Answer {
     pub const TOO_MANY_OPCODES: Answer = Answer { number: 11, detail: 32 };
     pub const OUTSIDE: Answer = Answer::plain(13);
     pub const SLICE: Answer = Answer::plain(14);
-    pub const COLOUR_OF_MOSAIC: Answer = Answer::plain(15);
+    /// "colour asked of a mosaic"; half-size colour asked of LinearRaw.
+    pub const OTHER_KIND: Answer = Answer::plain(15);
 
     const fn plain(number: u32) -> Answer {
         Answer { number, detail: 0 }

@@ -71,6 +71,18 @@ impl Tag {
         Tag::new(tag, SRATIONAL, Data::SRationals(values.to_vec()))
     }
 
+    /// Whole numbers in as many bytes as the type has; an unknown type has bytes.
+    pub fn of_type(tag: u16, kind: u16, values: &[u32]) -> Tag {
+        let data = match kind {
+            3 | 8 => Data::Shorts(values.iter().map(|v| *v as u16).collect()),
+            4 | 9 | 11 | 13 => Data::Longs(values.to_vec()),
+            5 | 10 | 12 => Data::Rationals(values.iter().map(|v| (*v, 1)).collect()),
+            16..=18 => Data::Long8s(values.iter().map(|v| (*v).into()).collect()),
+            _ => Data::Bytes(values.iter().map(|v| *v as u8).collect()),
+        };
+        Tag::new(tag, kind, data)
+    }
+
     pub fn sub_ifds(children: &[usize]) -> Tag {
         Tag::new(330, IFD, Data::LongPlaces(children.iter().map(|i| Place::Ifd(*i)).collect()))
     }
@@ -258,6 +270,19 @@ impl Picture {
 /// The tags that stand in IFD 0 wherever the raw IFD stands.
 pub const FIRST_IFD_TAGS: [u16; 7] = [50706, 50707, 50723, 50727, 50728, 50964, 50965];
 
+/// The tags of a mosaic's pattern, in order of test.
+pub const PATTERN_TAGS: [u16; 4] = [33421, 33422, 50710, 50711];
+
+/// These tags, for the colours of a block row by row, with carried values.
+pub fn pattern_tags(colours: [u8; 4]) -> [Tag; 4] {
+    [
+        Tag::shorts(33421, &[2, 2]),
+        Tag::bytes(33422, &colours),
+        Tag::bytes(50710, &[0, 1, 2]),
+        Tag::shorts(50711, &[1]),
+    ]
+}
+
 /// A whole file.
 #[derive(Clone, Debug, PartialEq)]
 pub struct Dng {
@@ -345,6 +370,11 @@ impl Dng {
 
     pub fn with_opcodes(self, opcodes: &[Opcode]) -> Dng {
         self.with(OpcodeList::new(opcodes).tag())
+    }
+
+    /// The same file with all tags of a pattern in the raw IFD.
+    pub fn with_pattern(self, colours: [u8; 4]) -> Dng {
+        pattern_tags(colours).into_iter().fold(self, Dng::with)
     }
 
     /// The same file in the 64-bit layout.

@@ -1,9 +1,9 @@
-//! "The four calls".
+//! "The four calls", and the one of half-size colour (document 02, T-01).
 
 use crate::answer::{Answer, Card};
-use crate::colour;
-use crate::develop::{accept, Accepted, Developed};
+use crate::develop::{accept, Developed};
 use crate::opcodes::{FrameSize, Opcode};
+use crate::{colour, pattern};
 
 /// "file in; active rows, active columns, samples per pixel, corrections
 /// kept, corrections skipped"
@@ -31,6 +31,12 @@ pub fn colour_window(file: &[u8], top: u64, left: u64, height: u64, width: u64, 
     either(colour_window_or_refusal(file, wanted, out))
 }
 
+/// As colour window, of a mosaic: "Windows of this new call count in blocks."
+pub fn half_window(file: &[u8], top: u64, left: u64, height: u64, width: u64, out: &mut [f64]) -> Answer {
+    let wanted = Rectangle { top, left, height, width };
+    either(half_window_or_refusal(file, wanted, out))
+}
+
 /// "file, row, column, plane; one f64"; "a refused spot +0.0"
 pub fn spot(file: &[u8], row: u64, column: u64, plane: u64) -> (Answer, f64) {
     match spot_or_refusal(file, row, column, plane) {
@@ -39,7 +45,8 @@ pub fn spot(file: &[u8], row: u64, column: u64, plane: u64) -> (Answer, f64) {
     }
 }
 
-/// In active rows and columns, "from the corner of ActiveArea".
+/// In active rows and columns, "from the corner of ActiveArea", or in blocks
+/// from there.
 #[derive(Clone, Copy)]
 struct Rectangle {
     top: u64,
@@ -54,34 +61,41 @@ fn either(outcome: Result<(), Answer>) -> Answer {
 
 fn window_or_refusal(file: &[u8], wanted: Rectangle, out: &mut [f64]) -> Result<(), Answer> {
     let accepted = accept(file)?;
-    let samples = accepted.size().samples;
-    wanted.test(&accepted, samples, out.len())?;
-    let developed = Developed::new(&accepted);
-    let mut places = out.iter_mut();
-    wanted.each_pixel(|row, column| {
-        for plane in 0..samples {
-            fill(&mut places, developed.value(row, column, plane));
-        }
-    });
+    let FrameSize { rows, columns, samples } = accepted.size();
+    wanted.test(rows, columns, samples, out.len())?;
+    let developed = &Developed::new(&accepted);
+    wanted.fill(out, |row, column| (0..samples).map(move |plane| developed.value(row, column, plane)));
     Ok(())
 }
 
 /// "for colour then 15 and the colour tags; then 13, 14"
 fn colour_window_or_refusal(file: &[u8], wanted: Rectangle, out: &mut [f64]) -> Result<(), Answer> {
     let accepted = accept(file)?;
-    if accepted.size().samples == 1 {
-        return Err(Answer::COLOUR_OF_MOSAIC);
+    let FrameSize { rows, columns, samples } = accepted.size();
+    if samples == 1 {
+        return Err(Answer::OTHER_KIND);
     }
     let colour = colour::read(&accepted.file, &accepted.first)?;
-    wanted.test(&accepted, 3, out.len())?;
+    wanted.test(rows, columns, 3, out.len())?;
     let developed = Developed::new(&accepted);
-    let mut places = out.iter_mut();
-    wanted.each_pixel(|row, column| {
-        let pixel = [0, 1, 2].map(|plane| developed.value(row, column, plane));
-        for value in colour.xyz(pixel) {
-            fill(&mut places, value);
-        }
-    });
+    wanted.fill(out, |row, column| colour.xyz([0, 1, 2].map(|plane| developed.value(row, column, plane))));
+    Ok(())
+}
+
+/// "the new call gives 15 for LinearRaw", in 15's place; then the colour tags,
+/// "5, 4, 8 on each tag in turn, after the colour tags; then 13, 14".
+fn half_window_or_refusal(file: &[u8], wanted: Rectangle, out: &mut [f64]) -> Result<(), Answer> {
+    let accepted = accept(file)?;
+    let FrameSize { rows, columns, samples } = accepted.size();
+    if samples != 1 {
+        return Err(Answer::OTHER_KIND);
+    }
+    let colour = colour::read(&accepted.file, &accepted.first)?;
+    let pattern = pattern::read(&accepted.file, &accepted.raw_ifd)?;
+    wanted.test(rows / pattern::SIDE, columns / pattern::SIDE, 3, out.len())?;
+    let developed = Developed::new(&accepted);
+    let sample = |row, column| developed.value(row, column, 0);
+    wanted.fill(out, |row, column| colour.xyz(pattern.block(row, column, sample)));
     Ok(())
 }
 
@@ -94,19 +108,15 @@ fn spot_or_refusal(file: &[u8], row: u64, column: u64, plane: u64) -> Result<f64
     Ok(Developed::new(&accepted).value(row, column, plane))
 }
 
-fn fill<'a>(places: &mut impl Iterator<Item = &'a mut f64>, value: f64) {
-    *places.next().expect("the slice's length was tested") = value;
-}
-
 impl Rectangle {
-    /// 13: "window empty or not inside the active area"; then 14: "slice
-    /// length not height x width x values per pixel".
-    fn test(self, accepted: &Accepted, values_per_pixel: u64, slice: usize) -> Result<(), Answer> {
-        let size = accepted.size();
+    /// 13: "window empty or not inside the active area", which has so many rows
+    /// and columns, or blocks of them; then 14: "slice length not height x width
+    /// x values per pixel".
+    fn test(self, rows: u64, columns: u64, values_per_pixel: u64, slice: usize) -> Result<(), Answer> {
         let inside = |start: u64, length: u64, whole: u64| {
             length > 0 && u128::from(start) + u128::from(length) <= u128::from(whole)
         };
-        if !inside(self.top, self.height, size.rows) || !inside(self.left, self.width, size.columns) {
+        if !inside(self.top, self.height, rows) || !inside(self.left, self.width, columns) {
             return Err(Answer::OUTSIDE);
         }
         if slice as u64 != self.height * self.width * values_per_pixel {
@@ -115,11 +125,12 @@ impl Rectangle {
         Ok(())
     }
 
-    fn each_pixel(self, mut visit: impl FnMut(u64, u64)) {
-        for row in self.top..self.top + self.height {
-            for column in self.left..self.left + self.width {
-                visit(row, column);
-            }
-        }
+    /// Fills the slice with the values of each pixel, or block, row by row.
+    fn fill<V: IntoIterator<Item = f64>>(self, out: &mut [f64], values: impl Fn(u64, u64) -> V) {
+        let columns = self.left..self.left + self.width;
+        let rows = self.top..self.top + self.height;
+        let pixels = rows.flat_map(|row| columns.clone().map(move |column| (row, column)));
+        let mut all = pixels.flat_map(|(row, column)| values(row, column));
+        out.fill_with(|| all.next().expect("the slice's length was tested"));
     }
 }

@@ -1,14 +1,17 @@
 //! Calls as data, and their answers as lines of text to compare.
 
-use crate::calls::{card, colour_window, spot, window};
+use crate::answer::Answer;
+use crate::calls::{card, colour_window, half_window, spot, window};
 
-/// One question about a file. A window's slice is given by its length.
+/// One question about a file. A window's slice is given by its length; a half
+/// window counts in blocks.
 #[derive(Clone, Copy, Debug, PartialEq, Eq)]
 pub enum Call {
     Card,
     Window { top: u64, left: u64, height: u64, width: u64, slice: usize },
     Spot { row: u64, column: u64, plane: u64 },
     ColourWindow { top: u64, left: u64, height: u64, width: u64, slice: usize },
+    HalfWindow { top: u64, left: u64, height: u64, width: u64, slice: usize },
 }
 
 impl Call {
@@ -24,6 +27,9 @@ impl Call {
             }
             ("colour_window", &[top, left, height, width, slice]) => {
                 Some(Call::ColourWindow { top, left, height, width, slice: slice as usize })
+            }
+            ("half_window", &[top, left, height, width, slice]) => {
+                Some(Call::HalfWindow { top, left, height, width, slice: slice as usize })
             }
             _ => None,
         }
@@ -48,18 +54,26 @@ pub fn answer_line(file: &[u8], call: &Call) -> String {
             format!("{question} -> {} {} {}", answer.number, answer.detail, hex(&[value]))
         }
         Call::Window { top, left, height, width, slice } => {
-            let mut out = vec![UNTOUCHED; slice];
-            let answer = window(file, top, left, height, width, &mut out);
-            let question = format!("window {top} {left} {height} {width} {slice}");
-            format!("{question} -> {} {} {}", answer.number, answer.detail, hex(&out))
+            window_line("window", window, file, [top, left, height, width], slice)
         }
         Call::ColourWindow { top, left, height, width, slice } => {
-            let mut out = vec![UNTOUCHED; slice];
-            let answer = colour_window(file, top, left, height, width, &mut out);
-            let question = format!("colour_window {top} {left} {height} {width} {slice}");
-            format!("{question} -> {} {} {}", answer.number, answer.detail, hex(&out))
+            window_line("colour_window", colour_window, file, [top, left, height, width], slice)
+        }
+        Call::HalfWindow { top, left, height, width, slice } => {
+            window_line("half_window", half_window, file, [top, left, height, width], slice)
         }
     }
+}
+
+/// A window, a colour window or a half window.
+type Window = fn(&[u8], u64, u64, u64, u64, &mut [f64]) -> Answer;
+
+fn window_line(name: &str, call: Window, file: &[u8], rectangle: [u64; 4], slice: usize) -> String {
+    let [top, left, height, width] = rectangle;
+    let mut out = vec![UNTOUCHED; slice];
+    let answer = call(file, top, left, height, width, &mut out);
+    let question = format!("{name} {top} {left} {height} {width} {slice}");
+    format!("{question} -> {} {} {}", answer.number, answer.detail, hex(&out))
 }
 
 fn hex(values: &[f64]) -> String {

@@ -12,6 +12,7 @@ pub struct Accepted<'a> {
     pub file: File<'a>,
     /// IFD 0.
     pub first: Directory,
+    pub raw_ifd: Directory,
     pub raw: RawTags<'a>,
     pub opcodes: Vec<Opcode>,
 }
@@ -28,7 +29,7 @@ pub fn accept(bytes: &[u8]) -> Result<Accepted<'_>, Answer> {
         Some(list) => read_list(list, raw.frame_size())?,
         None => Vec::new(),
     };
-    Ok(Accepted { file, first: tree.first, raw, opcodes })
+    Ok(Accepted { file, first: tree.first, raw_ifd: tree.raw, raw, opcodes })
 }
 
 impl RawTags<'_> {

@@ -1,7 +1,8 @@
 //! An independent reference for document 01, "From stored DNG samples to
-//! developed values", with the greatest black (T-02) and the 64-bit layout
-//! (T-09) of document 02. The modules follow document 01's sections; each rule
-//! stands once, beside the words of the document that demand it.
+//! developed values", with half-size colour (T-01), the greatest black (T-02)
+//! and the 64-bit layout (T-09) of document 02. The modules follow document
+//! 01's sections; each rule stands once, beside the words of the document that
+//! demand it.
 
 #![forbid(unsafe_code)]
 
@@ -14,6 +15,7 @@ pub mod directory;
 pub mod levels;
 pub mod listing;
 pub mod opcodes;
+pub mod pattern;
 pub mod raw_tags;
 pub mod tag_test;
 
@@ -23,5 +25,5 @@ pub mod generate;
 pub mod random;
 
 pub use answer::{Answer, Card};
-pub use calls::{card, colour_window, spot, window};
+pub use calls::{card, colour_window, half_window, spot, window};
 pub use listing::{listing, write_listing};

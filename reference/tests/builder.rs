@@ -3,7 +3,7 @@
 mod common;
 
 use common::*;
-use reference::builder::{Data, Dng, Opcode, OpcodeList, Place, Tag};
+use reference::builder::{Data, Dng, Opcode, OpcodeList, Place, Tag, PATTERN_TAGS};
 use reference::bytes::LAYOUTS;
 
 #[test]
@@ -68,6 +68,26 @@ fn a_nested_file_keeps_the_first_tags_in_ifd_0() {
     assert_eq!((dng.ifds.len(), dng.raw), (4, 3));
     assert!(dng.first_ifd().get(50728).is_some() && dng.first_ifd().get(50706).is_some());
     assert!(dng.first_ifd().get(256).is_none() && dng.raw_ifd().get(256).is_some());
+}
+
+#[test]
+fn a_pattern_is_four_tags_of_the_raw_ifd() {
+    let dng = mosaic(3, 2).nested(1).with_pattern([1, 2, 0, 1]);
+    let raw = &dng.ifds[dng.raw];
+    let values = PATTERN_TAGS.map(|tag| raw.get(tag).map(|tag| (tag.kind, tag.data.clone())));
+    let expected = [
+        (3, Data::Shorts(vec![2, 2])),
+        (1, Data::Bytes(vec![1, 2, 0, 1])),
+        (1, Data::Bytes(vec![0, 1, 2])),
+        (3, Data::Shorts(vec![1])),
+    ];
+    assert_eq!(values, expected.map(Some));
+    for tag in PATTERN_TAGS {
+        assert!(dng.ifds[0].get(tag).is_none());
+        assert!(dng.clone().without(tag).raw_ifd().get(tag).is_none());
+        let other = Tag::longs(tag, &[7; 5]);
+        assert_eq!(dng.clone().with(other.clone()).raw_ifd().get(tag), Some(&other));
+    }
 }
 
 #[test]

@@ -2,12 +2,15 @@
 
 use std::collections::{BTreeMap, BTreeSet};
 
+use reference::bytes::{ByteOrder, Widths};
 use reference::cases::{answer_line, Call, Fingerprint};
 use reference::develop::{accept, Accepted};
 use reference::directory::walk;
 use reference::generate::{generate, generate_valid};
+use reference::opcodes::Opcode;
+use reference::pattern;
 use reference::tag_test::{fine, Tags, LONG, RATIONAL, SHORT, SRATIONAL};
-use reference::{card, colour_window, spot, window, Answer};
+use reference::{card, colour_window, half_window, spot, window, Answer};
 
 /// The number and detail of a call's answer.
 fn answer(file: &[u8], call: &Call) -> Answer {
@@ -20,12 +23,15 @@ fn answer(file: &[u8], call: &Call) -> Answer {
         Call::ColourWindow { top, left, height, width, slice } => {
             colour_window(file, top, left, height, width, &mut vec![0.0; slice])
         }
+        Call::HalfWindow { top, left, height, width, slice } => {
+            half_window(file, top, left, height, width, &mut vec![0.0; slice])
+        }
     }
 }
 
 /// Of the first 3,000 cases of seed 1: their files and calls, their answers.
-const FILES: Fingerprint = Fingerprint(9312240981084700139);
-const ANSWERS: Fingerprint = Fingerprint(14519976510253022503);
+const FILES: Fingerprint = Fingerprint(1433722758376816421);
+const ANSWERS: Fingerprint = Fingerprint(12463398793987382069);
 
 #[test]
 fn the_first_cases_have_a_known_fingerprint() {
@@ -53,7 +59,7 @@ fn every_kind_of_file_comes_in_both_layouts() {
             of_layouts[layout] += u32::from(case.file.iter().take(4).any(|byte| *byte == mark));
         }
     }
-    assert!(kinds.len() >= 28, "{kinds:?}");
+    assert!(kinds.len() >= 29, "{kinds:?}");
     assert!(kinds.values().all(|of_layouts| of_layouts.iter().all(|count| *count >= 4)), "{kinds:?}");
 }
 
@@ -102,12 +108,12 @@ fn every_refusal_occurs_with_every_tag() {
     }
     let wrong = [
         254, 330, 50706, 50707, 256, 257, 262, 277, 258, 259, 284, 339, 50975, 52547, 278, 273, 279, 50829,
-        50712, 50713, 50714, 50715, 50716, 50717, 51009, 50964, 50728,
+        50712, 50713, 50714, 50715, 50716, 50717, 51009, 50964, 50728, 33421, 33422, 50710, 50711,
     ];
-    let absent = [50706, 256, 257, 262, 258, 273, 279, 50964, 50728];
+    let absent = [50706, 256, 257, 262, 258, 273, 279, 50964, 50728, 33421, 33422];
     let not_carried = [
         256, 257, 262, 277, 258, 259, 284, 339, 50975, 52547, 50713, 50714, 50715, 50716, 50717, 51008,
-        51022, 50723, 50727, 50965,
+        51022, 50723, 50727, 50965, 33421, 33422, 50710, 50711,
     ];
     for (number, tags) in [(4, &wrong[..]), (5, &absent[..]), (8, &not_carried[..])] {
         for tag in tags {
@@ -122,6 +128,58 @@ fn every_refusal_occurs_with_every_tag() {
     assert!(counts.contains_key(&Answer::TOO_MANY_OPCODES));
     println!("{done} of {cases} files are accepted");
     assert!(done * 3 >= cases as u32, "{done} of {cases} files are accepted");
+}
+
+/// The kinds of half-size colour to which a mosaic that has it belongs.
+fn kinds_of_halves(accepted: &Accepted) -> Vec<String> {
+    let pattern = pattern::read(&accepted.file, &accepted.raw_ifd).expect("half windows were accepted");
+    let (area, size) = (accepted.raw.active, accepted.size());
+    let one_colour = |opcode: &Opcode| match opcode {
+        Opcode::Kept(grid, _) => {
+            grid.row_pitch == 2 && grid.column_pitch == 2 && grid.rows() * grid.columns() > 1
+        }
+        Opcode::Skipped => false,
+    };
+    let kinds = [
+        (area.top % 2 == 1, "odd top"),
+        (area.left % 2 == 1, "odd left"),
+        (area.top % 2 == 1 && area.left % 2 == 1, "odd corner"),
+        (size.rows % 2 == 1 && size.rows > 1, "odd rows"),
+        (size.columns % 2 == 1 && size.columns > 1, "odd columns"),
+        (size.rows == 1, "one row"),
+        (size.columns == 1, "one column"),
+        (accepted.opcodes.iter().any(one_colour), "one colour"),
+        (accepted.raw.stored.bits == 8, "8 bits"),
+        (accepted.raw.stored.bits == 16, "16 bits"),
+        (accepted.file.order == ByteOrder::Little, "II"),
+        (accepted.file.order == ByteOrder::Big, "MM"),
+        (accepted.file.widths == Widths::BITS_32, "32-bit layout"),
+        (accepted.file.widths == Widths::BITS_64, "64-bit layout"),
+    ];
+    let met = kinds.into_iter().filter(|(met, _)| *met).map(|(_, kind)| kind.to_string());
+    met.chain([format!("{pattern:?}"), "all".into()]).collect()
+}
+
+/// In 6,000 files; of the patterns there are twelve.
+#[test]
+fn half_size_colour_is_often_accepted() {
+    let mut counts: BTreeMap<String, u32> = BTreeMap::new();
+    for index in 0..6_000 {
+        let file = generate(7, index).file;
+        // One block, or 13 where there is none.
+        let answer = half_window(&file, 0, 0, 1, 1, &mut [0.0; 3]);
+        if [0, 13].contains(&answer.number) {
+            let accepted = accept(&file).expect("half windows were accepted");
+            for kind in kinds_of_halves(&accepted) {
+                *counts.entry(kind).or_default() += 1;
+            }
+        }
+    }
+    println!("{counts:?}");
+    assert!(counts["all"] >= 1_000, "{counts:?}");
+    assert_eq!(counts.keys().filter(|kind| kind.starts_with("Pattern")).count(), 12);
+    assert_eq!(counts.len(), 12 + 15, "{counts:?}");
+    assert!(counts.values().all(|count| *count >= 50), "{counts:?}");
 }
 
 /// What the level tags of an accepted file say, in 256ths.

@@ -127,6 +127,13 @@ fn a_description_answers_the_same_from_either_layout() {
             Call::Window { top: 0, left: 0, height, width, slice },
             Call::Spot { row: height - 1, column: width - 1, plane: card.samples - 1 },
             Call::ColourWindow { top: 0, left: 0, height, width, slice: (3 * height * width) as usize },
+            Call::HalfWindow {
+                top: 0,
+                left: 0,
+                height: height / 2,
+                width: width / 2,
+                slice: (3 * (height / 2) * (width / 2)) as usize,
+            },
         ];
         for call in &calls {
             assert_eq!(answer_line(&narrow, call), answer_line(&wide, call), "{index}");

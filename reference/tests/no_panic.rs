@@ -16,6 +16,7 @@ fn ask_everything(file: &[u8]) {
         Call::Window { top: 0, left: 0, height: 1, width: 1, slice: 1 },
         Call::Spot { row: 0, column: 0, plane: 0 },
         Call::ColourWindow { top: 0, left: 0, height: 1, width: 1, slice: 3 },
+        Call::HalfWindow { top: 0, left: 0, height: 1, width: 1, slice: 3 },
     ];
     for call in &calls {
         answer_line(file, call);
@@ -51,27 +52,36 @@ fn random_bytes() {
     }
 }
 
-#[test]
-fn every_byte_of_a_file_changed() {
+/// A file with every tag, its active area of 2 x 2 pixels, and its raw IFD two
+/// below IFD 0.
+fn subject(dng: Dng, samples: u32) -> Dng {
+    let area = Area::whole(2, 2, samples);
     let opcodes = [
-        Opcode::map_table(Area::whole(2, 2, 3), &[1, 2]),
-        Opcode::map_polynomial(Area { row_pitch: 2, ..Area::whole(2, 2, 3) }, &[0.5, 0.25]),
+        Opcode::map_table(area, &[1, 2]),
+        Opcode::map_polynomial(Area { row_pitch: 2, ..area }, &[0.5, 0.25]),
         Opcode::new(9, 1, vec![1, 2]),
-        Opcode::per_line(11, Area::whole(2, 2, 3), &[0.5, 0.25]),
+        Opcode::per_line(11, area, &[0.5, 0.25]),
     ];
-    let dng = linear(3, 3)
-        .with(Tag::longs(50829, &[1, 1, 3, 3]))
+    let samples = samples as usize;
+    dng.with(Tag::longs(50829, &[1, 1, 3, 3]))
         .with(Tag::shorts(50712, &[1, 2, 3]))
         .with(Tag::shorts(50713, &[2, 1]))
-        .with(Tag::rationals(50714, &[(1, 2); 6]))
+        .with(Tag::rationals(50714, &vec![(1, 2); 2 * samples]))
         .with(Tag::srationals(50715, &[(1, 2); 2]))
         .with(Tag::srationals(50716, &[(-1, 2); 2]))
-        .with(Tag::longs(50717, &[300; 3]))
+        .with(Tag::longs(50717, &vec![300; samples]))
         .with_opcodes(&opcodes)
+        .with_pattern([1, 2, 0, 1])
         .with_first(Tag::srationals(50964, &[(1, 2); 9]))
         .with_first(Tag::rationals(50728, &[(1, 2); 3]))
-        .nested(2);
-    for widths in LAYOUTS {
+        .nested(2)
+}
+
+#[test]
+fn every_byte_of_a_file_changed() {
+    let dngs = [subject(linear(3, 3), 3), subject(mosaic(3, 3), 1)];
+    assert_eq!((colour_answer(&dngs[0]), half_answer(&dngs[1])), (DONE, DONE));
+    for (widths, dng) in LAYOUTS.into_iter().flat_map(|widths| dngs.each_ref().map(|dng| (widths, dng))) {
         let file = Dng { widths, ..dng.clone() }.file();
         assert_eq!(card(&file).answer(), DONE);
         for place in 0..file.len() {

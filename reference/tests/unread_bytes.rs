@@ -5,9 +5,9 @@
 mod common;
 
 use common::*;
-use reference::builder::{Area, Dng, Opcode, OpcodeList, Tag};
+use reference::builder::{pattern_tags, Area, Dng, Opcode, OpcodeList, Tag, PATTERN_TAGS};
 use reference::bytes::LAYOUTS;
-use reference::{card, colour_window};
+use reference::{card, colour_window, half_window};
 
 fn all_answers(file: &[u8]) -> (reference::Card, Vec<u64>, Vec<u64>) {
     let mut colours = vec![UNTOUCHED; 2 * 2 * 3];
@@ -78,6 +78,41 @@ fn bytes_that_are_not_read_change_no_answer() {
             all[place] ^= 0xFF;
         }
         assert_eq!(all_answers(&all), before);
+    }
+}
+
+/// "Reads: the four tags' values, of a mosaic only": no other call reads them,
+/// and none of them in IFD 0 above the raw IFD.
+#[test]
+fn the_pattern_is_read_of_a_mosaic_by_half_windows() {
+    let mosaic = mosaic(4, 4)
+        .with_pattern([0, 1, 1, 2])
+        .with_first(Tag::srationals(50964, &[(1, 2); 9]))
+        .with_first(Tag::shorts(50728, &[1, 2, 3]))
+        .nested(1);
+    let mosaic = pattern_tags([2, 1, 1, 0]).into_iter().fold(mosaic, Dng::with_first);
+    let (linear, _) = subject();
+    let linear = linear.with_pattern([0, 1, 1, 2]);
+    for widths in LAYOUTS {
+        let [mosaic, linear] = [&mosaic, &linear].map(|dng| Dng { widths, ..dng.clone() }.layout());
+        let half = |file: &[u8]| {
+            let mut out = [UNTOUCHED; 12];
+            (half_window(file, 0, 0, 2, 2, &mut out), bits(&out))
+        };
+        let (before, frame, colours) =
+            (half(&mosaic.file), frame_of(&mosaic.file), all_answers(&linear.file));
+        assert_eq!(before.0, DONE);
+        for tag in PATTERN_TAGS {
+            let (read, above, unread) = (mosaic.entry(1, tag), mosaic.entry(0, tag), linear.entry(1, tag));
+            for place in 0..read.length {
+                let changed = |file: &[u8], at: usize| poked(file, at + place, &[file[at + place] ^ 0x11]);
+                let of_read = changed(&mosaic.file, read.value);
+                assert_eq!(half(&of_read).0, refusal(8, tag.into()));
+                assert_eq!(frame_of(&of_read), frame);
+                assert_eq!(half(&changed(&mosaic.file, above.value)), before);
+                assert_eq!(all_answers(&changed(&linear.file, unread.value)), colours);
+            }
+        }
     }
 }
 

@@ -10,7 +10,7 @@ use crate::core;
 
 type Window = fn(&[u8], u64, u64, u64, u64, &mut [f64]) -> Answer;
 
-/// The four calls of one of the two programs.
+/// The calls of one of the two programs.
 pub struct Program {
     card: fn(&[u8]) -> Card,
     /// A number that no card has; 0 is right.
@@ -18,6 +18,7 @@ pub struct Program {
     window: Window,
     spot: fn(&[u8], u64, u64, u64) -> (Answer, f64),
     colour_window: Window,
+    half_window: Window,
 }
 
 pub const CORE: Program = Program {
@@ -26,6 +27,7 @@ pub const CORE: Program = Program {
     window: core::window,
     spot: core::spot,
     colour_window: core::colour_window,
+    half_window: core::half_window,
 };
 
 pub const REFERENCE: Program = Program {
@@ -34,6 +36,7 @@ pub const REFERENCE: Program = Program {
     window: reference::window,
     spot: reference::spot,
     colour_window: reference::colour_window,
+    half_window: reference::half_window,
 };
 
 /// Places on both sides of a lent slice, which no call may write.
@@ -73,6 +76,9 @@ impl Program {
             Call::ColourWindow { top, left, height, width, slice } => {
                 lend(slice, |out| (self.colour_window)(file, top, left, height, width, out))
             }
+            Call::HalfWindow { top, left, height, width, slice } => {
+                lend(slice, |out| (self.half_window)(file, top, left, height, width, out))
+            }
         }
     }
 }
@@ -85,13 +91,15 @@ fn lend(slice: usize, call: impl FnOnce(&mut [f64]) -> Answer) -> Outcome {
 
 impl Outcome {
     /// "a refused card holds five zeros, a refused spot +0.0; a refused window
-    /// or colour window leaves its slice untouched"; an accepted one writes
-    /// every place of its slice and no other.
+    /// or colour window leaves its slice untouched", and so does a half window;
+    /// an accepted one writes every place of its slice and no other.
     pub fn is_whole(&self, call: &Call) -> bool {
         let done = self.answer == Answer::DONE;
         match *call {
             Call::Card | Call::Spot { .. } => done || self.bits.iter().all(|bits| *bits == 0),
-            Call::Window { slice, .. } | Call::ColourWindow { slice, .. } => {
+            Call::Window { slice, .. }
+            | Call::ColourWindow { slice, .. }
+            | Call::HalfWindow { slice, .. } => {
                 let in_slice = |i: &usize| (MARGIN..MARGIN + slice).contains(i);
                 let stays = |(i, bits): (usize, &u64)| (*bits == untouched(i)) != (done && in_slice(&i));
                 self.bits.iter().enumerate().all(stays)
@@ -99,15 +107,15 @@ impl Outcome {
         }
     }
 
-    /// The values of an accepted window, spot or colour window.
+    /// The values of an accepted spot or window of any kind.
     pub fn values(&self, call: &Call) -> &[u64] {
         match *call {
             _ if self.answer != Answer::DONE => &[],
             Call::Card => &[],
             Call::Spot { .. } => &self.bits,
-            Call::Window { slice, .. } | Call::ColourWindow { slice, .. } => {
-                &self.bits[MARGIN..MARGIN + slice]
-            }
+            Call::Window { slice, .. }
+            | Call::ColourWindow { slice, .. }
+            | Call::HalfWindow { slice, .. } => &self.bits[MARGIN..MARGIN + slice],
         }
     }
 }
@@ -122,7 +130,7 @@ impl fmt::Display for Shown<'_> {
         write!(f, "{} {}", one.answer.number, one.answer.detail)?;
         let first = match call {
             Call::Card | Call::Spot { .. } => 0,
-            Call::Window { .. } | Call::ColourWindow { .. } => MARGIN as i64,
+            Call::Window { .. } | Call::ColourWindow { .. } | Call::HalfWindow { .. } => MARGIN as i64,
         };
         match one.bits.iter().zip(&other.bits).position(|(a, b)| a != b) {
             Some(i) => write!(f, " with {:016x} at place {}", one.bits[i], i as i64 - first),

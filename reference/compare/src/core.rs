@@ -26,6 +26,26 @@ extern "C" {
         out: *mut f64,
         out_len: usize,
     ) -> u64;
+    fn dng_half_window(
+        file: *const u8,
+        file_len: usize,
+        top: usize,
+        left: usize,
+        height: usize,
+        width: usize,
+        out: *mut f64,
+        out_len: usize,
+    ) -> u64;
+}
+
+/// `dng_window` and its like.
+type Window = unsafe extern "C" fn(*const u8, usize, usize, usize, usize, usize, *mut f64, usize) -> u64;
+
+/// Asks one of them. Its slice and the file lie apart, and both are lent for as
+/// long as the call runs.
+fn ask(call: Window, file: &[u8], rectangle: [u64; 4], out: &mut [f64]) -> Answer {
+    let [top, left, height, width] = rectangle.map(|n| n as usize);
+    answer(unsafe { call(file.as_ptr(), file.len(), top, left, height, width, out.as_mut_ptr(), out.len()) })
 }
 
 /// One number of the card.
@@ -47,10 +67,7 @@ pub fn card(file: &[u8]) -> Card {
 }
 
 pub fn window(file: &[u8], top: u64, left: u64, height: u64, width: u64, out: &mut [f64]) -> Answer {
-    let [top, left, height, width] = [top, left, height, width].map(|n| n as usize);
-    answer(unsafe {
-        dng_window(file.as_ptr(), file.len(), top, left, height, width, out.as_mut_ptr(), out.len())
-    })
+    ask(dng_window, file, [top, left, height, width], out)
 }
 
 pub fn spot(file: &[u8], row: u64, column: u64, plane: u64) -> (Answer, f64) {
@@ -68,10 +85,11 @@ pub fn spot_value(file: &[u8], row: u64, column: u64, plane: u64) -> f64 {
 }
 
 pub fn colour_window(file: &[u8], top: u64, left: u64, height: u64, width: u64, out: &mut [f64]) -> Answer {
-    let [top, left, height, width] = [top, left, height, width].map(|n| n as usize);
-    answer(unsafe {
-        dng_colour_window(file.as_ptr(), file.len(), top, left, height, width, out.as_mut_ptr(), out.len())
-    })
+    ask(dng_colour_window, file, [top, left, height, width], out)
+}
+
+pub fn half_window(file: &[u8], top: u64, left: u64, height: u64, width: u64, out: &mut [f64]) -> Answer {
+    ask(dng_half_window, file, [top, left, height, width], out)
 }
 
 /// number x 2^32 + detail

@@ -8,10 +8,11 @@ use reference::colour;
 use reference::develop::{accept, Accepted};
 use reference::directory::{walk, Tree};
 use reference::opcodes::{Action, FrameSize, Grid, Opcode};
+use reference::pattern::{self, Pattern};
 use reference::tag_test::{fine, Fraction, Tags, IFD8, LONG, LONG8, SHORT, SLONG8, SRATIONAL};
 
 /// Every kind that must occur in each layout.
-const KINDS: [&str; 38] = [
+const KINDS: [&str; 65] = [
     "mosaic 8 II",
     "mosaic 8 MM",
     "mosaic 16 II",
@@ -50,7 +51,38 @@ const KINDS: [&str; 38] = [
     "LONG8",
     "SLONG8",
     "IFD8",
+    "pattern 0112",
+    "pattern 0121",
+    "pattern 0211",
+    "pattern 1012",
+    "pattern 1021",
+    "pattern 1102",
+    "pattern 1120",
+    "pattern 1201",
+    "pattern 1210",
+    "pattern 2011",
+    "pattern 2101",
+    "pattern 2110",
+    "plane colours",
+    "CFA layout",
+    "pattern refused",
+    "blocks 8 II",
+    "blocks 8 MM",
+    "blocks 16 II",
+    "blocks 16 MM",
+    "blocks from an odd row",
+    "blocks from an odd column",
+    "blocks from both",
+    "blocks in odd rows",
+    "blocks in odd columns",
+    "no block in one row",
+    "no block in one column",
+    "opcode on one colour",
 ];
+
+/// Where the kinds of mosaics' blocks begin.
+const PATTERNS: usize = 38;
+const BLOCKS: usize = 53;
 
 #[derive(Default)]
 pub struct Kinds {
@@ -67,6 +99,7 @@ impl Kinds {
         kinds.extend(of_tags(&accepted));
         kinds.extend(of_list(&accepted));
         kinds.extend(of_colour(&accepted));
+        kinds.extend(of_blocks(&accepted));
         kinds.sort_unstable();
         kinds.dedup();
         for kind in kinds {
@@ -89,9 +122,7 @@ impl Kinds {
 fn of_frame(accepted: &Accepted) -> Vec<&'static str> {
     let (stored, active) = (&accepted.raw.stored, &accepted.raw.active);
     let linear = usize::from(stored.samples == 3);
-    let deep = usize::from(stored.bits == 16);
-    let big = usize::from(accepted.file.order == ByteOrder::Big);
-    let mut kinds = vec![KINDS[4 * linear + 2 * deep + big]];
+    let mut kinds = vec![of_depth(4 * linear, accepted)];
     if stored.strips.len() > 1 {
         kinds.push("several strips");
     }
@@ -99,6 +130,13 @@ fn of_frame(accepted: &Accepted) -> Vec<&'static str> {
         kinds.push("area off the corner");
     }
     kinds
+}
+
+/// Of four kinds from one on that of the file's bits and byte order.
+fn of_depth(first: usize, accepted: &Accepted) -> &'static str {
+    let deep = usize::from(accepted.raw.stored.bits == 16);
+    let big = usize::from(accepted.file.order == ByteOrder::Big);
+    KINDS[first + 2 * deep + big]
 }
 
 fn of_tags(accepted: &Accepted) -> Vec<&'static str> {
@@ -189,4 +227,53 @@ fn of_colour(accepted: &Accepted) -> Option<&'static str> {
     }
     let colour = colour::read(&accepted.file, &accepted.first);
     Some(if colour.is_ok() { "colour" } else { "colour refused" })
+}
+
+/// What decides about half-size colour, where the colour tags do not refuse it.
+fn of_blocks(accepted: &Accepted) -> Vec<&'static str> {
+    if accepted.size().samples == 3 || colour::read(&accepted.file, &accepted.first).is_err() {
+        return Vec::new();
+    }
+    let Ok(pattern) = pattern::read(&accepted.file, &accepted.raw_ifd) else {
+        return vec!["pattern refused"];
+    };
+    let FrameSize { rows, columns, .. } = accepted.size();
+    let no_blocks = met([
+        (rows < pattern::SIDE, "no block in one row"),
+        (columns < pattern::SIDE, "no block in one column"),
+    ]);
+    if !no_blocks.is_empty() {
+        return no_blocks;
+    }
+    let active = &accepted.raw.active;
+    let [down, across] = [active.top, active.left].map(|corner| corner % 2 == 1);
+    let present = |tag| accepted.raw_ifd.find(tag).is_some();
+    let mut kinds = met([
+        (present(50710), "plane colours"),
+        (present(50711), "CFA layout"),
+        (down, "blocks from an odd row"),
+        (across, "blocks from an odd column"),
+        (down && across, "blocks from both"),
+        (rows % 2 == 1, "blocks in odd rows"),
+        (columns % 2 == 1, "blocks in odd columns"),
+        (accepted.opcodes.iter().any(on_one_colour), "opcode on one colour"),
+    ]);
+    kinds.extend([of_pattern(pattern), of_depth(BLOCKS, accepted)]);
+    kinds
+}
+
+/// A grid that takes the same place of two blocks or more.
+fn on_one_colour(opcode: &Opcode) -> bool {
+    match opcode {
+        Opcode::Kept(grid, _) => {
+            grid.row_pitch == 2 && grid.column_pitch == 2 && grid.rows() * grid.columns() > 1
+        }
+        Opcode::Skipped => false,
+    }
+}
+
+fn of_pattern(Pattern(colours): Pattern) -> &'static str {
+    let digits: String = colours.iter().map(u64::to_string).collect();
+    let of_patterns = KINDS[PATTERNS..].iter();
+    of_patterns.copied().find(|kind| kind.ends_with(&digits)).expect("twelve patterns are carried")
 }

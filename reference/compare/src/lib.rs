@@ -4,6 +4,7 @@ pub mod asking;
 pub mod core;
 pub mod kinds;
 pub mod limits;
+pub mod mosaic;
 pub mod questions;
 pub mod tally;
 pub mod times;

@@ -1,6 +1,6 @@
-//! Files at each limit of document 01 and on both sides of it, each with the
-//! answer that the document gives. Both programs must give that answer, and
-//! where nothing else is said they must give it in both layouts.
+//! Files at each limit of documents 01 and 02 and on both sides of it, each with
+//! the answer that they give. Both programs must give that answer, and where
+//! nothing else is said they must give it in both layouts.
 
 mod blacks;
 mod colour;
@@ -8,6 +8,7 @@ mod headers;
 mod lists;
 mod numbers;
 mod parameters;
+mod pattern;
 mod places;
 mod shapes;
 mod tags;
@@ -15,12 +16,12 @@ mod trees;
 mod values;
 mod wide;
 
-use reference::builder::{Data, Dng, Picture, Tag};
+use reference::builder::{Dng, Picture, Tag};
 use reference::bytes::{ByteOrder, Widths, LAYOUTS};
 use reference::cases::Call;
 use reference::tag_test::{IFD, IFD8, LONG, LONG8};
 
-use crate::questions::{colour_window, window};
+use crate::questions::{colour_window, half_window, window};
 use crate::tally::Tally;
 
 /// A number and a detail.
@@ -67,10 +68,11 @@ pub fn check(tally: &mut Tally) {
     numbers::check(tally);
     values::check(tally);
     colour::check(tally);
+    pattern::check(tally);
     places::check(tally);
 }
 
-/// The four calls of a file whose card is stated. What refuses the card
+/// The five calls of a file whose card is stated. What refuses the card
 /// refuses every call, whatever else is asked.
 fn check_file(tally: &mut Tally, label: &str, file: &[u8], answer: Answer) {
     tally.files += 1;
@@ -80,6 +82,7 @@ fn check_file(tally: &mut Tally, label: &str, file: &[u8], answer: Answer) {
         for rectangle in [[0, 0, 1, 1], [u64::MAX; 4]] {
             tally.ask(label, file, &window(rectangle, 1), stated);
             tally.ask(label, file, &colour_window(rectangle, 3), stated);
+            tally.ask(label, file, &half_window(rectangle, 3), stated);
         }
         tally.ask(label, file, &Call::Spot { row: 0, column: 0, plane: 0 }, stated);
         return;
@@ -90,8 +93,19 @@ fn check_file(tally: &mut Tally, label: &str, file: &[u8], answer: Answer) {
     let pixels = (height * width) as usize;
     tally.ask(label, file, &window(rectangle, pixels * samples as usize), stated);
     tally.ask(label, file, &Call::Spot { row: rows - 1, column: columns - 1, plane: samples - 1 }, stated);
-    let of_colour = if samples == 1 { Some((15, 0)) } else { None };
+    let other_kind = Some((15, 0));
+    let (of_colour, of_half) = if samples == 1 { (other_kind, None) } else { (None, other_kind) };
     tally.ask(label, file, &colour_window(rectangle, pixels * 3), of_colour);
+    tally.ask(label, file, &half_window([0, 0, 1, 1], 3), of_half);
+}
+
+/// The description in one layout, in both byte orders, with its raw IFD as IFD 0
+/// and as a child of IFD 0.
+fn each_file(widths: Widths, label: &str, dng: &Dng, mut visit: impl FnMut(&str, &[u8])) {
+    for (order, depth) in ORDERS.into_iter().flat_map(|order| [(order, 0), (order, 1)]) {
+        let file = Dng { order, widths, ..dng.clone().nested(depth) }.file();
+        visit(&format!("{label}, {order:?}, {widths:?}, depth {depth}"), &file);
+    }
 }
 
 /// The description in both byte orders and in both layouts.
@@ -137,14 +151,7 @@ fn answer(number: u32, tag: u16) -> Answer {
 
 /// A tag whose values have the size of its type; an unknown type has bytes.
 fn entry(tag: u16, kind: u16, values: &[u32]) -> Tag {
-    let data = match kind {
-        3 | 8 => Data::Shorts(values.iter().map(|v| *v as u16).collect()),
-        4 | 9 | 11 | 13 => Data::Longs(values.to_vec()),
-        5 | 10 | 12 => Data::Rationals(values.iter().map(|v| (*v, 1)).collect()),
-        16..=18 => Data::Long8s(values.iter().map(|v| (*v).into()).collect()),
-        _ => Data::Bytes(values.iter().map(|v| *v as u8).collect()),
-    };
-    Tag::new(tag, kind, data)
+    Tag::of_type(tag, kind, values)
 }
 
 fn every_type() -> impl Iterator<Item = u16> {

@@ -1,5 +1,5 @@
 //! `compare SEED COUNT`: so many generated files through the core and through
-//! the independent program, by all four calls. Every answer must be the same
+//! the independent program, by all five calls. Every answer must be the same
 //! in every bit, and every refusal must have been met; then the same of the
 //! files at the limits, whose answers are stated.
 
@@ -8,7 +8,7 @@ use std::process::ExitCode;
 use compare::kinds::Kinds;
 use compare::limits;
 use compare::questions::questions;
-use compare::tally::{Stated, Tally, CARD, COLOUR_WINDOW};
+use compare::tally::{Stated, Tally, CARD, COLOUR_WINDOW, HALF_WINDOW};
 use reference::bytes::{Widths, MARKS};
 use reference::generate::generate;
 
@@ -30,6 +30,20 @@ const LIST: [Stated; 7] = [(10, 0), (10, 1), (11, 0), (11, 1), (11, 32), (12, 0)
 const COLOUR: [Stated; 7] =
     [(8, 50723), (8, 50727), (8, 50965), (5, 50964), (4, 50964), (5, 50728), (4, 50728)];
 
+/// Of the pattern's tags, two of which have a default.
+const PATTERN: [Stated; 10] = [
+    (5, 33421),
+    (4, 33421),
+    (8, 33421),
+    (5, 33422),
+    (4, 33422),
+    (8, 33422),
+    (4, 50710),
+    (8, 50710),
+    (4, 50711),
+    (8, 50711),
+];
+
 /// Every answer that must have been met and was not.
 fn missing(tally: &Tally) -> Vec<String> {
     let mut of_card: Vec<Stated> = PLAIN.iter().map(|number| (*number, 0)).collect();
@@ -37,7 +51,13 @@ fn missing(tally: &Tally) -> Vec<String> {
         of_card.extend(tags.iter().map(|tag| (number, *tag)));
     }
     of_card.extend(LIST);
-    let details = [tally.missing(CARD, &of_card), tally.missing(COLOUR_WINDOW, &COLOUR)].concat();
+    let of_half = [&of_card, &COLOUR[..], &PATTERN].concat();
+    let details = [
+        tally.missing(CARD, &of_card),
+        tally.missing(COLOUR_WINDOW, &COLOUR),
+        tally.missing(HALF_WINDOW, &of_half),
+    ]
+    .concat();
     let numbers = tally.missing_numbers();
     let details = details.into_iter().map(|(name, (number, detail))| format!("{name} {number} {detail}"));
     details.chain(numbers.into_iter().map(|(name, number)| format!("{name} {number}"))).collect()

@@ -1,6 +1,6 @@
-//! The calls to make of one file: the whole frame, inside, one pixel, empty,
-//! one past each edge, sums and products that wrap, and slices of the right
-//! length, one short, one long and empty.
+//! The calls to make of one file: the whole frame, inside, one pixel or block,
+//! empty, one past each edge, sums and products that wrap, and slices of the
+//! right length, one short, one long and empty.
 
 use reference::cases::Call;
 use reference::Card;
@@ -15,7 +15,7 @@ const OUTSIDE_TURNS: usize = 3;
 /// Top, left, height, width.
 type Rectangle = [u64; 4];
 
-/// Window or colour window.
+/// Window, colour window or half window.
 type Kind = fn(Rectangle, usize) -> Call;
 
 pub fn window([top, left, height, width]: Rectangle, slice: usize) -> Call {
@@ -26,6 +26,11 @@ pub fn colour_window([top, left, height, width]: Rectangle, slice: usize) -> Cal
     Call::ColourWindow { top, left, height, width, slice }
 }
 
+/// In blocks.
+pub fn half_window([top, left, height, width]: Rectangle, slice: usize) -> Call {
+    Call::HalfWindow { top, left, height, width, slice }
+}
+
 /// All calls but the card; the card is the independent program's. Of those
 /// that lie outside, every third is asked, and at the next turn the next one.
 pub fn questions(card: &Card, turn: u64) -> Vec<Call> {
@@ -33,12 +38,16 @@ pub fn questions(card: &Card, turn: u64) -> Vec<Call> {
         return of_refused();
     }
     let turn = (turn % OUTSIDE_TURNS as u64) as usize;
-    let mut calls = windows(window, card, card.samples, turn);
+    let (rows, columns) = (card.rows, card.columns);
+    let mut calls = windows(window, rows, columns, card.samples, turn);
     calls.extend(spots(card, turn));
     if card.samples == 3 {
-        calls.extend(windows(colour_window, card, 3, turn));
+        calls.extend(windows(colour_window, rows, columns, 3, turn));
+        calls.extend(either_window(half_window));
     } else {
         calls.extend(either_window(colour_window));
+        // An area without a block is asked as if it had one; all is 13.
+        calls.extend(windows(half_window, (rows / 2).max(1), (columns / 2).max(1), 3, turn));
     }
     calls
 }
@@ -46,17 +55,16 @@ pub fn questions(card: &Card, turn: u64) -> Vec<Call> {
 /// Whatever is asked of it, a refused file answers the same.
 fn of_refused() -> Vec<Call> {
     let spots = [0, MAX].map(|n| Call::Spot { row: n, column: n, plane: n });
-    let windows = [window as Kind, colour_window].into_iter().flat_map(either_window);
+    let windows = [window as Kind, colour_window, half_window].into_iter().flat_map(either_window);
     windows.chain(spots).collect()
 }
 
-/// A window of one pixel, one that is empty, and one as far away as can be.
+/// A window of one pixel or block, one that is empty, and one as far away as can be.
 fn either_window(kind: Kind) -> [Call; 3] {
     [kind([0, 0, 1, 1], 3), kind([0; 4], 0), kind([MAX; 4], 1)]
 }
 
-fn windows(kind: Kind, card: &Card, values: u64, turn: usize) -> Vec<Call> {
-    let (rows, columns) = (card.rows, card.columns);
+fn windows(kind: Kind, rows: u64, columns: u64, values: u64, turn: usize) -> Vec<Call> {
     let mut calls = Vec::new();
     if rows * columns * values <= GREATEST_WHOLE {
         let right = (rows * columns * values) as usize;

@@ -9,12 +9,14 @@ use crate::asking::{Outcome, Shown, CORE, REFERENCE};
 /// A number and a detail.
 pub type Stated = (u32, u32);
 
-pub const NAMES: [&str; 4] = ["card", "window", "spot", "colour window"];
+const CALLS: usize = 5;
+pub const NAMES: [&str; CALLS] = ["card", "window", "spot", "colour window", "half window"];
 pub const CARD: usize = 0;
 pub const COLOUR_WINDOW: usize = 3;
+pub const HALF_WINDOW: usize = 4;
 
 /// The greatest number that each call can answer.
-const GREATEST_NUMBER: [u32; 4] = [12, 14, 13, 15];
+const GREATEST_NUMBER: [u32; CALLS] = [12, 14, 13, 15, 15];
 
 /// So many differences are printed; the rest are counted.
 const PRINTED: u64 = 30;
@@ -22,7 +24,7 @@ const PRINTED: u64 = 30;
 #[derive(Default)]
 pub struct Tally {
     /// For each call, how often each number and detail was answered.
-    met: [BTreeMap<Stated, u64>; 4],
+    met: [BTreeMap<Stated, u64>; CALLS],
     pub files: u64,
     pub differences: u64,
     /// Samples and colours compared, and how many of them were neither 0 nor 1.
@@ -36,6 +38,7 @@ fn index(call: &Call) -> usize {
         Call::Window { .. } => 1,
         Call::Spot { .. } => 2,
         Call::ColourWindow { .. } => COLOUR_WINDOW,
+        Call::HalfWindow { .. } => HALF_WINDOW,
     }
 }
 
@@ -97,7 +100,7 @@ impl Tally {
 
     /// The numbers that a call can answer and has not.
     pub fn missing_numbers(&self) -> Vec<(&'static str, u32)> {
-        let all = (0..4).flat_map(|call| (0..=GREATEST_NUMBER[call]).map(move |number| (call, number)));
+        let all = (0..CALLS).flat_map(|call| (0..=GREATEST_NUMBER[call]).map(move |number| (call, number)));
         all.filter(|(call, number)| self.count(*call, *number) == 0)
             .map(|(call, number)| (NAMES[call], number))
             .collect()

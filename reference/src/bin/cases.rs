@@ -14,7 +14,8 @@ const USAGE: &str = "usage:
                                  card
                                  window TOP LEFT HEIGHT WIDTH SLICE
                                  spot ROW COLUMN PLANE
-                                 colour_window TOP LEFT HEIGHT WIDTH SLICE";
+                                 colour_window TOP LEFT HEIGHT WIDTH SLICE
+                                 half_window TOP LEFT HEIGHT WIDTH SLICE, in blocks";
 
 fn main() -> io::Result<()> {
     let words: Vec<String> = env::args().skip(1).collect();

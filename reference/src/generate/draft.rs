@@ -6,7 +6,7 @@ use crate::random::Random;
 use crate::tag_test::{LONG, SHORT};
 
 use super::levels::{self, Frame};
-use super::{layouts, lists, trees};
+use super::{colours, layouts, lists, trees};
 
 /// A description that can still be edited; the opcode list is kept apart.
 #[derive(Clone, Debug)]
@@ -38,9 +38,11 @@ impl Draft {
         let frame = draft.frame();
         draft.greatest_black = levels::choose(random, &mut draft.dng, frame);
         draft.list = lists::list(random, &draft);
-        draft.choose_colour(random);
+        colours::choose(random, &mut draft.dng);
         draft.choose_noise(random);
+        colours::choose_pattern(random, &mut draft.dng, draft.picture.samples);
         trees::nest(random, &mut draft.dng);
+        colours::choose_unread(random, &mut draft.dng);
         draft.dng.ifds_first = random.one_in(2);
         draft.dng.gap = random.pick(&[0, 0, 0, 1, 2, 5]);
         draft.dng.tail = random.pick(&[0, 0, 0, 1, 9]);
@@ -178,28 +180,11 @@ impl Draft {
         self.dng.raw_ifd().set(Tag::shorts(50712, &entries));
     }
 
-    fn choose_colour(&mut self, random: &mut Random) {
-        if random.one_in(if self.samples() == 3 { 6 } else { 2 }) {
-            return;
-        }
-        let matrix: Vec<(i32, i32)> = (0..9)
-            .map(|_| {
-                (random.between(-20_000, 20_000) as i32, random.pick(&[1, 3, 10_000, -7, i32::MIN, i32::MAX]))
-            })
-            .collect();
-        self.dng.first_ifd().set(Tag::srationals(50964, &matrix));
-        let neutral: Vec<(u32, u32)> =
-            (0..3).map(|_| (random.small(1, 1000), random.pick(&[1, 3, 1000, u32::MAX]))).collect();
-        let shorts: Vec<u16> = neutral.iter().map(|(n, _)| *n as u16).collect();
-        let tag =
-            if random.one_in(4) { Tag::shorts(50728, &shorts) } else { Tag::rationals(50728, &neutral) };
-        self.dng.first_ifd().set(tag);
-    }
-
-    /// Tags that no call reads, of known and unknown types.
+    /// Tags that no call reads, of known and unknown types; two of them are read
+    /// of a mosaic, which as a rule has its own in their place.
     fn choose_noise(&mut self, random: &mut Random) {
         for _ in 0..random.index(3) {
-            let tag = random.pick(&[1, 253, 266, 271, 305, 330, 700, 33_421, 50_718, 51_041, 65_535]);
+            let tag = random.pick(&[1, 253, 266, 271, 305, 330, 700, 33_421, 50_710, 50_718, 51_041, 65_535]);
             let length = random.index(12);
             let bytes = random.bytes(length);
             let noise = if random.one_in(3) {

@@ -1,10 +1,11 @@
 //! Single faults in a valid description, at each limit and one step off it.
 //! Not every edit is a fault: some land on the good side of their limit.
 
-use crate::builder::{Data, Dng, OpcodeList, Place, Tag};
+use crate::builder::{pattern_tags, Data, Dng, OpcodeList, Place, Tag, PATTERN_TAGS};
 use crate::bytes::{ByteOrder, LAYOUTS};
 use crate::random::Random;
 
+use super::colours;
 use super::draft::Draft;
 use super::layouts::WIDE_TYPES;
 use super::lists;
@@ -22,6 +23,8 @@ const FAULTS: &[(&str, Fault)] = &[
     ("tag value", tag_value),
     ("tag value", tag_value),
     ("tag forbidden", tag_forbidden),
+    ("pattern", pattern),
+    ("pattern", pattern),
     ("value place", value_place),
     ("strip place", strip_place),
     ("tag order", tag_order),
@@ -50,9 +53,9 @@ pub fn faulty(random: &mut Random) -> (String, Vec<u8>) {
     (labels.join(" + "), draft.dng().file())
 }
 
-const RAW_TAGS: [u16; 22] = [
+const RAW_TAGS: [u16; 26] = [
     254, 256, 257, 262, 277, 258, 259, 284, 339, 50975, 52547, 278, 273, 279, 50829, 50712, 50713, 50714,
-    50715, 50716, 50717, 51009,
+    50715, 50716, 50717, 51009, 33421, 33422, 50710, 50711,
 ];
 const FIRST_TAGS: [u16; 6] = [254, 330, 50706, 50707, 50728, 50964];
 const FORBIDDEN_IN_RAW: [u16; 2] = [51008, 51022];
@@ -75,6 +78,9 @@ fn choose_tag<'a>(random: &mut Random, draft: &'a mut Draft) -> &'a mut Tag {
 
 /// A tag that says what its absence says, as far as that can be.
 fn harmless_tag(draft: &Draft, tag: u16) -> Tag {
+    if let Some(carried) = pattern_tags([0, 1, 1, 2]).into_iter().find(|carried| carried.tag == tag) {
+        return carried;
+    }
     let samples = draft.samples() as usize;
     let zeros = |count: u32| vec![(0, 1); count as usize];
     match tag {
@@ -100,7 +106,8 @@ fn harmless_tag(draft: &Draft, tag: u16) -> Tag {
 }
 
 fn tag_absent(random: &mut Random, draft: &mut Draft) {
-    let required = [256, 257, 258, 262, 273, 279, 277, 278, 50706, 50964, 50728, 50713, 254, 330];
+    let required =
+        [256, 257, 258, 262, 273, 279, 277, 278, 50706, 50964, 50728, 50713, 254, 330, 33421, 33422];
     let tag = random.pick(&required);
     draft.dng.raw_ifd().remove(tag);
     draft.dng.first_ifd().remove(tag);
@@ -177,6 +184,7 @@ fn edges(tag: u16, length: u32, width: u32) -> Vec<u32> {
         50713 => &[0, 1, 2, 7, 8, 9, 65_535],
         50714 | 50717 => &[0, 1, 254, 65_534, 65_535, 65_536, u32::MAX],
         50706 | 50707 => &[0, 1, 2, 7, 8, 255],
+        33421 | 33422 | 50710 | 50711 => &[0, 1, 2, 3, 255, 258],
         _ => &[0, 1, 2, 3, 4, 8, 255, 65_535, u32::MAX],
     };
     edges.to_vec()
@@ -190,6 +198,35 @@ fn tag_forbidden(random: &mut Random, draft: &mut Draft) {
     } else {
         draft.dng.first_ifd().set(tag(random.pick(&FORBIDDEN_IN_FIRST)).with_kind(kind));
     }
+}
+
+/// Of the pattern's four tags one absent, with a value more or less or another
+/// one, or SHORT for BYTE and BYTE for SHORT; the other three are carried.
+fn pattern(random: &mut Random, draft: &mut Draft) {
+    let place = random.index(PATTERN_TAGS.len());
+    let tags = colours::carried(random);
+    let (tag, mut bytes, mut values) = match &tags[place] {
+        Tag { tag, data: Data::Bytes(values), .. } => (*tag, true, values.clone()),
+        Tag { tag, .. } => (*tag, false, if *tag == 33421 { vec![2, 2] } else { vec![1] }),
+    };
+    for carried in tags {
+        draft.dng.raw_ifd().set(carried);
+    }
+    match random.index(8) {
+        0 | 1 => {
+            draft.dng.raw_ifd().remove(tag);
+            return;
+        }
+        2 => bytes = !bytes,
+        3 => values.push(1),
+        4 => values.truncate(values.len() - 1),
+        _ => {
+            let place = random.index(values.len());
+            values[place] = random.pick(&[0, 1, 2, 3, 255]);
+        }
+    }
+    let shorts: Vec<u16> = values.iter().map(|v| (*v).into()).collect();
+    draft.dng.raw_ifd().set(if bytes { Tag::bytes(tag, &values) } else { Tag::shorts(tag, &shorts) });
 }
 
 /// A value that ends at the file's end, or past it by a byte, or far away.

@@ -5,8 +5,8 @@ use crate::bytes::ByteOrder;
 use crate::random::Random;
 use crate::tag_test::SHORT;
 
-use super::layouts;
 use super::levels::{self, Frame};
+use super::{colours, layouts};
 
 /// Every strip is one row; all strips stand in one block of a few rows.
 pub fn great(random: &mut Random) -> Vec<u8> {
@@ -32,6 +32,8 @@ pub fn great(random: &mut Random) -> Vec<u8> {
         dng = dng.with_opcodes(&[stripes(length, width, samples)]);
     }
     levels::choose(random, &mut dng, frame);
+    colours::choose(random, &mut dng);
+    colours::choose_pattern(random, &mut dng, samples);
     layouts::lay_out_in_either(random, &mut dng);
     dng.file()
 }

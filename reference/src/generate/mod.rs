@@ -1,6 +1,7 @@
 //! A generator of valid and damaged files and of questions about them. The
 //! same seed and index give the same case on every machine.
 
+mod colours;
 mod damage;
 mod draft;
 mod faults;

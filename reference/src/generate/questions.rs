@@ -33,6 +33,24 @@ pub fn questions(random: &mut Random, file: &[u8]) -> Vec<Call> {
             calls.push(colour_window(random, rows, columns));
         }
     }
+    calls.extend(half_windows(random, rows / 2, columns / 2));
+    calls
+}
+
+/// All blocks, where they are not too many, and two windows of them. An area
+/// without a block is asked about one.
+fn half_windows(random: &mut Random, rows: u64, columns: u64) -> Vec<Call> {
+    let (rows, columns) = (rows.max(1), columns.max(1));
+    let mut calls = Vec::new();
+    if rows * columns * 3 <= GREATEST_SLICE {
+        let slice = (rows * columns * 3) as usize;
+        calls.push(Call::HalfWindow { top: 0, left: 0, height: rows, width: columns, slice });
+    }
+    for _ in 0..2 {
+        let (top, height) = stretch(random, rows);
+        let (left, width) = stretch(random, columns);
+        calls.push(Call::HalfWindow { top, left, height, width, slice: slice(random, height, width, 3) });
+    }
     calls
 }
 

@@ -5,7 +5,7 @@ use crate::bytes::ByteOrder;
 use crate::random::Random;
 use crate::tag_test::LONG;
 
-use super::layouts;
+use super::{colours, layouts};
 
 /// Moves the raw IFD down a chain of SubIFDs, with other children beside it.
 pub fn nest(random: &mut Random, dng: &mut Dng) {
@@ -61,6 +61,8 @@ type Arrangement = fn(&mut Random, &mut Dng);
 /// circles, shared children, up to the limits and beyond.
 pub fn odd_tree(random: &mut Random) -> (String, Vec<u8>) {
     let mut dng = Dng::new(ByteOrder::Big, &Picture::counting(2, 2, 1, 8)).nested(1);
+    colours::choose(random, &mut dng);
+    colours::choose_pattern(random, &mut dng, 1);
     let kinds: [(&str, Arrangement); 4] =
         [("chain", chain), ("many visits", many_visits), ("circle", circle), ("web", web)];
     let (label, arrange) = random.pick(&kinds);

@@ -1,9 +1,9 @@
 //! Shared by the tests: small files and short questions about them.
 #![allow(dead_code)]
 
-use reference::builder::{Dng, Picture};
+use reference::builder::{Dng, Picture, Tag};
 use reference::bytes::{ByteOrder, LAYOUTS};
-use reference::{card, colour_window, spot, window, Answer};
+use reference::{card, colour_window, half_window, spot, window, Answer};
 
 pub const BOTH: [ByteOrder; 2] = [ByteOrder::Little, ByteOrder::Big];
 
@@ -85,6 +85,21 @@ pub fn colour_answer(dng: &Dng) -> Answer {
     colour_window(&dng.file(), 0, 0, 1, 1, &mut [UNTOUCHED; 3])
 }
 
+/// The half-size colour of all blocks.
+pub fn halves(dng: &Dng) -> Vec<f64> {
+    let file = dng.file();
+    let card = card(&file);
+    let (height, width) = (card.rows / 2, card.columns / 2);
+    let mut out = vec![UNTOUCHED; (height * width * 3) as usize];
+    assert_eq!(half_window(&file, 0, 0, height, width, &mut out), DONE);
+    out
+}
+
+/// The answer of a half window over the first block.
+pub fn half_answer(dng: &Dng) -> Answer {
+    half_window(&dng.file(), 0, 0, 1, 1, &mut [UNTOUCHED; 3])
+}
+
 pub fn spot_value(file: &[u8], row: u64, column: u64, plane: u64) -> f64 {
     let (answer, value) = spot(file, row, column, plane);
     assert_eq!(answer, DONE);
@@ -120,4 +135,43 @@ pub fn poked(file: &[u8], place: usize, bytes: &[u8]) -> Vec<u8> {
     let mut file = file.to_vec();
     file[place..place + bytes.len()].copy_from_slice(bytes);
     file
+}
+
+/// Row by row of a block: red 0, green 1, blue 2.
+pub const PATTERN: [u8; 4] = [0, 1, 1, 2];
+
+/// X, Y and Z are the three values themselves.
+pub const IDENTITY: [(i32, i32); 9] =
+    [(1, 1), (0, 1), (0, 1), (0, 1), (1, 1), (0, 1), (0, 1), (0, 1), (1, 1)];
+
+/// Colour tags that change nothing, and a pattern.
+pub fn with_pattern_and_colour(dng: Dng, pattern: [u8; 4]) -> Dng {
+    dng.with(Tag::shorts(33421, &[2, 2]))
+        .with(Tag::bytes(33422, &pattern))
+        .with_first(Tag::srationals(50964, &IDENTITY))
+        .with_first(Tag::shorts(50728, &[1, 1, 1]))
+}
+
+/// 8-bit samples that count up from 0, so that each is known by its value.
+pub fn counting_mosaic(width: u32, length: u32) -> Dng {
+    with_pattern_and_colour(mosaic(width, length), PATTERN)
+}
+
+#[track_caller]
+pub fn half_refuses(dng: &Dng, number: u32, detail: u32) {
+    for widths in LAYOUTS {
+        assert_eq!(half_answer(&Dng { widths, ..dng.clone() }), refusal(number, detail), "{widths:?}");
+    }
+}
+
+#[track_caller]
+pub fn half_accepts(dng: &Dng) {
+    half_refuses(dng, 0, 0);
+}
+
+/// The answer, and whether the slice is as it was.
+pub fn ask_half(file: &[u8], [top, left, height, width]: [u64; 4], slice: usize) -> (Answer, bool) {
+    let mut out = vec![UNTOUCHED; slice];
+    let answer = half_window(file, top, left, height, width, &mut out);
+    (answer, out.iter().all(|v| *v == UNTOUCHED))
 }

@@ -8,17 +8,17 @@ use reference::tag_test::{RATIONAL, SHORT, SRATIONAL};
 
 use super::lists::{good, whole};
 use super::{
-    each_way, entry, every_type_in_layouts, framed, takes, Answer, COLUMNS, DONE, LINEAR, MAX, MOSAIC,
-    ORDERS, ROWS,
+    each_file, each_way, entry, every_type_in_layouts, framed, takes, Answer, COLUMNS, DONE, LINEAR, MAX,
+    MOSAIC, ROWS,
 };
 use crate::questions::{colour_window, window};
 use crate::tally::Tally;
 
 const FORBIDDEN: [u16; 3] = [50723, 50727, 50965];
-const MATRIX: u16 = 50964;
-const NEUTRAL: u16 = 50728;
+pub const MATRIX: u16 = 50964;
+pub const NEUTRAL: u16 = 50728;
 /// In order of test.
-const TAGS: [u16; 5] = [50723, 50727, 50965, MATRIX, NEUTRAL];
+pub const TAGS: [u16; 5] = [50723, 50727, 50965, MATRIX, NEUTRAL];
 
 const PIXELS: usize = (ROWS * COLUMNS) as usize;
 const FRAME: [u64; 4] = [0, 0, ROWS as u64, COLUMNS as u64];
@@ -37,13 +37,14 @@ pub fn check(tally: &mut Tally) {
 }
 
 /// A base file with carried colour tags.
-fn coloured(base: usize) -> Dng {
+pub fn coloured(base: usize) -> Dng {
     let matrix: Vec<(i32, i32)> = (0..9).map(|i| (3 * i - 10, 7 + i)).collect();
     let neutral = [(1, 2), (1, 1), (3, 5)];
     framed(base).with_first(Tag::srationals(MATRIX, &matrix)).with_first(Tag::rationals(NEUTRAL, &neutral))
 }
 
-fn without(mut dng: Dng, tag: u16) -> Dng {
+/// The same file without a tag of IFD 0.
+pub fn without(mut dng: Dng, tag: u16) -> Dng {
     dng.first_ifd().remove(tag);
     dng
 }
@@ -56,10 +57,7 @@ fn case(tally: &mut Tally, label: &str, dng: &Dng, answer: Answer) {
 
 /// The same in one layout.
 fn case_in(tally: &mut Tally, widths: Widths, label: &str, dng: &Dng, answer: Answer) {
-    for (order, depth) in ORDERS.into_iter().flat_map(|order| [(order, 0), (order, 1)]) {
-        let file = Dng { order, widths, ..dng.clone().nested(depth) }.file();
-        file_case(tally, &format!("{label}, {order:?}, {widths:?}, depth {depth}"), &file, answer);
-    }
+    each_file(widths, label, dng, |label, file| file_case(tally, label, file, answer));
 }
 
 fn file_case(tally: &mut Tally, label: &str, file: &[u8], answer: Answer) {
@@ -146,7 +144,7 @@ fn where_the_tags_stand(tally: &mut Tally) {
 }
 
 /// A file with a tag's fault, which is its presence or its type.
-fn faulty(dng: Dng, tag: u16) -> (Dng, Answer) {
+pub fn faulty(dng: Dng, tag: u16) -> (Dng, Answer) {
     let number = if FORBIDDEN.contains(&tag) { 8 } else { 4 };
     (dng.with_first(entry(tag, 14, &[1])), (number, tag.into()))
 }

@@ -1,12 +1,12 @@
-//! 13 and 14: windows, colour windows and spots at every edge of the active
-//! area, and as far away as 64 bits reach.
+//! 13 and 14: windows, colour windows, half windows and spots at every edge of
+//! the active area, and as far away as 64 bits reach.
 
 use reference::builder::{Opcode, Tag};
 use reference::cases::Call;
 
 use super::lists::{good, whole};
 use super::{each_way, framed, LINEAR, MOSAIC};
-use crate::questions::{colour_window, window};
+use crate::questions::{colour_window, half_window, window};
 use crate::tally::Tally;
 
 const ROWS: u64 = super::ROWS as u64;
@@ -15,7 +15,7 @@ const MAX: u64 = u64::MAX;
 const HALF: u64 = 1 << 63;
 const PAST_LONG: u64 = 1 << 32;
 
-/// A first line and a number of lines, not inside six lines or seven. In many
+/// A first line and a number of lines, not inside seven lines or fewer. In many
 /// of them the sum or one of the two is inside but for 2^64 or 2^32.
 const ASTRAY: [[u64; 2]; 24] = [
     [0, MAX],
@@ -62,6 +62,7 @@ pub fn check(tally: &mut Tally) {
         let list = [good(8, whole()), Opcode::new(99, 1, vec![]), good(13, whole())];
         let dng = framed(base)
             .with_opcodes(&list)
+            .with_pattern([1, 0, 2, 1])
             .with_first(Tag::srationals(50964, &[(1, 3); 9]))
             .with_first(Tag::rationals(50728, &[(1, 2); 3]));
         for dng in each_way(&dng) {
@@ -72,9 +73,11 @@ pub fn check(tally: &mut Tally) {
                 tally.ask(&label, &file, &call, Some((number, 0)));
             };
             spots(samples, &mut ask);
-            windows(samples, window, &mut ask);
+            windows([ROWS, COLUMNS, samples], window, &mut ask);
             if samples == 3 {
-                windows(samples, colour_window, &mut ask);
+                windows([ROWS, COLUMNS, 3], colour_window, &mut ask);
+            } else {
+                windows([ROWS / 2, COLUMNS / 2, 3], half_window, &mut ask);
             }
         }
     }
@@ -92,17 +95,33 @@ fn spots(samples: u64, ask: &mut impl FnMut(Call, u32)) {
     }
 }
 
-fn windows(samples: u64, kind: fn([u64; 4], usize) -> Call, ask: &mut impl FnMut(Call, u32)) {
+/// Windows of so many rows and columns, or blocks, and values for each.
+fn windows(
+    [rows, columns, values]: [u64; 3],
+    kind: fn([u64; 4], usize) -> Call,
+    ask: &mut impl FnMut(Call, u32),
+) {
     let mut ask = |rectangle, slice: usize, number| ask(kind(rectangle, slice), number);
+    near(rows, columns, values, &mut ask);
+    far(rows, columns, values, &mut ask);
+    let right = (rows * columns * values) as usize;
+    let other = (rows * columns * (4 - values)) as usize;
+    for slice in [2 * right, other, right + 65_536, (rows * columns) as usize + 1, values as usize] {
+        ask([0, 0, rows, columns], slice, 14);
+    }
+}
+
+/// Every window up to one past each edge, with slices around the right one.
+fn near(rows: u64, columns: u64, values: u64, ask: &mut impl FnMut([u64; 4], usize, u32)) {
     let lines =
         |whole: u64| (0..=whole + 1).flat_map(move |from| (0..=whole + 1).map(move |count| (from, count)));
-    for (top, height) in lines(ROWS) {
-        for (left, width) in lines(COLUMNS) {
+    for (top, height) in lines(rows) {
+        for (left, width) in lines(columns) {
             let empty = height == 0 || width == 0;
-            let inside = top + height <= ROWS && left + width <= COLUMNS;
+            let inside = top + height <= rows && left + width <= columns;
             let refused = empty || !inside;
             let rectangle = [top, left, height, width];
-            let right = (height * width * samples) as usize;
+            let right = (height * width * values) as usize;
             ask(rectangle, right, if refused { 13 } else { 0 });
             for slice in [right + 1, right.saturating_sub(1), 0] {
                 if slice != right {
@@ -111,13 +130,17 @@ fn windows(samples: u64, kind: fn([u64; 4], usize) -> Call, ask: &mut impl FnMut
             }
         }
     }
+}
+
+/// Windows far away, or whose sums and products wrap.
+fn far(rows: u64, columns: u64, values: u64, ask: &mut impl FnMut([u64; 4], usize, u32)) {
     for [from, count] in ASTRAY {
-        for slice in [0, 1, samples as usize, (ROWS * COLUMNS * samples) as usize] {
+        for slice in [0, 1, values as usize, (rows * columns * values) as usize] {
             ask([from, 0, count, 1], slice, 13);
             ask([0, from, 1, count], slice, 13);
             ask([from, from, count, count], slice, 13);
-            ask([from, 0, count, COLUMNS], slice, 13);
-            ask([0, from, ROWS, count], slice, 13);
+            ask([from, 0, count, columns], slice, 13);
+            ask([0, from, rows, count], slice, 13);
         }
     }
     for ([height, width], slice) in
@@ -125,10 +148,5 @@ fn windows(samples: u64, kind: fn([u64; 4], usize) -> Call, ask: &mut impl FnMut
     {
         ask([0, 0, height, width], slice, 13);
         ask([1, 1, height, width], slice, 13);
-    }
-    let right = (ROWS * COLUMNS * samples) as usize;
-    let other = (ROWS * COLUMNS * (4 - samples)) as usize;
-    for slice in [2 * right, other, right + 65_536, (ROWS * COLUMNS) as usize + 1, samples as usize] {
-        ask([0, 0, ROWS, COLUMNS], slice, 14);
     }
 }
