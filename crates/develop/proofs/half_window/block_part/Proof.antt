@@ -28,11 +28,11 @@ columns-in k =
     let b = k .pre .0 .0 in
     (omega (arith, b .columns), viewed-sized (now (k .args .file)) (k .args .view) (b .file) .columns)
 
--- two rows of samples
-fill-in : (k : tie.Start) → let a = k .args in let n = 2 * (2 * a .part .width) in
-    Viewed (now (a .file)) (a .view) →
-    Fill-in (now (a .file)) (a .view) (2 * a .part .top) (2 * a .part .left) 2 (2 * a .part .width) (take (n - 0) (drop 0 (now (a .pair))))
-fill-in k q =
+-- two rows of samples, from row t on
+fill-in : (k : tie.Start) (t : ℕ) → let a = k .args in let n = 2 * (2 * a .part .width) in
+    t + 2 ≤ a .view .size .rows → Viewed (now (a .file)) (a .view) →
+    Fill-in (now (a .file)) (a .view) t (2 * a .part .left) 2 (2 * a .part .width) (take (n - 0) (drop 0 (now (a .pair))))
+fill-in k t h q =
     let a = k .args in
     let n = 2 * (2 * a .part .width) in
     let xs = now (a .pair) in
@@ -44,7 +44,7 @@ fill-in k q =
       file = q;
       some-rows = omega arith;
       some-columns = omega (arith, k .pre .1 .0 .0);
-      rows = rows-in k .0;
+      rows = h;
       columns = columns-in k .0;
       length-is = ap (λ (m : ℕ). length (take m (drop 0 xs))) d ∙ part-length 0 n xs r ∙ ap (λ (m : ℕ). 2 * m) s;
     }
@@ -53,14 +53,14 @@ fill-in k q =
 abbrev rest : tie.Start → List Float
 rest k = drop (2 * (2 * k .args .part .width) - 0) (drop 0 (now (k .args .pair)))
 
--- what they hold
+-- the block's two rows hold its samples
 both-rows : (g : tie.After-fill-rows) → let a = g .before .before .before .before .before .before .before .before .args in
     (q : Viewed (now (a .file)) (a .view)) →
     g .fill-rows .last .1 .1 .1 .1 .1 .1 .1 .0 ≡ valuesOf (aloneIn (now (a .file)) (q .file)) (2 * a .part .top) (2 * a .part .left) 2 (2 * a .part .width) 1
 unfolding fill-in
 both-rows g q =
     let s = g .before .before .before .before .before .before .before .before in
-    g .fill-rows .ensures (fill-in s q) ∙ ap (valuesOf (aloneIn (now (s .args .file)) (q .file)) _ _ 2 _) (s .pre .0 .0 .mosaic)
+    g .fill-rows .ensures (fill-in s (2 * s .args .part .top) (rows-in s .0) q) ∙ ap (valuesOf (aloneIn (now (s .args .file)) (q .file)) _ _ 2 _) (s .pre .0 .0 .mosaic)
 
 mul-top : tie.Need-mul-top
 mul-top c = let r = rows-in (c .before .before .before .before) in omega (arith, r .0, r .1)
@@ -86,7 +86,7 @@ part-fill-rows-end c = search needs
 fill-rows-requires : tie.Need-fill-rows-requires
 fill-rows-requires c κs =
     let s = c .before .before .before .before .before .before .before in
-    (fill-in s (s .pre .0 .0 .file), s .pre .1 .1)
+    (fill-in s _ (omega (arith, rows-in s .0)) (s .pre .0 .0 .file), s .pre .1 .1)
 
 blocks-of-requires : tie.Need-blocks-of-requires
 blocks-of-requires c κs =
