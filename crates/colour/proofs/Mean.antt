@@ -1,18 +1,18 @@
 -- The mean of two developed values is one: from +0.0 to 1.
 -- Assumes nothing.
-use mathlib.Core.Path.{_≡_, refl, sym, ap, _∙_, subst}
+use mathlib.Core.Path.{_≡_, refl, sym, _∙_, subst}
 use mathlib.Core.Bool.{true, false}
 use Prim.Native.Nat.{ℕ, _+_, _*_, _^_, _≤_, _<_}
 use native.Mathlib.Nat.{mul-one, one-mul, mul-pos, zero-lt-suc, mul-comm}
 use native.Mathlib.Omega.{arith}
-use lib.IntN.{ℤ, pos}
+use lib.IntN.{pos}
 use lib.Dec.{T}
 use lib.Ieee.{Float, nan, inf, fin, binary64, up, down, round, add, mul, le}
 use lib.Ieee.Fits.{down-pos}
 use lib.Ieee.Exact.{HasValue}
 use lib.Ieee.Order.{round-mono}
 use lib.Ieee.Scale.{grid}
-use Rattle.colour.specs.Bounds.{Within, ZeroToOne, Plus, Developed}
+use Rattle.colour.specs.Bounds.{Within, Plus, Developed}
 use Rattle.colour.specs.Pixel.{half, meanOf}
 use Rattle.colour.proofs.Magnitudes.{Exact, exact-0, exact-1, below-power, round-within, round-value, mul-opened, add-opened, sum-opened, summed}
 use Rattle.colour.proofs.FinitePixel.{unit-within}

@@ -2,7 +2,7 @@
 -- Assumes nothing.
 use mathlib.Core.Path.{_≡_, refl, sym, ap, _∙_}
 use mathlib.Core.Bool.{Bool, true, false}
-use mathlib.Core.List.{List, [], _∷_, _++_, append-assoc}
+use mathlib.Core.List.{List, _++_, append-assoc}
 use Prim.Native.Nat.{ℕ, _+_, _*_, _/_, _%_, _≤_, _<_}
 use native.Mathlib.Nat.{one-mul, mul-one, mul-assoc, mul-le-mul-right}
 use native.Mathlib.Omega.{arith}
@@ -37,7 +37,6 @@ use Rattle.develop.specs.Demand.{aloneIn}
 use Rattle.develop.specs.View.{Viewed}
 use Rattle.develop.specs.Fill.{Blocks-in, pairOf, blockRow, windowFault}
 use Rattle.develop.specs.declared.View.{View}
-use Rattle.develop.specs.declared.half_window.Blocks.{Blocks}
 use Rattle.develop.specs.declared.half_window.Half.{Half}
 use Rattle.develop.proofs.Answers.{developed-alone, values-same, inside-fits}
 use Rattle.develop.proofs.Called.{none-inside, filled-none, filled-fault, size-is}

@@ -1,12 +1,12 @@
 -- The calls on an accepted file, from what the code holds of it.
 -- Assumes nothing.
-use mathlib.Core.Path.{_≡_, refl, sym, ap, _∙_, subst}
+use mathlib.Core.Path.{_≡_, refl, sym, ap, _∙_}
 use mathlib.Core.Bool.{Bool, true, false, _&&_}
 use mathlib.Core.List.{List}
-use Prim.Native.Nat.{ℕ, _+_, _*_, _≤_, _<_}
+use Prim.Native.Nat.{ℕ, _+_, _*_}
 use native.Mathlib.Nat.{mul-assoc}
 use native.Mathlib.Omega.{arith}
-use lib.Dec.{leb, ltb, eqb}
+use lib.Dec.{leb, eqb}
 use lib.Ieee.{Float}
 use lib.ListN.{length}
 use borrow.Author.Tests.{leb-true, eqb-true, eq-eqb, ne-eqb}
@@ -22,13 +22,11 @@ use Rattle.opcodes.specs.Frame.{standing, alone}
 use Rattle.opcodes.specs.declared.grid.Size.{Size}
 use Rattle.opcodes.proofs.OpcodeLists.{and-true}
 use Rattle.rows.specs.Line.{scaledIn}
-use Rattle.develop.specs.Calls.{Opened, opened, sizeOf, frameOf, within, refusedSpot, spotOf, spotCall, inside, valuesOf, Window, windowWith, refusedWindow, filledOf, windowOf, windowCall, colourFor, pixelIn, colouredOf, colourWindowOf, colourWindowCall}
-use Rattle.develop.specs.Demand.{aloneIn, developedIn}
+use Rattle.develop.specs.Calls.{Opened, sizeOf, frameOf, within, refusedSpot, spotOf, spotCall, inside, valuesOf, windowWith, refusedWindow, filledOf, windowOf, windowCall, colourFor, pixelIn, colouredOf, colourWindowOf, colourWindowCall}
+use Rattle.develop.specs.Demand.{aloneIn}
 use Rattle.develop.specs.View.{Viewed}
 use Rattle.develop.specs.Fill.{Fill-in, windowFault}
 use Rattle.develop.specs.declared.View.{View}
-use Rattle.develop.specs.declared.Answer.{Answer}
-use Rattle.develop.specs.declared.spot.SpotAnswer.{SpotAnswer}
 use Rattle.develop.proofs.Answers.{developed-alone, within-active, inside-fits, values-same}
 use Rattle.develop.proofs.Windows.{viewed-alone}
 use Rattle.develop.proofs.Colours.{pass-values}

@@ -28,7 +28,6 @@ use raw::front::Picture;
 use raw::pattern;
 use raw::pattern::Pattern;
 use raw::pattern::Patterned;
-use rows::scaled;
 
 // What a block's colour needs besides its four samples.
 pub struct Half {

@@ -1,7 +1,4 @@
-use mathlib.Core.Path.{_≡_, refl, sym, ap, _∙_}
-use Prim.Native.Nat.{ℕ}
-use native.Mathlib.Omega.{arith}
-use denote.Ref.{now}
+use mathlib.Core.Path.{ap, _∙_}
 use Rattle.develop.specs.declared.spot.SpotAnswer.{SpotAnswer}
 use Rattle.dng.proofs.Answered.{both}
 use borrow.Author.Needs.{needs}

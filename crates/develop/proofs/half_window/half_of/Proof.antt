@@ -48,8 +48,9 @@ returns-3 c =
 
 returns-4 : tie.Need-returns-4
 returns-4 c =
-    let k = c .before .before .before .before .before in
-    let e = ap patternOut (sym (c .before .pattern .given .1)) ∙ c .before .before .before .pattern-of .ensures in
+    let p = c .before in
+    let k = p .before .before .before .before in
+    let e = ap patternOut (sym (p .pattern .given .1)) ∙ p .before .before .pattern-of .ensures in
     half-is _ _ (k .before .before .before .if1 .left) _ (colour k) _ e
 
 pub half-of-spec : {M : Type 1} → statement M

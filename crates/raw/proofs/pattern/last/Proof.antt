@@ -1,7 +1,6 @@
 use borrow.Author.Tests.{eq-eqb, ne-eqb}
 use Rattle.reading.proofs.Reading.{pick-yes, pick-no}
 use Rattle.raw.specs.Pattern.{lastOf}
-use borrow.Author.Needs.{needs}
 use Rattle.raw.proofs.pattern.last.Statement.{statement}
 use Rattle.raw.proofs.pattern.last.Tie as tie
 

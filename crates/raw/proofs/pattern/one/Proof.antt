@@ -1,6 +1,5 @@
 use native.Mathlib.Omega.{arith}
 use Rattle.raw.proofs.PatternLaws.{one-same, one-other}
-use borrow.Author.Needs.{needs}
 use Rattle.raw.proofs.pattern.one.Statement.{statement}
 use Rattle.raw.proofs.pattern.one.Tie as tie
 

@@ -1,5 +1,4 @@
 use Rattle.raw.proofs.PatternLaws.{planes-are, planes-first, planes-second, planes-third}
-use borrow.Author.Needs.{needs}
 use Rattle.raw.proofs.pattern.planes.Statement.{statement}
 use Rattle.raw.proofs.pattern.planes.Tie as tie
 
