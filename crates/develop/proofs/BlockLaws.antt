@@ -32,7 +32,8 @@ use Rattle.colour.proofs.Mean.{mean-developed}
 use Rattle.opcodes.specs.Frame.{standing}
 use Rattle.opcodes.specs.declared.grid.Size.{Size}
 use Rattle.rows.specs.Part.{Sized-in}
-use Rattle.develop.specs.Calls.{Opened, halfFor, sizeOf, frameOf, inside, joined, valuesOf, windowWith, filledOf, channelOf, blocksOf, blockAt, blockXyz, blockIn, halvedOf, halfWindowOf, halfWindowCall}
+use Rattle.develop.specs.Calls.{Opened, halfFor, sizeOf, frameOf, inside, joined, valuesOf, windowWith, filledOf, channelOf, blocksOf, blockAt}
+use Rattle.develop.specs.Calls.{blockXyz, blockIn, halvedOf, halfWindowOf, halfWindowCall}
 use Rattle.develop.specs.Demand.{aloneIn}
 use Rattle.develop.specs.View.{Viewed}
 use Rattle.develop.specs.Fill.{Blocks-in, pairOf, blockRow, windowFault}
@@ -102,8 +103,8 @@ unfolding runOf pick
 three-is v = refl
 
 pub block-stored :
-    (m : Half) (x : ℕ → ℕ → ℕ → Float) (j a : ℕ) (old new : List Float) (v : Xyz) → Rows (λ (c : ℕ). runOf (blockIn m x 0 c) 1 0 3) 3 0 j a old new →
-    a + 3 ≤ length old → v ≡ blockXyz m x 0 j →
+    (m : Half) (x : ℕ → ℕ → ℕ → Float) (j a : ℕ) (old new : List Float) (v : Xyz) →
+    Rows (λ (c : ℕ). runOf (blockIn m x 0 c) 1 0 3) 3 0 j a old new → a + 3 ≤ length old → v ≡ blockXyz m x 0 j →
     Rows (λ (c : ℕ). runOf (blockIn m x 0 c) 1 0 3) 3 0 (j + 1) (a + 3) old (set (set (set new a (v .x)) (a + 1) (v .y)) (a + 2) (v .z))
 block-stored m x j a old new v w h e =
     let z : 0 + j ≡ j = omega arith in

@@ -10,7 +10,8 @@ use Rattle.directory.specs.Out.{Out, Out.refused, Out.is, bind}
 use Rattle.directory.specs.Widths.{classic}
 use Rattle.directory.specs.Entry.{kindOf, plainOf, sizeOf, headerOf}
 use Rattle.directory.specs.Shape.{ifd}
-use Rattle.directory.specs.Tag.{findFrom, wholeReading, valueReading, testedReading, absentOf, valuesReading, faultOf, judgedOf, firstReading, oneReading, eachReading, allReading}
+use Rattle.directory.specs.Tag.{findFrom, wholeReading, valueReading, testedReading, absentOf, valuesReading, faultOf, judgedOf, firstReading, oneReading}
+use Rattle.directory.specs.Tag.{eachReading, allReading}
 use Rattle.raw.specs.Pattern.{oneOf, firstOf, lastOf, placesOf, fourReading, coloursReading, planesOf, threeReading, planesReading, patternReading}
 use Rattle.raw.specs.declared.pattern.Pattern.{Pattern}
 
@@ -40,8 +41,11 @@ pub record Worked : Type 0 where
   -- In order of test: no 33421; 2, 3; no 33422; two reds; 50710 as SHORT; 0, 1, 1; 50711 twice; 2
   pub refusals :
       changed 0 0 ∷ changed 10 3 ∷ changed 12 0 ∷ changed 20 0 ∷ changed 26 3 ∷ changed 34 1 ∷ changed 40 2 ∷ changed 44 2 ∷ []
-      ≡ refused 5 33421 ∷ refused 8 33421 ∷ refused 5 33422 ∷ refused 8 33422 ∷ refused 4 50710 ∷ refused 8 50710 ∷ refused 4 50711 ∷ refused 8 50711 ∷ []
+      ≡ refused 5 33421 ∷ refused 8 33421 ∷ refused 5 33422 ∷ refused 8 33422 ∷ refused 4 50710
+      ∷ refused 8 50710 ∷ refused 4 50711 ∷ refused 8 50711 ∷ []
 
 pub worked : Worked
-unfolding run andThen pick numberAt numberOf littleOf bind kindOf plainOf sizeOf headerOf findFrom wholeReading valueReading testedReading absentOf valuesReading faultOf judgedOf firstReading oneReading eachReading allReading oneOf firstOf lastOf placesOf fourReading coloursReading planesOf threeReading planesReading patternReading
+unfolding run andThen pick numberAt numberOf littleOf bind kindOf plainOf sizeOf headerOf findFrom wholeReading valueReading testedReading absentOf
+    valuesReading faultOf judgedOf firstReading oneReading eachReading allReading oneOf firstOf lastOf placesOf fourReading coloursReading planesOf
+    threeReading planesReading patternReading
 worked = record { whole = refl; defaults = refl; refusals = refl }

@@ -19,7 +19,8 @@ use Rattle.directory.specs.declared.tag.Values.{Values}
 use Rattle.directory.specs.declared.tag.Kinds.the-variants as kinds
 use Rattle.directory.specs.Tag.{valuesReading, required}
 use Rattle.directory.proofs.Outs.{bind-refused, bind-is, bind-inverse, same-value, not-refused}
-use Rattle.raw.specs.Pattern.{oneOf, timesOf, firstOf, lastOf, placesOf, fourReading, planesOf, threeReading, dimReading, coloursReading, planesReading, layoutReading, patternReading, Pattern-in}
+use Rattle.raw.specs.Pattern.{oneOf, timesOf, firstOf, lastOf, placesOf, fourReading, planesOf, threeReading, dimReading, coloursReading}
+use Rattle.raw.specs.Pattern.{planesReading, layoutReading, patternReading, Pattern-in}
 use Rattle.raw.specs.declared.pattern.Pattern.{Pattern}
 
 pub one-same : (v x : ℕ) → v ≡ x → 1 ≡ oneOf v x
@@ -32,7 +33,8 @@ one-other v x e = simp (ne-eqb _ _ e, pick-no)
 
 module _ (a b c d : ℕ) where
   pub places-are :
-      timesOf 0 a b c d ≡ 1 → timesOf 1 a b c d ≡ 2 → timesOf 2 a b c d ≡ 1 → (r s t u : ℕ) → r ≡ firstOf 0 a b c → s ≡ firstOf 1 a b c →
+      timesOf 0 a b c d ≡ 1 → timesOf 1 a b c d ≡ 2 → timesOf 2 a b c d ≡ 1 → (r s t u : ℕ) →
+      r ≡ firstOf 0 a b c → s ≡ firstOf 1 a b c →
       t ≡ lastOf 1 b c d → u ≡ firstOf 2 a b c → is (record { red = r; green1 = s; green2 = t; blue = u }) ≡ placesOf a b c d
   unfolding placesOf
   places-are x y z r s t u er es et eu = simp (eq-eqb _ _ x, eq-eqb _ _ y, eq-eqb _ _ z, er, es, et, eu, pick-yes)

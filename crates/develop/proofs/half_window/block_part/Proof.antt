@@ -60,7 +60,8 @@ both-rows : (g : tie.After-fill-rows) → let a = g .before .before .before .bef
 unfolding fill-in
 both-rows g q =
     let s = g .before .before .before .before .before .before .before .before in
-    g .fill-rows .ensures (fill-in s (2 * s .args .part .top) (rows-in s .0) q) ∙ ap (valuesOf (aloneIn (now (s .args .file)) (q .file)) _ _ 2 _) (s .pre .0 .0 .mosaic)
+    g .fill-rows .ensures (fill-in s (2 * s .args .part .top) (rows-in s .0) q)
+    ∙ ap (valuesOf (aloneIn (now (s .args .file)) (q .file)) _ _ 2 _) (s .pre .0 .0 .mosaic)
 
 mul-top : tie.Need-mul-top
 mul-top c = let r = rows-in (c .before .before .before .before) in omega (arith, r .0, r .1)
