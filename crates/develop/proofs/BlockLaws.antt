@@ -1,6 +1,6 @@
 -- The blocks of a mosaic: their colour from two rows of samples, and the half window's answer.
 -- Assumes nothing.
-use mathlib.Core.Path.{_≡_, refl, sym, ap, _∙_}
+use mathlib.Core.Path.{_≡_, refl, sym, ap, _∙_, subst}
 use mathlib.Core.Bool.{Bool, true, false}
 use mathlib.Core.List.{List, _++_, append-assoc}
 use Prim.Native.Nat.{ℕ, _+_, _*_, _/_, _%_, _≤_, _<_}
@@ -17,11 +17,12 @@ use Rattle.directory.specs.Out.{Out, Out.refused, Out.is}
 use Rattle.directory.proofs.Outs.{bind-refused, bind-is, bind-inverse, same-value, not-refused}
 use Rattle.levels.specs.Run.{runOf}
 use Rattle.levels.proofs.Runs.{run-same, length-run}
+use Rattle.levels.proofs.Unit.{unit, in-unit, unit-plain}
 use Rattle.raw.specs.Pattern.{patternReading, Pattern-in}
 use Rattle.raw.specs.declared.front.Picture.{Picture}
 use Rattle.raw.specs.declared.pattern.Pattern.{Pattern}
 use Rattle.raw.proofs.PatternLaws.{pattern-below}
-use Rattle.colour.specs.Bounds.{All, Developed, Finite}
+use Rattle.colour.specs.Bounds.{All, Plus, Developed, Finite}
 use Rattle.colour.specs.Pixel.{xyzOf, meanOf}
 use Rattle.colour.specs.Tags.{colourReading, Colour-in}
 use Rattle.colour.specs.declared.Colour.{Colour}
@@ -34,12 +35,12 @@ use Rattle.opcodes.specs.declared.grid.Size.{Size}
 use Rattle.rows.specs.Part.{Sized-in}
 use Rattle.develop.specs.Calls.{Opened, halfFor, sizeOf, frameOf, inside, joined, valuesOf, windowWith, filledOf, channelOf, blocksOf, blockAt}
 use Rattle.develop.specs.Calls.{blockXyz, blockIn, halvedOf, halfWindowOf, halfWindowCall}
-use Rattle.develop.specs.Demand.{aloneIn}
+use Rattle.develop.specs.Demand.{developedIn, aloneIn}
 use Rattle.develop.specs.View.{Viewed}
 use Rattle.develop.specs.Fill.{Blocks-in, pairOf, blockRow, windowFault}
 use Rattle.develop.specs.declared.View.{View}
 use Rattle.develop.specs.declared.half_window.Half.{Half}
-use Rattle.develop.proofs.Answers.{developed-alone, values-same, inside-fits}
+use Rattle.develop.proofs.Answers.{developed-alone, alone-is-unit, values-same, inside-fits}
 use Rattle.develop.proofs.Called.{none-inside, filled-none, filled-fault, size-is}
 use Rattle.develop.proofs.Windows.{Rows, length-rows, rows-next, window-length, values-at, viewed-sized}
 
@@ -148,6 +149,23 @@ half-inverse f p m e = go (eqb (p .raw .tags .frame .samples) 1) refl
         let v : m ≡ record { colour = c .0; pattern = q .0 } = same-value m _ (q .2 ∙ run-answer f _) in
         (eqb-true _ _ t, rw v (pattern-below f (p .directory) (q .0) (q .1)))
     go false t = absurd (not-refused m 15 0 (e ∙ sym (half-not f p (eqb-false _ _ t))))
+
+-- ---- no answer shows a NaN
+unit-developed : (x : Float) → unit x → Developed x
+unit-developed x u =
+    let i = in-unit x u in
+    ((i .low, i .high), subst Plus (sym (unit-plain x u .2)) tt)
+
+-- X, Y and Z of every whole block are finite
+pub half-finite :
+    (f : List ℕ) (o : Opened) (m : Half) → is m ≡ run f (halfFor (o .picture)) → Colour-in (m .colour) →
+    (i j : ℕ) → i < blocksOf (sizeOf (o .picture)) .rows → j < blocksOf (sizeOf (o .picture)) .columns →
+    let v = blockXyz m (developedIn f o) i j in All Finite (v .x) (v .y) (v .z)
+half-finite f o m e c i j a b =
+    let h = half-inverse f (o .picture) m e in
+    block-finite m c (h .1) (developedIn f o) i j (λ k n.
+    let d = developed-alone f o (2 * i + k / 2) (2 * j + k % 2) 0 (record { row = omega arith; column = omega arith; plane = omega (arith, h .0) }) in
+    subst Developed (sym d) (unit-developed _ (alone-is-unit f o (2 * i + k / 2) (2 * j + k % 2) 0)))
 
 -- ---- the half window's answer
 module _ (f : List ℕ) (v : View) (q : Viewed f v) (t l h w : ℕ) (old : List Float) where

@@ -14,22 +14,17 @@ use Rattle.reading.specs.Reading.{pick}
 use Rattle.reading.proofs.Reading.{pick-yes, pick-no}
 use Rattle.directory.specs.Out.{Out, Out.refused, Out.is}
 use Rattle.levels.specs.Run.{runOf}
-use Rattle.levels.specs.Levels.{levelAt}
 use Rattle.levels.proofs.Runs.{length-run, run-at}
 use Rattle.levels.proofs.Unit.{unit}
-use Rattle.levels.proofs.UnitRange.{scaled-unit}
-use Rattle.levels.proofs.Rounding.{level-most}
-use Rattle.raw.specs.Sample.{scaledOf}
 use Rattle.opcodes.specs.Frame.{Frame, framed, standing}
 use Rattle.opcodes.specs.declared.grid.Size.{Size}
-use Rattle.opcodes.proofs.Frames.{alone-unit}
 use Rattle.rows.specs.Part.{Units, Sized-in}
-use Rattle.develop.specs.Calls.{Opened, opened, sizeOf, scaledIn, frameOf, joined, valuesOf, Window, windowWith, windowOf, windowCall}
+use Rattle.develop.specs.Calls.{Opened, opened, sizeOf, frameOf, joined, valuesOf, Window, windowWith, windowOf, windowCall}
 use Rattle.develop.specs.Demand.{aloneIn}
 use Rattle.develop.specs.View.{Viewed}
 use Rattle.develop.specs.declared.View.{View}
 use Rattle.develop.specs.declared.Answer.{Answer}
-use Rattle.develop.proofs.Answers.{frame-alone, developed-alone, values-same}
+use Rattle.develop.proofs.Answers.{frame-alone, developed-alone, values-same, alone-is-unit}
 use Rattle.develop.proofs.Called.{spansRows, spansColumns, fault-none, filled-none}
 use Rattle.develop.proofs.Windows.{viewed-sized}
 use Rattle.listing.specs.Text.{valuesText, rowsText, refusedText, frameText, listedOf, headText, bodyText}
@@ -145,10 +140,6 @@ units-run : (g : ℕ → Float) → ((k : ℕ) → unit (g k)) → (i n : ℕ) �
 units-run g u i n k h =
     let b : k < n = omega (arith, length-run g 1 i n) in
     rw (run-at g 1 i n k nan b) (u (i + 1 * k))
-
-alone-is-unit : (f : List ℕ) (o : Opened) (r c p : ℕ) → unit (aloneIn f o r c p)
-unfolding scaledOf levelAt
-alone-is-unit f o r c p = alone-unit (o .opcodes) r c p (scaledIn f o r c p) (scaled-unit _ (level-most _ _))
 
 pub values-units : (f : List ℕ) (o : Opened) (t l h w n : ℕ) → Units (valuesOf (aloneIn f o) t l h w n)
 values-units f o t l h w n = units-joined _ (λ r. units-joined _ (λ c. units-run _ (alone-is-unit f o r c) 0 n) l w) t h
