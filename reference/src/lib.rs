@@ -19,6 +19,7 @@ pub mod pattern;
 pub mod raw_tags;
 pub mod tag_test;
 
+pub mod blocks;
 pub mod builder;
 pub mod cases;
 pub mod generate;

@@ -7,7 +7,7 @@ use common::*;
 use reference::builder::{Area, Dng, Opcode, Picture, Tag};
 use reference::bytes::{ByteOrder, LAYOUTS};
 use reference::random::Random;
-use reference::{card, colour_window, half_window, spot, window};
+use reference::{blocks, card, colour_window, half_window, spot, window};
 
 /// 16-bit samples with black 0 and white 65,535.
 fn deep(width: u32, stored: &[u16]) -> Dng {
@@ -40,26 +40,12 @@ fn block(numbers: [f64; 4], pattern: [u8; 4]) -> Dng {
     with_pattern_and_colour(deep(2, &[9; 4]), pattern).with_opcodes(&opcodes)
 }
 
-/// Samples 1/2, 1/4 over 3/4, 1/8: red, the mean of the greens, blue.
+/// Red, the mean of the greens and blue of one block.
 #[test]
 fn the_twelve_patterns() {
-    let rows = [
-        ([0, 1, 1, 2], [0.5, 0.5, 0.125]),
-        ([0, 1, 2, 1], [0.5, 0.1875, 0.75]),
-        ([0, 2, 1, 1], [0.5, 0.4375, 0.25]),
-        ([1, 0, 1, 2], [0.25, 0.625, 0.125]),
-        ([1, 0, 2, 1], [0.25, 0.3125, 0.75]),
-        ([2, 0, 1, 1], [0.25, 0.4375, 0.5]),
-        ([1, 1, 0, 2], [0.75, 0.375, 0.125]),
-        ([1, 2, 0, 1], [0.75, 0.3125, 0.25]),
-        ([2, 1, 0, 1], [0.75, 0.1875, 0.5]),
-        ([1, 1, 2, 0], [0.125, 0.375, 0.75]),
-        ([1, 2, 1, 0], [0.125, 0.625, 0.25]),
-        ([2, 1, 1, 0], [0.125, 0.5, 0.5]),
-    ];
-    for (pattern, expected) in rows {
+    for (pattern, expected) in blocks::VALUES {
         for (order, widths) in BOTH.into_iter().flat_map(|order| LAYOUTS.map(|widths| (order, widths))) {
-            let dng = Dng { order, widths, ..block([0.5, 0.25, 0.75, 0.125], pattern) };
+            let dng = Dng { order, widths, ..block(blocks::SAMPLES, pattern) };
             assert_eq!(halves(&dng), expected, "{pattern:?}, {order:?}, {widths:?}");
             assert_eq!(halves(&dng.nested(1)), expected, "{pattern:?}, nested");
         }

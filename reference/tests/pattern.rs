@@ -5,9 +5,8 @@ mod common;
 
 use common::*;
 use reference::builder::{pattern_tags, Dng, Tag, PATTERN_TAGS};
-use reference::bytes::LAYOUTS;
 use reference::tag_test::{BYTE, SHORT};
-use reference::Answer;
+use reference::{half_window, Answer};
 
 /// Of all types a tag takes one.
 #[track_caller]
@@ -112,53 +111,24 @@ fn the_pattern_stands_in_the_raw_directory() {
     }
 }
 
-/// A half window over the first block, with its arguments.
-#[derive(Clone)]
-struct Question {
-    dng: Dng,
-    height: u64,
-    slice: usize,
+/// A good half window of a file with all tags; of LinearRaw it is refused by 15.
+fn question_of(dng: Dng) -> Question {
+    let dng = with_pattern_and_colour(dng, PATTERN)
+        .with_pattern(PATTERN)
+        .with(Tag::undefined(51009, &[0; 4]))
+        .nested(1);
+    Question::new(half_window, dng)
 }
 
-type Fault = Box<dyn Fn(&mut Question)>;
+fn remove(question: &mut Question, tag: u16) {
+    question.dng.raw_ifd().remove(tag);
+    question.dng.first_ifd().remove(tag);
+}
 
-impl Question {
-    /// A good one with all tags; of LinearRaw it is refused by 15.
-    fn of(dng: Dng) -> Question {
-        let dng = with_pattern_and_colour(dng, PATTERN)
-            .with_pattern(PATTERN)
-            .with(Tag::undefined(51009, &[0; 4]))
-            .nested(1);
-        Question { dng, height: 1, slice: 3 }
-    }
-
-    fn set_first(&mut self, tag: Tag) {
-        self.dng.first_ifd().set(tag);
-    }
-
-    fn set_raw(&mut self, tag: Tag) {
-        self.dng.raw_ifd().set(tag);
-    }
-
-    fn remove(&mut self, tag: u16) {
-        self.dng.raw_ifd().remove(tag);
-        self.dng.first_ifd().remove(tag);
-    }
-
-    /// White levels that are not above the greatest black.
-    fn darken(&mut self) {
-        let samples = self.dng.raw_ifd().get(258).map_or(1, |bits| bits.data.count());
-        self.set_raw(Tag::shorts(50717, &vec![0; samples]));
-    }
-
-    fn answer(&self) -> Answer {
-        let [narrow, wide] = LAYOUTS.map(|widths| {
-            let file = Dng { widths, ..self.dng.clone() }.file();
-            ask_half(&file, [0, 0, self.height, 1], self.slice).0
-        });
-        assert_eq!(narrow, wide);
-        narrow
-    }
+/// White levels that are not above the greatest black.
+fn darken(question: &mut Question) {
+    let samples = question.dng.raw_ifd().get(258).map_or(1, |bits| bits.data.count());
+    question.set_raw(Tag::shorts(50717, &vec![0; samples]));
 }
 
 fn in_raw(number: u32, tag: Tag) -> (Answer, Fault) {
@@ -170,7 +140,7 @@ fn in_first(number: u32, tag: Tag) -> (Answer, Fault) {
 }
 
 fn absent(tag: u16) -> (Answer, Fault) {
-    (refusal(5, tag.into()), Box::new(move |q| q.remove(tag)))
+    (refusal(5, tag.into()), Box::new(move |q| remove(q, tag)))
 }
 
 fn fault(number: u32, detail: u32, change: impl Fn(&mut Question) + 'static) -> (Answer, Fault) {
@@ -185,7 +155,7 @@ fn faults_in_order() -> Vec<Vec<(Answer, Fault)>> {
         vec![in_raw(8, shorts(259, &[7])), in_raw(4, shorts(259, &[1, 1]))],
         vec![in_raw(4, Tag::longs(50712, &[1]))],
         vec![in_raw(8, Tag::bytes(51008, &[1]))],
-        vec![fault(9, 0, Question::darken)],
+        vec![fault(9, 0, darken)],
         vec![fault(11, 32, |q| q.set_raw(Tag::undefined(51009, &[0, 0, 0, 33])))],
         vec![in_first(8, Tag::bytes(50723, &[1]))],
         vec![in_first(8, Tag::bytes(50727, &[1]))],
@@ -206,39 +176,24 @@ const BEFORE_15: usize = 5;
 
 #[test]
 fn each_fault_alone_gives_its_refusal() {
-    assert_eq!(Question::of(mosaic(3, 3)).answer(), DONE);
-    for (expected, fault) in faults_in_order().iter().flatten() {
-        let mut question = Question::of(mosaic(3, 3));
-        fault(&mut question);
-        assert_eq!(question.answer(), *expected);
-    }
+    let good = question_of(mosaic(3, 3));
+    assert_eq!(good.answer(), DONE);
+    each_alone_answers(&good, &faults_in_order());
 }
 
 #[test]
 fn of_two_faults_the_first_answers() {
-    let faults = faults_in_order();
-    for (i, earlier) in faults.iter().enumerate() {
-        for (expected, first) in earlier {
-            for (other, second) in faults[i + 1..].iter().flatten() {
-                let mut question = Question::of(mosaic(3, 3));
-                second(&mut question);
-                first(&mut question);
-                assert_eq!(question.answer(), *expected, "beside {other:?}");
-            }
-        }
-    }
+    first_of_two_answers(&question_of(mosaic(3, 3)), &faults_in_order());
 }
 
 #[test]
 fn a_linear_raw_has_no_blocks() {
-    let good = Question::of(linear(4, 4));
+    let good = question_of(linear(4, 4));
     assert_eq!(good.answer(), refusal(15, 0));
     let faults = faults_in_order();
     for (i, (alone, fault)) in faults.iter().enumerate().flat_map(|(i, f)| f.iter().map(move |f| (i, f))) {
-        let mut question = good.clone();
-        fault(&mut question);
         let expected = if i < BEFORE_15 { *alone } else { refusal(15, 0) };
-        assert_eq!(question.answer(), expected, "with {alone:?}");
+        assert_eq!(good.changed(&[fault]).answer(), expected, "with {alone:?}");
     }
 }
 

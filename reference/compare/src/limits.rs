@@ -108,6 +108,20 @@ fn each_file(widths: Widths, label: &str, dng: &Dng, mut visit: impl FnMut(&str,
     }
 }
 
+/// Asks one file, given its label and the answer that it must give.
+type FileCase = fn(&mut Tally, &str, &[u8], Answer);
+
+/// Every file of the description in both layouts, with the raw IFD as IFD 0 and
+/// below it.
+fn case(tally: &mut Tally, ask: FileCase, label: &str, dng: &Dng, answer: Answer) {
+    LAYOUTS.into_iter().for_each(|widths| case_in(tally, ask, widths, label, dng, answer));
+}
+
+/// The same in one layout.
+fn case_in(tally: &mut Tally, ask: FileCase, widths: Widths, label: &str, dng: &Dng, answer: Answer) {
+    each_file(widths, label, dng, |label, file| ask(tally, label, file, answer));
+}
+
 /// The description in both byte orders and in both layouts.
 fn each_way(dng: &Dng) -> impl Iterator<Item = Dng> + '_ {
     let ways = LAYOUTS.into_iter().flat_map(|widths| ORDERS.map(|order| (widths, order)));

@@ -175,3 +175,70 @@ pub fn ask_half(file: &[u8], [top, left, height, width]: [u64; 4], slice: usize)
     let answer = half_window(file, top, left, height, width, &mut out);
     (answer, out.iter().all(|v| *v == UNTOUCHED))
 }
+
+/// `colour_window` or `half_window`.
+pub type WindowCall = fn(&[u8], u64, u64, u64, u64, &mut [f64]) -> Answer;
+
+/// A window over the first pixel or block of a file, with its arguments.
+#[derive(Clone)]
+pub struct Question {
+    pub call: WindowCall,
+    pub dng: Dng,
+    pub height: u64,
+    pub slice: usize,
+}
+
+/// A change that makes a question faulty.
+pub type Fault = Box<dyn Fn(&mut Question)>;
+
+impl Question {
+    pub fn new(call: WindowCall, dng: Dng) -> Question {
+        Question { call, dng, height: 1, slice: 3 }
+    }
+
+    pub fn set_first(&mut self, tag: Tag) {
+        self.dng.first_ifd().set(tag);
+    }
+
+    pub fn set_raw(&mut self, tag: Tag) {
+        self.dng.raw_ifd().set(tag);
+    }
+
+    /// The same with these changes, made in turn.
+    pub fn changed(&self, changes: &[&dyn Fn(&mut Question)]) -> Question {
+        let mut question = self.clone();
+        changes.iter().for_each(|change| change(&mut question));
+        question
+    }
+
+    /// The answer in the 32-bit layout, which is that in the 64-bit one.
+    pub fn answer(&self) -> Answer {
+        let [narrow, wide] = LAYOUTS.map(|widths| {
+            let file = Dng { widths, ..self.dng.clone() }.file();
+            (self.call)(&file, 0, 0, self.height, 1, &mut vec![UNTOUCHED; self.slice])
+        });
+        assert_eq!(narrow, wide);
+        narrow
+    }
+}
+
+/// Each fault alone gives its refusal.
+#[track_caller]
+pub fn each_alone_answers(good: &Question, faults: &[Vec<(Answer, Fault)>]) {
+    for (expected, fault) in faults.iter().flatten() {
+        assert_eq!(good.changed(&[fault]).answer(), *expected);
+    }
+}
+
+/// Of two faults, each of another inner list, the first answers.
+#[track_caller]
+pub fn first_of_two_answers(good: &Question, faults: &[Vec<(Answer, Fault)>]) {
+    for (i, earlier) in faults.iter().enumerate() {
+        for (expected, first) in earlier {
+            for (other, second) in faults[i + 1..].iter().flatten() {
+                let two = good.changed(&[second, first]);
+                assert_eq!(two.answer(), *expected, "beside {other:?}");
+            }
+        }
+    }
+}

@@ -2,13 +2,13 @@
 //! order, and what stands before and after them.
 
 use reference::builder::{Data, Dng, Opcode, Tag};
-use reference::bytes::{Widths, LAYOUTS};
+use reference::bytes::LAYOUTS;
 use reference::cases::Call;
 use reference::tag_test::{RATIONAL, SHORT, SRATIONAL};
 
 use super::lists::{good, whole};
 use super::{
-    each_file, each_way, entry, every_type_in_layouts, framed, takes, Answer, COLUMNS, DONE, LINEAR, MAX,
+    case, case_in, each_way, entry, every_type_in_layouts, framed, takes, Answer, COLUMNS, DONE, LINEAR, MAX,
     MOSAIC, ROWS,
 };
 use crate::questions::{colour_window, window};
@@ -49,17 +49,7 @@ pub fn without(mut dng: Dng, tag: u16) -> Dng {
     dng
 }
 
-/// The colour window of the whole frame, with the raw IFD as IFD 0 and below
-/// it; the colour tags refuse no other call.
-fn case(tally: &mut Tally, label: &str, dng: &Dng, answer: Answer) {
-    LAYOUTS.into_iter().for_each(|widths| case_in(tally, widths, label, dng, answer));
-}
-
-/// The same in one layout.
-fn case_in(tally: &mut Tally, widths: Widths, label: &str, dng: &Dng, answer: Answer) {
-    each_file(widths, label, dng, |label, file| file_case(tally, label, file, answer));
-}
-
+/// The colour window of the whole frame; the colour tags refuse no other call.
 fn file_case(tally: &mut Tally, label: &str, file: &[u8], answer: Answer) {
     tally.files += 1;
     tally.ask(label, file, &colour_window(FRAME, 3 * PIXELS), Some(answer));
@@ -70,13 +60,20 @@ fn file_case(tally: &mut Tally, label: &str, file: &[u8], answer: Answer) {
 
 /// Not carried with any type and any count.
 fn forbidden(tally: &mut Tally) {
-    case(tally, "carried colour", &coloured(LINEAR), DONE);
+    case(tally, file_case, "carried colour", &coloured(LINEAR), DONE);
     for (tag, (widths, kind)) in
         FORBIDDEN.into_iter().flat_map(|tag| every_type_in_layouts().map(move |of_type| (tag, of_type)))
     {
         for count in [0, 1, 9] {
             let dng = coloured(LINEAR).with_first(entry(tag, kind, &vec![1; count]));
-            case_in(tally, widths, &format!("{tag} type {kind}, {count} values"), &dng, (8, tag.into()));
+            case_in(
+                tally,
+                file_case,
+                widths,
+                &format!("{tag} type {kind}, {count} values"),
+                &dng,
+                (8, tag.into()),
+            );
         }
     }
 }
@@ -85,17 +82,17 @@ fn forbidden(tally: &mut Tally) {
 fn types_and_counts(tally: &mut Tally) {
     for (tag, kinds, count) in [(MATRIX, &[SRATIONAL][..], 9), (NEUTRAL, &[SHORT, RATIONAL], 3)] {
         let wrong = (4, tag.into());
-        case(tally, &format!("{tag} absent"), &without(coloured(LINEAR), tag), (5, tag.into()));
+        case(tally, file_case, &format!("{tag} absent"), &without(coloured(LINEAR), tag), (5, tag.into()));
         for (widths, kind) in every_type_in_layouts() {
             let answer = if takes(widths, kinds, kind) { DONE } else { wrong };
             let dng = coloured(LINEAR).with_first(entry(tag, kind, &vec![1; count]));
-            case_in(tally, widths, &format!("{tag} type {kind}"), &dng, answer);
+            case_in(tally, file_case, widths, &format!("{tag} type {kind}"), &dng, answer);
         }
         for (kind, count) in
             kinds.iter().flat_map(|kind| [0, 1, count - 1, count + 1, 2 * count].map(|c| (kind, c)))
         {
             let dng = coloured(LINEAR).with_first(entry(tag, *kind, &vec![1; count]));
-            case(tally, &format!("{tag} type {kind}, {count} values"), &dng, wrong);
+            case(tally, file_case, &format!("{tag} type {kind}, {count} values"), &dng, wrong);
         }
     }
 }
@@ -107,7 +104,7 @@ fn fractions(tally: &mut Tally) {
         values[place] = (n, d);
         let dng = coloured(LINEAR).with_first(Tag::new(tag, kind, Data::Rationals(values)));
         let answer = if legal { DONE } else { (4, tag.into()) };
-        case(tally, &format!("{tag}: {n}/{d} at {place}"), &dng, answer);
+        case(tally, file_case, &format!("{tag}: {n}/{d} at {place}"), &dng, answer);
     };
     for (n, d) in LONGS.into_iter().flat_map(|n| LONGS.map(|d| (n, d))) {
         (0..9).for_each(|place| one(MATRIX, SRATIONAL, 9, place, (n, d), d != 0));
@@ -119,7 +116,7 @@ fn fractions(tally: &mut Tally) {
         values[place] = value;
         let answer = if value == 0 { (4, NEUTRAL.into()) } else { DONE };
         let dng = coloured(LINEAR).with_first(Tag::shorts(NEUTRAL, &values));
-        case(tally, &format!("neutral {values:?}"), &dng, answer);
+        case(tally, file_case, &format!("neutral {values:?}"), &dng, answer);
     }
 }
 
@@ -154,15 +151,22 @@ fn order(tally: &mut Tally) {
     for (i, tag) in TAGS.into_iter().enumerate() {
         let (dng, answer) = faulty(coloured(LINEAR), tag);
         for later in &TAGS[i + 1..] {
-            case(tally, &format!("{tag} before {later}"), &faulty(dng.clone(), *later).0, answer);
-            case(tally, &format!("{tag} before {later}, absent"), &without(dng.clone(), *later), answer);
+            case(tally, file_case, &format!("{tag} before {later}"), &faulty(dng.clone(), *later).0, answer);
+            case(
+                tally,
+                file_case,
+                &format!("{tag} before {later}, absent"),
+                &without(dng.clone(), *later),
+                answer,
+            );
         }
     }
     let neither = without(without(coloured(LINEAR), MATRIX), NEUTRAL);
-    case(tally, "neither matrix nor neutral", &neither, (5, MATRIX.into()));
+    case(tally, file_case, "neither matrix nor neutral", &neither, (5, MATRIX.into()));
     let zeros = coloured(LINEAR).with_first(Tag::srationals(MATRIX, &[(1, 0); 9]));
     case(
         tally,
+        file_case,
         "zeros in both",
         &zeros.with_first(Tag::rationals(NEUTRAL, &[(0, 1); 3])),
         (4, MATRIX.into()),

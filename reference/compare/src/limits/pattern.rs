@@ -1,15 +1,17 @@
 //! Half-size colour of mosaics, through the half window: 15, the four tags of
 //! the pattern (5, 4, 8), their order, and the blocks of an area (13, 14).
 
+use reference::blocks;
 use reference::builder::{Area, Data, Dng, Opcode, Picture, Place, Tag, PATTERN_TAGS};
-use reference::bytes::{ByteOrder, Widths, LAYOUTS};
+use reference::bytes::{ByteOrder, LAYOUTS};
 use reference::cases::Call;
 use reference::tag_test::{BYTE, SHORT};
 
 use super::colour::{self, coloured, MATRIX, NEUTRAL};
 use super::lists::{good, whole};
 use super::{
-    answer, each_file, each_way, entry, every_type_in_layouts, Answer, COLUMNS, DONE, LINEAR, MOSAIC, ROWS,
+    answer, case, case_in, each_file, each_way, entry, every_type_in_layouts, Answer, COLUMNS, DONE, LINEAR,
+    MOSAIC, ROWS,
 };
 use crate::questions::{colour_window, half_window, window};
 use crate::tally::Tally;
@@ -51,17 +53,7 @@ fn patterned() -> Dng {
     coloured(MOSAIC).with_pattern([0, 1, 1, 2])
 }
 
-/// The half window of all blocks, with the raw IFD as IFD 0 and below it; the
-/// pattern refuses no other call.
-fn case(tally: &mut Tally, label: &str, dng: &Dng, answer: Answer) {
-    LAYOUTS.into_iter().for_each(|widths| case_in(tally, widths, label, dng, answer));
-}
-
-/// The same in one layout.
-fn case_in(tally: &mut Tally, widths: Widths, label: &str, dng: &Dng, answer: Answer) {
-    each_file(widths, label, dng, |label, file| file_case(tally, label, file, answer));
-}
-
+/// The half window of all blocks; the pattern refuses no other call.
 fn file_case(tally: &mut Tally, label: &str, file: &[u8], answer: Answer) {
     tally.files += 1;
     tally.ask(label, file, &half_window(BLOCKS, SLICE), Some(answer));
@@ -74,14 +66,14 @@ fn file_case(tally: &mut Tally, label: &str, file: &[u8], answer: Answer) {
 
 /// Absence, every type, and counts around the right one.
 fn types_and_counts(tally: &mut Tally) {
-    case(tally, "all tags of the pattern", &patterned(), DONE);
-    case(tally, "the two required ones", &patterned().without(50710).without(50711), DONE);
+    case(tally, file_case, "all tags of the pattern", &patterned(), DONE);
+    case(tally, file_case, "the two required ones", &patterned().without(50710).without(50711), DONE);
     for (tag, right, values, absent) in RULES {
-        case(tally, &format!("{tag} absent"), &patterned().without(tag), answer(absent, tag));
+        case(tally, file_case, &format!("{tag} absent"), &patterned().without(tag), answer(absent, tag));
         for (widths, kind) in every_type_in_layouts() {
             let number = if kind == right { 0 } else { 4 };
             let dng = patterned().with(entry(tag, kind, values));
-            case_in(tally, widths, &format!("{tag} type {kind}"), &dng, answer(number, tag));
+            case_in(tally, file_case, widths, &format!("{tag} type {kind}"), &dng, answer(number, tag));
         }
         let count = values.len();
         for count in
@@ -89,7 +81,7 @@ fn types_and_counts(tally: &mut Tally) {
         {
             let values: Vec<u32> = values.iter().copied().cycle().take(count).collect();
             let dng = patterned().with(entry(tag, right, &values));
-            case(tally, &format!("{tag}, {count} values"), &dng, (4, tag.into()));
+            case(tally, file_case, &format!("{tag}, {count} values"), &dng, (4, tag.into()));
         }
     }
 }
@@ -105,12 +97,13 @@ fn values(tally: &mut Tally) {
                 let mut values = carried.to_vec();
                 values[place] = other;
                 let dng = patterned().with(entry(tag, kind, &values));
-                case(tally, &format!("{tag} = {values:?}"), &dng, (8, tag.into()));
+                case(tally, file_case, &format!("{tag} = {values:?}"), &dng, (8, tag.into()));
             }
         }
         let other: Vec<u32> = carried.iter().map(|_| 7).collect();
         case(
             tally,
+            file_case,
             &format!("{tag} = {other:?}"),
             &patterned().with(entry(tag, kind, &other)),
             (8, tag.into()),
@@ -118,14 +111,14 @@ fn values(tally: &mut Tally) {
     }
     for values in [[1, 4], [4, 1], [0, 0], [1, 1], [3, 3], [8, 8], [2, 0], [0, 2]] {
         let dng = patterned().with(Tag::shorts(33421, &values));
-        case(tally, &format!("repeat {values:?}"), &dng, (8, 33421));
+        case(tally, file_case, &format!("repeat {values:?}"), &dng, (8, 33421));
     }
     for values in [[0, 2, 1], [1, 0, 2], [1, 2, 0], [2, 0, 1], [2, 1, 0], [0, 0, 0], [1, 1, 1], [2, 2, 2]] {
         let dng = patterned().with(Tag::bytes(50710, &values));
-        case(tally, &format!("planes {values:?}"), &dng, (8, 50710));
+        case(tally, file_case, &format!("planes {values:?}"), &dng, (8, 50710));
     }
     for layout in 2..=10 {
-        case(tally, "a layout", &patterned().with(Tag::shorts(50711, &[layout])), (8, 50711));
+        case(tally, file_case, "a layout", &patterned().with(Tag::shorts(50711, &[layout])), (8, 50711));
     }
 }
 
@@ -139,10 +132,17 @@ fn values_in_their_entries(tally: &mut Tally) {
             let of =
                 |values: &[u32]| patterned().with(entry(tag, kind, values).with_count(carried.len() as u64));
             let behind = [carried, &vec![9; others]].concat();
-            case_in(tally, widths, &format!("{tag}: {others} behind"), &of(&behind), DONE);
+            case_in(tally, file_case, widths, &format!("{tag}: {others} behind"), &of(&behind), DONE);
             let before = [&vec![9; others], carried].concat();
             let number = if others == 0 { 0 } else { 8 };
-            case_in(tally, widths, &format!("{tag}: {others} before"), &of(&before), answer(number, tag));
+            case_in(
+                tally,
+                file_case,
+                widths,
+                &format!("{tag}: {others} before"),
+                &of(&before),
+                answer(number, tag),
+            );
         }
     }
 }
@@ -157,7 +157,13 @@ fn patterns(tally: &mut Tally) {
             carried.push(pattern);
         }
         let answer = if held == [1, 2, 1] { DONE } else { (8, 33422) };
-        case(tally, &format!("pattern {pattern:?}"), &patterned().with(Tag::bytes(33422, &pattern)), answer);
+        case(
+            tally,
+            file_case,
+            &format!("pattern {pattern:?}"),
+            &patterned().with(Tag::bytes(33422, &pattern)),
+            answer,
+        );
     }
     if carried.len() != 12 {
         tally.differences += 1;
@@ -169,7 +175,7 @@ fn patterns(tally: &mut Tally) {
             let mut pattern = pattern;
             pattern[place] = other;
             let dng = patterned().with(Tag::bytes(33422, &pattern));
-            case(tally, &format!("pattern {pattern:?}"), &dng, (8, 33422));
+            case(tally, file_case, &format!("pattern {pattern:?}"), &dng, (8, 33422));
         }
     }
 }
@@ -200,24 +206,10 @@ fn block_case(tally: &mut Tally, label: &str, dng: &Dng, stated: [f64; 3]) {
     }
 }
 
-/// Samples 1/2, 1/4 over 3/4, 1/8, and what each pattern makes of them.
+/// The same four samples, and what each pattern makes of them.
 fn blocks_of_patterns(tally: &mut Tally) {
-    let rows = [
-        ([0, 1, 1, 2], [0.5, 0.5, 0.125]),
-        ([0, 1, 2, 1], [0.5, 0.1875, 0.75]),
-        ([0, 2, 1, 1], [0.5, 0.4375, 0.25]),
-        ([1, 0, 1, 2], [0.25, 0.625, 0.125]),
-        ([1, 0, 2, 1], [0.25, 0.3125, 0.75]),
-        ([1, 1, 0, 2], [0.75, 0.375, 0.125]),
-        ([1, 1, 2, 0], [0.125, 0.375, 0.75]),
-        ([1, 2, 0, 1], [0.75, 0.3125, 0.25]),
-        ([1, 2, 1, 0], [0.125, 0.625, 0.25]),
-        ([2, 0, 1, 1], [0.25, 0.4375, 0.5]),
-        ([2, 1, 0, 1], [0.75, 0.1875, 0.5]),
-        ([2, 1, 1, 0], [0.125, 0.5, 0.5]),
-    ];
-    for (colours, stated) in rows {
-        let dng = one_block([0.5, 0.25, 0.75, 0.125], colours);
+    for (colours, stated) in blocks::VALUES {
+        let dng = one_block(blocks::SAMPLES, colours);
         block_case(tally, &format!("block of {colours:?}"), &dng, stated);
     }
 }
@@ -302,15 +294,16 @@ fn within_a_tag(tally: &mut Tally) {
             let values = vec![9; count];
             case(
                 tally,
+                file_case,
                 &format!("{tag}: count before values"),
                 &patterned().with(entry(tag, kind, &values)),
                 wrong,
             );
             let dng = patterned().with(entry(tag, other_kind, &values));
-            case(tally, &format!("{tag}: type and count before values"), &dng, wrong);
+            case(tally, file_case, &format!("{tag}: type and count before values"), &dng, wrong);
         }
         let dng = patterned().with(entry(tag, other_kind, &vec![9; carried.len()]));
-        case(tally, &format!("{tag}: type before values"), &dng, wrong);
+        case(tally, file_case, &format!("{tag}: type before values"), &dng, wrong);
     }
 }
 
@@ -472,7 +465,7 @@ fn grids_on_one_colour(tally: &mut Tally) {
         let area = Area { top, left, row_pitch: 2, column_pitch: 2, ..whole() };
         for colours in [[0, 1, 1, 2], [1, 2, 0, 1], [1, 1, 2, 0]] {
             let dng = coloured(MOSAIC).with_pattern(colours).with_opcodes(&[good(id, area), good(8, area)]);
-            case(tally, &format!("opcode {id} on one colour of {colours:?}"), &dng, DONE);
+            case(tally, file_case, &format!("opcode {id} on one colour of {colours:?}"), &dng, DONE);
         }
     }
 }
