@@ -28,6 +28,7 @@ use raw::front::Picture;
 use raw::pattern;
 use raw::pattern::Pattern;
 use raw::pattern::Patterned;
+use reading::number;
 
 // What a block's colour needs besides its four samples.
 pub struct Half {
@@ -133,14 +134,6 @@ fn block_part(
     blocks_of(half, pair, part.width, out);
 }
 
-// How many of so many blocks are worked out at once.
-fn part_of(left: usize) -> usize
-    requires { ⌜ 1 ≤ left ⌝ }
-    ensures { λ r. ⌜ (1 ≤ r) × (r ≤ left) × (r ≤ 512) ⌝ }
-{
-    if left < 512 { left } else { 512 }
-}
-
 // A row of blocks, part by part.
 fn block_row(
     file: &[u8],
@@ -163,7 +156,7 @@ fn block_row(
     let mut j = 0;
     let mut a = 0;
     while j < width {
-        let n = part_of(width - j);
+        let n = number::smaller(width - j, 512);
         let e = a + n * 3;
         let part = Blocks {
             top,

@@ -12,7 +12,8 @@ use Rattle.directory.specs.Entry.{kindOf, plainOf, sizeOf, headerOf}
 use Rattle.directory.specs.Shape.{ifd}
 use Rattle.directory.specs.Tag.{findFrom, wholeReading, valueReading, testedReading, absentOf, valuesReading, faultOf, judgedOf, firstReading, oneReading}
 use Rattle.directory.specs.Tag.{eachReading, allReading}
-use Rattle.raw.specs.Pattern.{oneOf, firstOf, lastOf, placesOf, fourReading, coloursReading, planesOf, threeReading, planesReading, patternReading}
+use Rattle.raw.specs.Pattern.{oneOf, firstOf, lastOf, placesOf, fourColoursReading, cfaPatternReading, planeColorOf, threeColoursReading}
+use Rattle.raw.specs.Pattern.{planeColorReading, patternReading}
 use Rattle.raw.specs.declared.pattern.Pattern.{Pattern}
 
 -- 33421: 2, 2; 33422: green, red, blue, green; 50710: 0, 1, 2; 50711: 1
@@ -46,6 +47,7 @@ pub record Worked : Type 0 where
 
 pub worked : Worked
 unfolding run andThen pick numberAt numberOf littleOf bind kindOf plainOf sizeOf headerOf findFrom wholeReading valueReading testedReading absentOf
-    valuesReading faultOf judgedOf firstReading oneReading eachReading allReading oneOf firstOf lastOf placesOf fourReading coloursReading planesOf
-    threeReading planesReading patternReading
+    valuesReading faultOf judgedOf firstReading oneReading eachReading allReading oneOf firstOf lastOf placesOf fourColoursReading cfaPatternReading
+    planeColorOf
+    threeColoursReading planeColorReading patternReading
 worked = record { whole = refl; defaults = refl; refusals = refl }

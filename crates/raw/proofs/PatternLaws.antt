@@ -19,8 +19,9 @@ use Rattle.directory.specs.declared.tag.Values.{Values}
 use Rattle.directory.specs.declared.tag.Kinds.the-variants as kinds
 use Rattle.directory.specs.Tag.{valuesReading, required}
 use Rattle.directory.proofs.Outs.{bind-refused, bind-is, bind-inverse, same-value, not-refused}
-use Rattle.raw.specs.Pattern.{oneOf, timesOf, firstOf, lastOf, placesOf, fourReading, planesOf, threeReading, dimReading, coloursReading}
-use Rattle.raw.specs.Pattern.{planesReading, layoutReading, patternReading, Pattern-in}
+use Rattle.raw.specs.Pattern.{oneOf, timesOf, firstOf, lastOf, placesOf, fourColoursReading, planeColorOf, threeColoursReading, repeatDimReading}
+use Rattle.raw.specs.Pattern.{cfaPatternReading}
+use Rattle.raw.specs.Pattern.{planeColorReading, cfaLayoutReading, patternReading, Pattern-in}
 use Rattle.raw.specs.declared.pattern.Pattern.{Pattern}
 
 pub one-same : (v x : ℕ) → v ≡ x → 1 ≡ oneOf v x
@@ -30,6 +31,14 @@ one-same v x e = simp (eq-eqb _ _ e, pick-yes)
 pub one-other : (v x : ℕ) → (v ≡ x → ⊥) → 0 ≡ oneOf v x
 unfolding oneOf
 one-other v x e = simp (ne-eqb _ _ e, pick-no)
+
+-- one of four numbers, all of them places of a block
+pick-below : (p q r : Bool) (a b c d : ℕ) → a < 4 → b < 4 → c < 4 → d < 4 → pick p a (pick q b (pick r c d)) < 4
+unfolding pick
+pick-below true q r a b c d x y z w = x
+pick-below false true r a b c d x y z w = y
+pick-below false false true a b c d x y z w = z
+pick-below false false false a b c d x y z w = w
 
 module _ (a b c d : ℕ) where
   pub places-are :
@@ -52,24 +61,12 @@ module _ (a b c d : ℕ) where
   places-blues x y z = simp (eq-eqb _ _ x, eq-eqb _ _ y, ne-eqb _ _ z, pick-no)
 
   first-below : (x : ℕ) → firstOf x a b c < 4
-  unfolding firstOf pick
-  first-below x = go (eqb a x) (eqb b x) (eqb c x)
-    where
-      go : (p q r : Bool) → pick p 0 (pick q 1 (pick r 2 3)) < 4
-      go true q r = omega arith
-      go false true r = omega arith
-      go false false true = omega arith
-      go false false false = omega arith
+  unfolding firstOf
+  first-below x = pick-below (eqb a x) (eqb b x) (eqb c x) 0 1 2 3 (omega arith) (omega arith) (omega arith) (omega arith)
 
   last-below : (x : ℕ) → lastOf x b c d < 4
-  unfolding lastOf pick
-  last-below x = go (eqb d x) (eqb c x) (eqb b x)
-    where
-      go : (p q r : Bool) → pick p 3 (pick q 2 (pick r 1 0)) < 4
-      go true q r = omega arith
-      go false true r = omega arith
-      go false false true = omega arith
-      go false false false = omega arith
+  unfolding lastOf
+  last-below x = pick-below (eqb d x) (eqb c x) (eqb b x) 3 2 1 0 (omega arith) (omega arith) (omega arith) (omega arith)
 
   -- whatever is carried has its places in the block
   places-below : (p : Pattern) → is p ≡ placesOf a b c d → Pattern-in p
@@ -86,34 +83,34 @@ module _ (a b c d : ℕ) where
       go false e = absurd (not-refused p 8 33422 e)
 
 module _ (a b c : ℕ) where
-  pub planes-are : a ≡ 0 → b ≡ 1 → c ≡ 2 → is 0 ≡ planesOf a b c
-  unfolding planesOf
+  pub planes-are : a ≡ 0 → b ≡ 1 → c ≡ 2 → is 0 ≡ planeColorOf a b c
+  unfolding planeColorOf
   planes-are x y z = simp (eq-eqb _ _ x, eq-eqb _ _ y, eq-eqb _ _ z, pick-yes)
 
-  pub planes-first : (a ≡ 0 → ⊥) → refused 8 50710 ≡ planesOf a b c
-  unfolding planesOf
+  pub planes-first : (a ≡ 0 → ⊥) → refused 8 50710 ≡ planeColorOf a b c
+  unfolding planeColorOf
   planes-first x = simp (ne-eqb _ _ x, pick-no)
 
-  pub planes-second : a ≡ 0 → (b ≡ 1 → ⊥) → refused 8 50710 ≡ planesOf a b c
-  unfolding planesOf
+  pub planes-second : a ≡ 0 → (b ≡ 1 → ⊥) → refused 8 50710 ≡ planeColorOf a b c
+  unfolding planeColorOf
   planes-second x y = simp (eq-eqb _ _ x, ne-eqb _ _ y, pick-no)
 
-  pub planes-third : a ≡ 0 → b ≡ 1 → (c ≡ 2 → ⊥) → refused 8 50710 ≡ planesOf a b c
-  unfolding planesOf
+  pub planes-third : a ≡ 0 → b ≡ 1 → (c ≡ 2 → ⊥) → refused 8 50710 ≡ planeColorOf a b c
+  unfolding planeColorOf
   planes-third x y z = simp (eq-eqb _ _ x, eq-eqb _ _ y, ne-eqb _ _ z, pick-no)
 
 module _ (f : List ℕ) (o : Order) (v : Values) (a b c : ℕ) (ea : a ≡ numberOf o (part f (v .place) 1)) where
   module _ (eb : b ≡ numberOf o (part f (v .place + 1) 1)) (ec : c ≡ numberOf o (part f (v .place + 2) 1)) where
-    pub four-bytes : (d : ℕ) → d ≡ numberOf o (part f (v .place + 3) 1) → placesOf a b c d ≡ run f (fourReading o v)
-    unfolding fourReading
+    pub four-bytes : (d : ℕ) → d ≡ numberOf o (part f (v .place + 3) 1) → placesOf a b c d ≡ run f (fourColoursReading o v)
+    unfolding fourColoursReading
     four-bytes d ed = simp (running, ← ea, ← eb, ← ec, ← ed)
 
-    pub three-bytes : (v .count ≡ 0 → ⊥) → planesOf a b c ≡ run f (threeReading o v)
-    unfolding threeReading
+    pub three-bytes : (v .count ≡ 0 → ⊥) → planeColorOf a b c ≡ run f (threeColoursReading o v)
+    unfolding threeColoursReading
     three-bytes e = simp (ne-eqb _ _ e, running, ← ea, ← eb, ← ec)
 
-pub three-default : (f : List ℕ) (o : Order) (v : Values) → v .count ≡ 0 → planesOf 0 1 2 ≡ run f (threeReading o v)
-unfolding threeReading
+pub three-default : (f : List ℕ) (o : Order) (v : Values) → v .count ≡ 0 → planeColorOf 0 1 2 ≡ run f (threeColoursReading o v)
+unfolding threeColoursReading
 three-default f o v e = simp (eq-eqb _ _ e, running)
 
 -- n BYTEs lie in the file
@@ -122,37 +119,37 @@ bytes-inside size n v q = rw (q .1, one-mul n) at (q .0)
 
 -- the four tags, one after another
 module _ (f : List ℕ) (d : Ifd) where
-  pub pattern-dim : (n e : ℕ) → refused n e ≡ run f (dimReading d) → refused n e ≡ run f (patternReading d)
+  pub pattern-dim : (n e : ℕ) → refused n e ≡ run f (repeatDimReading d) → refused n e ≡ run f (patternReading d)
   unfolding patternReading
   pattern-dim n e h = bind-refused f _ _ n e h
 
-  module _ (v : Values) (ev : is v ≡ run f (dimReading d)) where
-    pub pattern-colours : (n e : ℕ) → refused n e ≡ run f (coloursReading d) → refused n e ≡ run f (patternReading d)
+  module _ (v : Values) (ev : is v ≡ run f (repeatDimReading d)) where
+    pub pattern-colours : (n e : ℕ) → refused n e ≡ run f (cfaPatternReading d) → refused n e ≡ run f (patternReading d)
     unfolding patternReading
     pattern-colours n e h = bind-refused f _ _ n e h ∙ sym (bind-is f _ _ v ev)
 
-    module _ (p : Pattern) (ep : is p ≡ run f (coloursReading d)) where
-      pub pattern-planes : (n e : ℕ) → refused n e ≡ run f (planesReading d) → refused n e ≡ run f (patternReading d)
+    module _ (p : Pattern) (ep : is p ≡ run f (cfaPatternReading d)) where
+      pub pattern-planes : (n e : ℕ) → refused n e ≡ run f (planeColorReading d) → refused n e ≡ run f (patternReading d)
       unfolding patternReading
       pattern-planes n e h = bind-refused f _ _ n e h ∙ sym (bind-is f _ _ v ev ∙ bind-is f _ _ p ep)
 
-      module _ (a : ℕ) (ea : is a ≡ run f (planesReading d)) where
-        pub pattern-layout : (n e : ℕ) → refused n e ≡ run f (layoutReading d) → refused n e ≡ run f (patternReading d)
+      module _ (a : ℕ) (ea : is a ≡ run f (planeColorReading d)) where
+        pub pattern-layout : (n e : ℕ) → refused n e ≡ run f (cfaLayoutReading d) → refused n e ≡ run f (patternReading d)
         unfolding patternReading
         pattern-layout n e h = bind-refused f _ _ n e h ∙ sym (bind-is f _ _ v ev ∙ bind-is f _ _ p ep ∙ bind-is f _ _ a ea)
 
-        pub pattern-is : (b : ℕ) → is b ≡ run f (layoutReading d) → is p ≡ run f (patternReading d)
+        pub pattern-is : (b : ℕ) → is b ≡ run f (cfaLayoutReading d) → is p ≡ run f (patternReading d)
         unfolding patternReading
         pattern-is b h = sym (bind-is f _ _ v ev ∙ bind-is f _ _ p ep ∙ bind-is f _ _ a ea ∙ bind-is f _ _ b h ∙ run-answer f _)
 
 -- the places of a pattern that was read
 pub pattern-below : (f : List ℕ) (d : Ifd) (p : Pattern) → is p ≡ run f (patternReading d) → Pattern-in p
-unfolding patternReading coloursReading
+unfolding patternReading cfaPatternReading
 pattern-below f d p e =
-    let v = bind-inverse f (dimReading d) _ p e in
-    let c = bind-inverse f (coloursReading d) _ p (v .2) in
-    let a = bind-inverse f (planesReading d) _ p (c .2) in
-    let b = bind-inverse f (layoutReading d) _ p (a .2) in
+    let v = bind-inverse f (repeatDimReading d) _ p e in
+    let c = bind-inverse f (cfaPatternReading d) _ p (v .2) in
+    let a = bind-inverse f (planeColorReading d) _ p (c .2) in
+    let b = bind-inverse f (cfaLayoutReading d) _ p (a .2) in
     let q : p ≡ c .0 = same-value p (c .0) (b .2 ∙ run-answer f _) in
-    let g = bind-inverse f (valuesReading d (required 33422 kinds.Byte 4)) (fourReading (d .order)) (c .0) (c .1) in
+    let g = bind-inverse f (valuesReading d (required 33422 kinds.Byte 4)) (fourColoursReading (d .order)) (c .0) (c .1) in
     subst Pattern-in (sym q) (places-below _ _ _ _ (c .0) (g .2 ∙ sym (four-bytes f (d .order) (g .0) _ _ _ refl refl refl _ refl)))

@@ -17,10 +17,11 @@ abbrev pub patternOut : Patterned → Out Pattern
 patternOut (patterned.Refused n d) = refused n d
 patternOut (patterned.Is v) = is v
 
--- how many of four numbers are x
+-- 1 where two numbers are the same
 unfoldable pub oneOf : ℕ → ℕ → ℕ
 oneOf v x = pick (eqb v x) 1 0
 
+-- how many of four numbers are x
 abbrev pub timesOf : ℕ → ℕ → ℕ → ℕ → ℕ → ℕ
 timesOf x a b c d = oneOf a x + oneOf b x + oneOf c x + oneOf d x
 
@@ -39,8 +40,8 @@ placesOf a b c d =
     (refused 8 33422)
 
 -- four BYTEs, the colours of a block row by row
-unfoldable pub fourReading : Order → Values → Reading (Out Pattern)
-fourReading o v =
+unfoldable pub fourColoursReading : Order → Values → Reading (Out Pattern)
+fourColoursReading o v =
     andThen (numberAt o (v .place) 1) (λ a.
     andThen (numberAt o (v .place + 1) 1) (λ b.
     andThen (numberAt o (v .place + 2) 1) (λ c.
@@ -48,40 +49,40 @@ fourReading o v =
     answer (placesOf a b c d)))))
 
 -- "default 0, 1, 2, only that carried"
-unfoldable pub planesOf : ℕ → ℕ → ℕ → Out ℕ
-planesOf a b c = pick (eqb a 0 && (eqb b 1 && eqb c 2)) (is 0) (refused 8 50710)
+unfoldable pub planeColorOf : ℕ → ℕ → ℕ → Out ℕ
+planeColorOf a b c = pick (eqb a 0 && (eqb b 1 && eqb c 2)) (is 0) (refused 8 50710)
 
-unfoldable pub threeReading : Order → Values → Reading (Out ℕ)
-threeReading o v =
-    pick (eqb (v .count) 0) (answer (planesOf 0 1 2))
+unfoldable pub threeColoursReading : Order → Values → Reading (Out ℕ)
+threeColoursReading o v =
+    pick (eqb (v .count) 0) (answer (planeColorOf 0 1 2))
     (andThen (numberAt o (v .place) 1) (λ a.
     andThen (numberAt o (v .place + 1) 1) (λ b.
     andThen (numberAt o (v .place + 2) 1) (λ c.
-    answer (planesOf a b c)))))
+    answer (planeColorOf a b c)))))
 
 -- CFARepeatPatternDim: "33421, SHORT 2, only 2, 2 carried"
-abbrev pub dimReading : Ifd → Reading (Out Values)
-dimReading d = allReading d (required 33421 kinds.Short 2) (range 0 2 2)
+abbrev pub repeatDimReading : Ifd → Reading (Out Values)
+repeatDimReading d = allReading d (required 33421 kinds.Short 2) (range 0 2 2)
 
 -- CFAPattern: "33422, BYTE 4"
-unfoldable pub coloursReading : Ifd → Reading (Out Pattern)
-coloursReading d = bind (valuesReading d (required 33422 kinds.Byte 4)) (fourReading (d .order))
+unfoldable pub cfaPatternReading : Ifd → Reading (Out Pattern)
+cfaPatternReading d = bind (valuesReading d (required 33422 kinds.Byte 4)) (fourColoursReading (d .order))
 
 -- CFAPlaneColor: "50710, BYTE 3"
-unfoldable pub planesReading : Ifd → Reading (Out ℕ)
-planesReading d = bind (valuesReading d (optional 50710 kinds.Byte 3)) (threeReading (d .order))
+unfoldable pub planeColorReading : Ifd → Reading (Out ℕ)
+planeColorReading d = bind (valuesReading d (optional 50710 kinds.Byte 3)) (threeColoursReading (d .order))
 
 -- CFALayout: "50711, SHORT 1, default 1, only 1 carried"
-abbrev pub layoutReading : Ifd → Reading (Out ℕ)
-layoutReading d = oneReading d (optional 50711 kinds.Short 1) 1 (range 0 1 1)
+abbrev pub cfaLayoutReading : Ifd → Reading (Out ℕ)
+cfaLayoutReading d = oneReading d (optional 50711 kinds.Short 1) 1 (range 0 1 1)
 
 -- "on each tag in turn"
 unfoldable pub patternReading : Ifd → Reading (Out Pattern)
 patternReading d =
-    bind (dimReading d) (λ _.
-    bind (coloursReading d) (λ p.
-    bind (planesReading d) (λ _.
-    bind (layoutReading d) (λ _.
+    bind (repeatDimReading d) (λ _.
+    bind (cfaPatternReading d) (λ p.
+    bind (planeColorReading d) (λ _.
+    bind (cfaLayoutReading d) (λ _.
     answer (is p)))))
 
 -- places of a block

@@ -5,7 +5,7 @@ ghost use Rattle.reading.specs.Reading.{run};
 ghost use Rattle.directory.specs.Out.{numberOut};
 ghost use Rattle.directory.specs.Shape.{Tested};
 ghost use Rattle.directory.specs.Tag.{valuesOut};
-ghost use Rattle.raw.specs.Pattern.{oneOf, timesOf, firstOf, lastOf, patternOut, placesOf, dimReading, coloursReading, planesOf, planesReading, layoutReading, patternReading};
+ghost use Rattle.raw.specs.Pattern.{oneOf, timesOf, firstOf, lastOf, patternOut, placesOf, repeatDimReading, cfaPatternReading, planeColorOf, planeColorReading, cfaLayoutReading, patternReading};
 use directory::Ifd;
 use directory::Number;
 use directory::tag;
@@ -91,9 +91,9 @@ fn places(a: usize, b: usize, c: usize, d: usize) -> Patterned
 }
 
 // 33421.
-fn dim_of(file: &[u8], ifd: Ifd) -> Given
+fn repeat_dim_of(file: &[u8], ifd: Ifd) -> Given
     requires { ⌜ Tested (now file) ifd ⌝ }
-    ensures { λ r. ⌜ valuesOut r ≡ run (now (file .entry)) (dimReading ifd) ⌝ }
+    ensures { λ r. ⌜ valuesOut r ≡ run (now (file .entry)) (repeatDimReading ifd) ⌝ }
 {
     let rule = Rule {
         tag: 33421,
@@ -111,9 +111,9 @@ fn dim_of(file: &[u8], ifd: Ifd) -> Given
 }
 
 // 33422.
-fn colours_of(file: &[u8], ifd: Ifd) -> Patterned
+fn cfa_pattern_of(file: &[u8], ifd: Ifd) -> Patterned
     requires { ⌜ Tested (now file) ifd ⌝ }
-    ensures { λ r. ⌜ patternOut r ≡ run (now (file .entry)) (coloursReading ifd) ⌝ }
+    ensures { λ r. ⌜ patternOut r ≡ run (now (file .entry)) (cfaPatternReading ifd) ⌝ }
 {
     let rule = Rule {
         tag: 33422,
@@ -136,8 +136,8 @@ fn colours_of(file: &[u8], ifd: Ifd) -> Patterned
 }
 
 // 8 of three planes' colours that are not 0, 1, 2.
-fn planes(a: usize, b: usize, c: usize) -> Number
-    ensures { λ r. ⌜ numberOut r ≡ planesOf a b c ⌝ }
+fn plane_color(a: usize, b: usize, c: usize) -> Number
+    ensures { λ r. ⌜ numberOut r ≡ planeColorOf a b c ⌝ }
 {
     if a == 0 {
         if b == 1 {
@@ -153,9 +153,9 @@ fn planes(a: usize, b: usize, c: usize) -> Number
 }
 
 // 50710.
-fn planes_of(file: &[u8], ifd: Ifd) -> Number
+fn plane_color_of(file: &[u8], ifd: Ifd) -> Number
     requires { ⌜ Tested (now file) ifd ⌝ }
-    ensures { λ r. ⌜ numberOut r ≡ run (now (file .entry)) (planesReading ifd) ⌝ }
+    ensures { λ r. ⌜ numberOut r ≡ run (now (file .entry)) (planeColorReading ifd) ⌝ }
 {
     let rule = Rule {
         tag: 50710,
@@ -170,20 +170,20 @@ fn planes_of(file: &[u8], ifd: Ifd) -> Number
     };
     let count = v.count;
     if count == 0 {
-        return planes(0, 1, 2);
+        return plane_color(0, 1, 2);
     }
     let place = v.place;
     let order = ifd.order;
     let a = number::byte(file, order, place) as usize;
     let b = number::byte(file, order, place + 1) as usize;
     let c = number::byte(file, order, place + 2) as usize;
-    planes(a, b, c)
+    plane_color(a, b, c)
 }
 
 // 50711.
-fn layout_of(file: &[u8], ifd: Ifd) -> Number
+fn cfa_layout_of(file: &[u8], ifd: Ifd) -> Number
     requires { ⌜ Tested (now file) ifd ⌝ }
-    ensures { λ r. ⌜ numberOut r ≡ run (now (file .entry)) (layoutReading ifd) ⌝ }
+    ensures { λ r. ⌜ numberOut r ≡ run (now (file .entry)) (cfaLayoutReading ifd) ⌝ }
 {
     let rule = Rule {
         tag: 50711,
@@ -205,19 +205,19 @@ pub fn pattern_of(file: &[u8], ifd: Ifd) -> Patterned
     requires { ⌜ Tested (now file) ifd ⌝ }
     ensures { λ r. ⌜ patternOut r ≡ run (now (file .entry)) (patternReading ifd) ⌝ }
 {
-    match dim_of(file, ifd) {
+    match repeat_dim_of(file, ifd) {
         Given::Refused { number, detail } => return Patterned::Refused { number, detail },
         Given::Is(_) => {}
     }
-    let pattern = match colours_of(file, ifd) {
+    let pattern = match cfa_pattern_of(file, ifd) {
         Patterned::Refused { number, detail } => return Patterned::Refused { number, detail },
         Patterned::Is(p) => p,
     };
-    match planes_of(file, ifd) {
+    match plane_color_of(file, ifd) {
         Number::Refused { number, detail } => return Patterned::Refused { number, detail },
         Number::Is(_) => {}
     }
-    match layout_of(file, ifd) {
+    match cfa_layout_of(file, ifd) {
         Number::Refused { number, detail } => return Patterned::Refused { number, detail },
         Number::Is(_) => {}
     }

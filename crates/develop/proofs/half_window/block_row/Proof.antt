@@ -29,26 +29,34 @@ Inv-loop file view half deltas pair₀ out₀ top left width j₀ a₀ pair out 
 abbrev μ-loop : tie.MeasureT-loop
 μ-loop file view half deltas pair₀ out₀ top left width j₀ a₀ pair out j a = width - j
 
-abbrev start : tie.After-part-of Inv-loop μ-loop → tie.Start Inv-loop μ-loop
+abbrev start : tie.After-smaller Inv-loop μ-loop → tie.Start Inv-loop μ-loop
 start k = k .before .before .before .before .before .before
 
 -- the slice has three values to each block of the row
 row-length : (s : tie.Start Inv-loop μ-loop) → length (now (s .args .out)) ≡ s .args .row .width * 3
 row-length s = let w = s .args .row .width * 3 in s .pre .0 .0 .length-is ∙ ap (λ (h : ℕ). h * w) (s .pre .0 .2) ∙ one-mul w
 
+-- a part has one block at least, no more than are left, and no more than 512
+few : (k : tie.After-smaller Inv-loop μ-loop) → let n = k .smaller .result in
+    (1 ≤ n) × (k .before .before .loop .j + n ≤ start k .args .row .width) × (n ≤ 512)
+few k =
+    let e = k .smaller .ensures in
+    let t = k .before .loop-test .taken in
+    (omega (arith, e, t), omega (arith, e, t), omega (arith, e))
+
 -- the next n blocks fit, and lie in the row of blocks, which has at most 8,192
-fits : (k : tie.After-part-of Inv-loop μ-loop) → k .before .before .loop .a + k .part-of .result * 3 ≤ length (now (start k .args .out))
+fits : (k : tie.After-smaller Inv-loop μ-loop) → k .before .before .loop .a + k .smaller .result * 3 ≤ length (now (start k .args .out))
 fits k =
     let s = start k in
     let w = k .before .before .loop .inv .2 (s .pre .0 .0 .file) in
-    omega (arith, w .begin, k .part-of .ensures .1, k .before .loop-test .taken, row-length s)
+    omega (arith, w .begin, few k .1, row-length s)
 
-inside : (k : tie.After-part-of Inv-loop μ-loop) → let a = start k .args in
-    (a .row .left + k .before .before .loop .j + k .part-of .result ≤ a .view .size .columns / 2) × (a .view .size .columns ≤ 16384)
+inside : (k : tie.After-smaller Inv-loop μ-loop) → let a = start k .args in
+    (a .row .left + k .before .before .loop .j + k .smaller .result ≤ a .view .size .columns / 2) × (a .view .size .columns ≤ 16384)
 inside k =
     let s = start k in
     let z = viewed-sized (now (s .args .file)) (s .args .view) (s .pre .0 .0 .file) in
-    (omega (arith, k .part-of .ensures .1, k .before .loop-test .taken, s .pre .0 .0 .columns), z .columns)
+    (omega (arith, few k .1, s .pre .0 .0 .columns), z .columns)
 
 loop-holds : tie.Need-loop-holds Inv-loop μ-loop
 loop-holds c =
@@ -56,14 +64,14 @@ loop-holds c =
     let a = s .args in
     (omega arith, refl, λ q. rows-start _ 3 _ (block-length (values (now (a .file)) (a .view) (a .half) q) (a .row .top)) _)
 
-sub-part-of : tie.Need-sub-part-of Inv-loop μ-loop
-sub-part-of c = omega (arith, c .loop-test .taken)
+sub-smaller : tie.Need-sub-smaller Inv-loop μ-loop
+sub-smaller c = omega (arith, c .loop-test .taken)
 
-part-of-requires : tie.Need-part-of-requires Inv-loop μ-loop
-part-of-requires c κs = omega (arith, c .loop-test .taken)
+smaller-requires : tie.Need-smaller-requires Inv-loop μ-loop
+smaller-requires c κs = omega (arith, c .loop-test .taken)
 
 mul-e : tie.Need-mul-e Inv-loop μ-loop
-mul-e c = omega (arith, c .part-of .ensures .2)
+mul-e c = omega (arith, few c .2)
 
 add-e : tie.Need-add-e Inv-loop μ-loop
 add-e c = omega (arith, fits c, start c .good .1 .1 .1 .1 .1 .1 .0 .1)
@@ -92,34 +100,34 @@ block-part-requires c κs =
     let s = start k in
     let b = s .pre .0 .0 in
     let l = k .before .before .loop in
-    let n = k .part-of .result * 3 in
+    let n = k .smaller .result * 3 in
     let w = l .inv .2 (b .file) in
     let d : l .a + n - l .a ≡ n = omega arith in
     let r : l .a + n ≤ length (l .out) = omega (arith, fits k, w .same) in
     let e = ap (λ (m : ℕ). length (take m (drop (l .a) (l .out)))) d ∙ part-length (l .a) n (l .out) r in
     let u : s .args .row .top + 1 ≤ s .args .view .size .rows / 2 = omega (arith, b .rows, s .pre .0 .2) in (
       (record { file = b .file; mosaic = b .mosaic; rows = u; columns = inside k .0; length-is = e ∙ sym (one-mul n) }, s .pre .0 .1, refl),
-      ((k .part-of .ensures .0, k .part-of .ensures .2, omega (arith, l .inv .1, s .pre .1 .0)), s .pre .1 .1),
+      ((few k .0, few k .2, omega (arith, l .inv .1, s .pre .1 .0)), s .pre .1 .1),
     )
 
-abbrev body : tie.After-slice-known4 Inv-loop μ-loop → tie.After-part-of Inv-loop μ-loop
+abbrev body : tie.After-slice-known4 Inv-loop μ-loop → tie.After-smaller Inv-loop μ-loop
 body c = c .before .before .before .before .before .before .before
 
 add-j : tie.Need-add-j Inv-loop μ-loop
 add-j c = let i = inside (body c) in omega (arith, i .0, i .1)
 
 loop-less : tie.Need-loop-less Inv-loop μ-loop
-loop-less c = let k = body c in omega (arith, k .part-of .ensures .0, k .before .loop-test .taken)
+loop-less c = let k = body c in omega (arith, few k .0, k .before .loop-test .taken)
 
 loop-again : tie.Need-loop-again Inv-loop μ-loop
 loop-again c =
     let k = body c in
     let s = start k .args in
     let a = k .before .before .loop .a in
-    let n = k .part-of .result in
+    let n = k .smaller .result in
     let g = c .before .before .before .before .block-part .ensures in
     let d : a + n * 3 - a ≡ n * 3 = omega arith in (
-      omega (arith, k .part-of .ensures .1, k .before .loop-test .taken),
+      few k .1,
       g .0 ∙ k .before .before .loop .inv .1,
       λ q. rows-more _ 3 _ (block-length (values (now (s .file)) (s .view) (s .half) q) (s .row .top)) _ a n _ _ _ _ _
           (k .before .before .loop .inv .2 q) (g .1 q) (fits k) d refl,
@@ -142,5 +150,5 @@ returns c =
     )
 
 pub block-row-spec : {M : Type 1} → statement M
-block-row-spec = tie.close (tie.spec Inv-loop μ-loop loop-holds sub-part-of part-of-requires mul-e add-e add-block-part mul-block-part sub-block-part
+block-row-spec = tie.close (tie.spec Inv-loop μ-loop loop-holds sub-smaller smaller-requires mul-e add-e add-block-part mul-block-part sub-block-part
     part-block-part-start part-block-part-end block-part-requires add-j loop-less loop-again same-length same-length-2 returns)

@@ -9,11 +9,11 @@ use Rattle.directory.specs.Tag.{valuesOut, valuesReading, Placed-values, option
 use Rattle.directory.specs.declared.tag.Kinds.the-variants as kinds
 use Rattle.directory.proofs.Outs.{bind-refused, bind-is}
 use Rattle.directory.proofs.Tags.{looked-up, counted}
-use Rattle.raw.specs.Pattern.{planesReading}
+use Rattle.raw.specs.Pattern.{planeColorReading}
 use Rattle.raw.proofs.PatternLaws.{bytes-inside, three-bytes, three-default}
 use borrow.Author.Needs.{needs}
-use Rattle.raw.proofs.pattern.planes_of.Statement.{statement}
-use Rattle.raw.proofs.pattern.planes_of.Tie as tie
+use Rattle.raw.proofs.pattern.plane_color_of.Statement.{statement}
+use Rattle.raw.proofs.pattern.plane_color_of.Tie as tie
 
 -- the tag's values; where there are any, they are three bytes in the file
 values : (g : tie.After-v) → let a = g .before .before .before .before .args in
@@ -32,20 +32,20 @@ enum-known-number : tie.Need-enum-known-number
 enum-known-number c = search needs
 
 returns : tie.Need-returns
-unfolding planesReading
+unfolding planeColorReading
 returns c = bind-refused _ _ _ _ _ (ap valuesOut (sym (c .before .number .given .1)) ∙ c .before .before .before .look-up .ensures .0)
 
 enum-known-v : tie.Need-enum-known-v
 enum-known-v c = search needs
 
-planes-requires : tie.Need-planes-requires
-planes-requires c κs = search needs
+plane-color-requires : tie.Need-plane-color-requires
+plane-color-requires c κs = search needs
 
 returns-2 : tie.Need-returns-2
-unfolding planesReading
+unfolding planeColorReading
 returns-2 c =
     let k = c .before .before .before in
-    c .planes .ensures ∙ three-default _ _ (k .v .given .0 .0) (c .before .if1 .taken) ∙ sym (bind-is _ _ _ _ (values k .0))
+    c .plane-color .ensures ∙ three-default _ _ (k .v .given .0 .0) (c .before .if1 .taken) ∙ sym (bind-is _ _ _ _ (values k .0))
 
 byte-requires : tie.Need-byte-requires
 byte-requires c κs = omega (arith, inside c)
@@ -71,17 +71,17 @@ byte-requires-3 c κs = omega (arith, inside (c .before .before))
 cast-c : tie.Need-cast-c
 cast-c c = search needs
 
-planes-requires-2 : tie.Need-planes-requires-2
-planes-requires-2 c κs = search needs
+plane-color-requires-2 : tie.Need-plane-color-requires-2
+plane-color-requires-2 c κs = search needs
 
 returns-3 : tie.Need-returns-3
-unfolding planesReading
+unfolding planeColorReading
 returns-3 c =
     let k = c .before .before .before .before .before .before in
     let q = three-bytes _ _ (k .v .given .0 .0) _ _ _ (c .before .before .before .byte .ensures .0) (c .before .before .byte2 .ensures .0)
     (c .before .byte3 .ensures .0) (c .before .before .before .before .if1 .left) in
-    c .planes2 .ensures ∙ q ∙ sym (bind-is _ _ _ _ (values k .0))
+    c .plane-color2 .ensures ∙ q ∙ sym (bind-is _ _ _ _ (values k .0))
 
-pub planes-of-spec : {M : Type 1} → statement M
-planes-of-spec = tie.close (tie.spec look-up-requires enum-known-number returns enum-known-v planes-requires returns-2 byte-requires cast-a add-byte
-    byte-requires-2 cast-b add-byte-2 byte-requires-3 cast-c planes-requires-2 returns-3)
+pub plane-color-of-spec : {M : Type 1} → statement M
+plane-color-of-spec = tie.close (tie.spec look-up-requires enum-known-number returns enum-known-v plane-color-requires returns-2 byte-requires cast-a add-byte
+    byte-requires-2 cast-b add-byte-2 byte-requires-3 cast-c plane-color-requires-2 returns-3)

@@ -1,6 +1,6 @@
 use Rattle.raw.proofs.PatternLaws.{planes-are, planes-first, planes-second, planes-third}
-use Rattle.raw.proofs.pattern.planes.Statement.{statement}
-use Rattle.raw.proofs.pattern.planes.Tie as tie
+use Rattle.raw.proofs.pattern.plane_color.Statement.{statement}
+use Rattle.raw.proofs.pattern.plane_color.Tie as tie
 
 returns : tie.Need-returns
 returns c = planes-are _ _ _ (c .before .before .if1 .taken) (c .before .if2 .taken) (c .if3 .taken)
@@ -14,5 +14,5 @@ returns-3 c = planes-second _ _ _ (c .before .if1 .taken) (c .if2 .left)
 returns-4 : tie.Need-returns-4
 returns-4 c = planes-first _ _ _ (c .if1 .left)
 
-pub planes-spec : {M : Type 1} → statement M
-planes-spec = tie.close (tie.spec returns returns-2 returns-3 returns-4)
+pub plane-color-spec : {M : Type 1} → statement M
+plane-color-spec = tie.close (tie.spec returns returns-2 returns-3 returns-4)

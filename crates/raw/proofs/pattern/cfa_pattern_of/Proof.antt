@@ -9,11 +9,11 @@ use Rattle.directory.specs.Tag.{valuesOut, valuesReading, required}
 use Rattle.directory.specs.declared.tag.Kinds.the-variants as kinds
 use Rattle.directory.proofs.Outs.{bind-refused, bind-is}
 use Rattle.directory.proofs.Tags.{looked-up, exactly}
-use Rattle.raw.specs.Pattern.{coloursReading}
+use Rattle.raw.specs.Pattern.{cfaPatternReading}
 use Rattle.raw.proofs.PatternLaws.{bytes-inside, four-bytes}
 use borrow.Author.Needs.{needs}
-use Rattle.raw.proofs.pattern.colours_of.Statement.{statement}
-use Rattle.raw.proofs.pattern.colours_of.Tie as tie
+use Rattle.raw.proofs.pattern.cfa_pattern_of.Statement.{statement}
+use Rattle.raw.proofs.pattern.cfa_pattern_of.Tie as tie
 
 -- the tag's values: four bytes in the file
 values : (k : tie.After-v) → let a = k .before .before .before .before .args in
@@ -31,7 +31,7 @@ enum-known-number : tie.Need-enum-known-number
 enum-known-number c = search needs
 
 returns : tie.Need-returns
-unfolding coloursReading
+unfolding cfaPatternReading
 returns c = bind-refused _ _ _ _ _ (ap valuesOut (sym (c .before .number .given .1)) ∙ c .before .before .before .look-up .ensures .0)
 
 enum-known-v : tie.Need-enum-known-v
@@ -74,13 +74,13 @@ places-requires : tie.Need-places-requires
 places-requires c κs = search needs
 
 returns-2 : tie.Need-returns-2
-unfolding coloursReading
+unfolding cfaPatternReading
 returns-2 c =
     let k = c .before .before .before .before .before .before in
     let q = four-bytes _ _ (k .v .given .0 .0) _ _ _ (c .before .before .before .before .byte .ensures .0) (c .before .before .before .byte2 .ensures .0)
     (c .before .before .byte3 .ensures .0) _ (c .before .byte4 .ensures .0) in
     c .places .ensures ∙ q ∙ sym (bind-is _ _ _ _ (values k .0))
 
-pub colours-of-spec : {M : Type 1} → statement M
-colours-of-spec = tie.close (tie.spec look-up-requires enum-known-number returns enum-known-v byte-requires cast-a add-byte byte-requires-2 cast-b
+pub cfa-pattern-of-spec : {M : Type 1} → statement M
+cfa-pattern-of-spec = tie.close (tie.spec look-up-requires enum-known-number returns enum-known-v byte-requires cast-a add-byte byte-requires-2 cast-b
     add-byte-2 byte-requires-3 cast-c add-byte-3 byte-requires-4 cast-d places-requires returns-2)
