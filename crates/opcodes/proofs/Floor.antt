@@ -18,10 +18,10 @@ use Rattle.opcodes.specs.Step.{indexOf, half}
 use Rattle.levels.proofs.Unit.{unit, clip-elim}
 
 -- ---- the shape of what `round` gives
-abbrev Shape : Bool → Float → Type 0
+abbrev pub Shape : Bool → Float → Type 0
 Shape s x = (x ≡ inf s) ⊎ ((m : ℕ) × (e : ℤ) × (x ≡ fin s m e))
 
-odd-shape : (d : ℕ) (s : Bool) (q k l : ℕ) → (m : ℕ) × (e : ℤ) × (odd d s q k l ≡ fin s m e)
+pub odd-shape : (d : ℕ) (s : Bool) (q k l : ℕ) → (m : ℕ) × (e : ℤ) × (odd d s q k l ≡ fin s m e)
 unfolding odd
 odd-shape d s zero k l = (_, _, refl)
 odd-shape d s (suc q) k l = (_, _, refl)
@@ -34,7 +34,7 @@ units-shape f s q k = go (ltb (q * 2 ^ k) (2 ^ (low f + suc (emax f))))
     go true = inr (odd-shape (suc (prec f)) s q k (low f))
     go false = inl refl
 
-round-shape : (f : Format) (s : Bool) (a c : ℕ) → Shape s (round f s a c)
+pub round-shape : (f : Format) (s : Bool) (a c : ℕ) → Shape s (round f s a c)
 round-shape f s a c = subst (Shape s) (sym (round-is f s a c)) (units-shape f s _ _)
 
 -- not above a finite number

@@ -91,8 +91,8 @@ unfolding actOf pick
 at-unit skipped r c p x u = u
 at-unit (kept g k) r c p x u = go (onOf g r c p)
   where
-    go : (t : Bool) → unit (pick t (actOf k g r c x) x)
-    go true = clip-clip (kindResult k g r c x)
+    go : (t : Bool) → unit (pick t (actOf k g r c p x) x)
+    go true = clip-clip (kindResult k g r c p x)
     go false = u
 
 pub alone-unit : (os : List Opcode) (r c p : ℕ) (x : Float) → unit x → unit (alone os r c p x)

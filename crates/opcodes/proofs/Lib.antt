@@ -8,5 +8,7 @@ pub mod OpcodeLists
 pub mod Listing
 pub mod Unread
 pub mod Swaps
+pub mod Places
+pub mod GainMaps
 pub mod StepLaws
 pub mod Clips

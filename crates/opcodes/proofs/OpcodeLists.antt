@@ -18,7 +18,7 @@ use Rattle.reading.specs.Real.{realOf}
 use Rattle.reading.specs.declared.number.Order.the-variants.{Big}
 use Rattle.reading.proofs.Bytes.{part-part}
 use Rattle.opcodes.specs.Grid.{longOf, gridOf, fitsOf, Fits-in}
-use Rattle.opcodes.specs.OpcodeList.{countOf, exactOf, faultOf, refusedReal, listedId, classOf, rowsOf, columnsOf, tableForm, polynomialForm, linesForm, formOf, refusedAt, refusedIn}
+use Rattle.opcodes.specs.OpcodeList.{countOf, exactOf, plainFault, refusedReal, listedId, classOf, rowsOf, columnsOf, tableForm, polynomialForm, linesForm, formOf, refusedAt, refusedIn}
 use Rattle.opcodes.specs.declared.grid.Size.{Size}
 use Rattle.opcodes.specs.declared.grid.Grid.{Grid}
 use Rattle.opcodes.specs.declared.list.Header.{Header}
@@ -80,23 +80,23 @@ one-less w (suc n) h = let q : suc n - 1 ≡ n = omega arith in rw q (omega (ari
 
 -- ---- an opcode's parameters
 module _ (z : Size) (id : ℕ) (ps : List ℕ) where
-  pub fault-short : length ps < 36 → 10 ≡ faultOf z id ps
-  unfolding faultOf pick
+  pub fault-short : length ps < 36 → 10 ≡ plainFault z id ps
+  unfolding plainFault pick
   fault-short h = rw (lt-leb 36 (length ps) h)
 
   module _ (h : 36 ≤ length ps) where
-    pub fault-grid : fitsOf z (gridOf ps) ≡ false → 10 ≡ faultOf z id ps
-    unfolding faultOf pick
+    pub fault-grid : fitsOf z (gridOf ps) ≡ false → 10 ≡ plainFault z id ps
+    unfolding plainFault pick
     fault-grid a = rw (le-leb 36 (length ps) h, a)
 
     module _ (a : fitsOf z (gridOf ps) ≡ true) where
-      pub fault-form : exactOf (formOf (gridOf ps) id (countOf ps)) (length ps) ≡ false → 10 ≡ faultOf z id ps
-      unfolding faultOf pick
+      pub fault-form : exactOf (formOf (gridOf ps) id (countOf ps)) (length ps) ≡ false → 10 ≡ plainFault z id ps
+      unfolding plainFault pick
       fault-form b = rw (le-leb 36 (length ps) h, a, b)
 
       pub fault-numbers : exactOf (formOf (gridOf ps) id (countOf ps)) (length ps) ≡ true →
-          (r : Bool) → refusedIn (formOf (gridOf ps) id (countOf ps) .width) ps 36 (formOf (gridOf ps) id (countOf ps) .numbers) ≡ r → pick r 12 0 ≡ faultOf z id ps
-      unfolding faultOf pick
+          (r : Bool) → refusedIn (formOf (gridOf ps) id (countOf ps) .width) ps 36 (formOf (gridOf ps) id (countOf ps) .numbers) ≡ r → pick r 12 0 ≡ plainFault z id ps
+      unfolding plainFault pick
       fault-numbers b r e = rw (le-leb 36 (length ps) h, a, b, e)
 
 pub and-true : (a b : Bool) → (a && b) ≡ true → (a ≡ true) × (b ≡ true)

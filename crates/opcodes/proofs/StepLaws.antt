@@ -24,8 +24,8 @@ use Rattle.levels.proofs.Unit.{unit}
 use Rattle.opcodes.specs.Grid.{longOf, linesOf, gridOf, onOf, fitsOf, Fits-in}
 use Rattle.opcodes.specs.Step.{hornerOf, mappedOf, resultOf, appliedOf, valueOf, coefficientsOf, polynomialOf}
 use Rattle.opcodes.specs.Opcode.{row, column, actOf, lineOf}
-use Rattle.opcodes.specs.OpcodeList.{listedId, countOf, rowsOf, columnsOf, tableForm, polynomialForm, linesForm, formOf, exactOf, faultOf, floatsOf, kindOf}
-use Rattle.opcodes.specs.StepAt.{floatAt, stepOf}
+use Rattle.opcodes.specs.OpcodeList.{countOf, rowsOf, columnsOf, tableForm, polynomialForm, linesForm, formOf, exactOf, plainFault, floatsOf, kindOf}
+use Rattle.opcodes.specs.StepAt.{plainId, floatAt, stepOf}
 use Rattle.opcodes.specs.declared.grid.Size.{Size}
 use Rattle.opcodes.specs.declared.grid.Grid.{Grid}
 use Rattle.opcodes.specs.declared.list.Form.{Form}
@@ -84,7 +84,7 @@ module _ (f : List ℕ) (at n : ℕ) where
     scale-step m k h l = ap (λ (v : Float). clipOf (mul binary64 x v)) (float-own m k h l)
 
 -- the last of the ids
-pub listed-last : (id : ℕ) → listedId id ≡ true → (id ≡ 7 → ⊥) → (id ≡ 8 → ⊥) → (id ≡ 10 → ⊥) → (id ≡ 11 → ⊥) → (id ≡ 12 → ⊥) → id ≡ 13
+pub listed-last : (id : ℕ) → plainId id ≡ true → (id ≡ 7 → ⊥) → (id ≡ 8 → ⊥) → (id ≡ 10 → ⊥) → (id ≡ 11 → ⊥) → (id ≡ 12 → ⊥) → id ≡ 13
 listed-last id h a b c d e = go (leb 10 id) (leb id 13) refl refl (rw (ne-eqb id 7 a, ne-eqb id 8 b) at h)
   where
     go : (p q : Bool) → leb 10 id ≡ p → leb id 13 ≡ q → (leb 10 id && leb id 13) ≡ true → id ≡ 13
@@ -131,10 +131,10 @@ pub record Accepted (z : Size) (id : ℕ) (ps : List ℕ) : Type 0 where
   pub grid : Fits-in z (gridOf ps)
   pub exact : exactOf (formOf (gridOf ps) id (countOf ps)) (length ps) ≡ true
 
-pub accepted : (z : Size) (id : ℕ) (ps : List ℕ) → faultOf z id ps ≡ 0 → Accepted z id ps
+pub accepted : (z : Size) (id : ℕ) (ps : List ℕ) → plainFault z id ps ≡ 0 → Accepted z id ps
 accepted z id ps e = go (leb 36 (length ps)) (fitsOf z (gridOf ps)) (exactOf (formOf (gridOf ps) id (countOf ps)) (length ps)) refl refl refl
   where
-    no : 10 ≡ faultOf z id ps → ⊥
+    no : 10 ≡ plainFault z id ps → ⊥
     no h = let q : _≡_ {A = ℕ} 10 0 = h ∙ e in omega arith
 
     go : (a b c : Bool) → leb 36 (length ps) ≡ a → fitsOf z (gridOf ps) ≡ b → exactOf (formOf (gridOf ps) id (countOf ps)) (length ps) ≡ c → Accepted z id ps
@@ -165,7 +165,8 @@ on-in g r c p e =
     }
 
 -- ---- the step acts as the opcode does
-module _ (f : List ℕ) (at n : ℕ) (z : Size) (id : ℕ) (inside : at + n ≤ length f) (ok : faultOf z id (part f at n) ≡ 0) (r c p : ℕ) (x : Float) where
+module _ (f : List ℕ) (at n : ℕ) (z : Size) (id : ℕ) (inside : at + n ≤ length f) (ok : plainFault z id (part f at n) ≡ 0)
+    (n9 : id ≡ 9 → ⊥) (r c p : ℕ) (x : Float) where
   abbrev ps : List ℕ
   ps = part f at n
 
@@ -176,7 +177,7 @@ module _ (f : List ℕ) (at n : ℕ) (z : Size) (id : ℕ) (inside : at + n ≤ 
   m = countOf ps
 
   abbrev Acts : Type 0
-  Acts = appliedOf (stepOf f at id (lineOf row g r c) (lineOf column g r c)) f x ≡ actOf (kindOf id ps) g r c x
+  Acts = appliedOf (stepOf f at id (lineOf row g r c) (lineOf column g r c)) f x ≡ actOf (kindOf z id ps) g r c p x
 
   size : length ps ≡ n
   size = length-part f at n inside
@@ -230,7 +231,7 @@ module _ (f : List ℕ) (at n : ℕ) (z : Size) (id : ℕ) (inside : at + n ≤ 
       acts-10 e =
           let l = row-line (rw (eq-eqb id 10 e) refl) in
           ap (λ (s : Step). appliedOf s f x) (sym (step-10 f at id _ _ n7 n8 e)) ∙ add-step f at n 0 0 x enough m _ (l .0) (l .1)
-          ∙ rw (ne-eqb id 7 n7, ne-eqb id 8 n8, eq-eqb id 10 e) refl
+          ∙ rw (ne-eqb id 7 n7, ne-eqb id 8 n8, ne-eqb id 9 n9, eq-eqb id 10 e) refl
 
       module _ (n10 : id ≡ 10 → ⊥) where
         acts-11 : id ≡ 11 → Acts
@@ -238,7 +239,7 @@ module _ (f : List ℕ) (at n : ℕ) (z : Size) (id : ℕ) (inside : at + n ≤ 
         acts-11 e =
             let l = column-line (rw (ne-eqb id 10 n10, ne-eqb id 12 (λ q. omega arith)) refl) in
             ap (λ (s : Step). appliedOf s f x) (sym (step-11 f at id _ _ n7 n8 n10 e)) ∙ add-step f at n 0 0 x enough m _ (l .0) (l .1)
-            ∙ rw (ne-eqb id 7 n7, ne-eqb id 8 n8, ne-eqb id 10 n10, eq-eqb id 11 e) refl
+            ∙ rw (ne-eqb id 7 n7, ne-eqb id 8 n8, ne-eqb id 9 n9, ne-eqb id 10 n10, eq-eqb id 11 e) refl
 
         module _ (n11 : id ≡ 11 → ⊥) where
           acts-12 : id ≡ 12 → Acts
@@ -246,14 +247,14 @@ module _ (f : List ℕ) (at n : ℕ) (z : Size) (id : ℕ) (inside : at + n ≤ 
           acts-12 e =
               let l = row-line (rw (ne-eqb id 10 n10, eq-eqb id 12 e) refl) in
               ap (λ (s : Step). appliedOf s f x) (sym (step-12 f at id _ _ n7 n8 n10 n11 e)) ∙ scale-step f at n 0 0 x enough m _ (l .0) (l .1)
-              ∙ rw (ne-eqb id 7 n7, ne-eqb id 8 n8, ne-eqb id 10 n10, ne-eqb id 11 n11, eq-eqb id 12 e) refl
+              ∙ rw (ne-eqb id 7 n7, ne-eqb id 8 n8, ne-eqb id 9 n9, ne-eqb id 10 n10, ne-eqb id 11 n11, eq-eqb id 12 e) refl
 
           acts-13 : (id ≡ 12 → ⊥) → Acts
           unfolding actOf kindOf pick
           acts-13 e =
               let l = column-line (rw (ne-eqb id 10 n10, ne-eqb id 12 e) refl) in
               ap (λ (s : Step). appliedOf s f x) (sym (step-13 f at id _ _ n7 n8 n10 n11 e)) ∙ scale-step f at n 0 0 x enough m _ (l .0) (l .1)
-              ∙ rw (ne-eqb id 7 n7, ne-eqb id 8 n8, ne-eqb id 10 n10, ne-eqb id 11 n11, ne-eqb id 12 e) refl
+              ∙ rw (ne-eqb id 7 n7, ne-eqb id 8 n8, ne-eqb id 9 n9, ne-eqb id 10 n10, ne-eqb id 11 n11, ne-eqb id 12 e) refl
 
   -- at a sample of its grid, an accepted opcode's step makes of a number from 0 to 1 what the opcode does
   pub step-acts : onOf g r c p ≡ true → unit x → Acts

@@ -7,17 +7,20 @@ use Rattle.reading.specs.Reading.{pick}
 use Rattle.levels.specs.Clip.{clipOf, plusZero}
 use Rattle.opcodes.specs.Grid.{onOf}
 use Rattle.opcodes.specs.Step.{hornerOf, mappedOf}
+use Rattle.opcodes.specs.GainMap.{GainMap, gainOf}
+use Rattle.opcodes.specs.declared.grid.Size.{Size}
 use Rattle.opcodes.specs.declared.grid.Grid.{Grid}
 
 pub data Along : Type 0 where
   row column : Along
 
--- MapTable, MapPolynomial, DeltaPerRow and DeltaPerColumn, ScalePerRow and ScalePerColumn
+-- MapTable, MapPolynomial, DeltaPerRow and DeltaPerColumn, ScalePerRow and ScalePerColumn, and GainMap with the active frame's size
 pub data Kind : Type 0 where
   table : List ℕ → Kind
   polynomial : List Float → Kind
   delta : Along → List Float → Kind
   scale : Along → List Float → Kind
+  gain : Size → GainMap → Kind
 
 -- "a skipped one has no grid"
 pub data Opcode : Type 0 where
@@ -29,18 +32,19 @@ abbrev pub lineOf : Along → Grid → ℕ → ℕ → ℕ
 lineOf row g r c = (r - g .top) / g .«row_pitch»
 lineOf column g r c = (c - g .left) / g .«column_pitch»
 
--- the result at a row and a column, before the clip
-abbrev pub kindResult : Kind → Grid → ℕ → ℕ → Float → Float
-kindResult (table t) g r c x = mappedOf t x
-kindResult (polynomial cs) g r c x = hornerOf cs x
-kindResult (delta a vs) g r c x = add binary64 x (getD vs (lineOf a g r c) plusZero)
-kindResult (scale a vs) g r c x = mul binary64 x (getD vs (lineOf a g r c) plusZero)
+-- the result at a row, a column and a plane, before the clip
+abbrev pub kindResult : Kind → Grid → ℕ → ℕ → ℕ → Float → Float
+kindResult (table t) g r c p x = mappedOf t x
+kindResult (polynomial cs) g r c p x = hornerOf cs x
+kindResult (delta a vs) g r c p x = add binary64 x (getD vs (lineOf a g r c) plusZero)
+kindResult (scale a vs) g r c p x = mul binary64 x (getD vs (lineOf a g r c) plusZero)
+kindResult (gain z m) g r c p x = mul binary64 x (gainOf m z r c (p - g .plane))
 
 -- "At every sample of its grid the number x that stands there is replaced by the clipped result"
-unfoldable pub actOf : Kind → Grid → ℕ → ℕ → Float → Float
-actOf k g r c x = clipOf (kindResult k g r c x)
+unfoldable pub actOf : Kind → Grid → ℕ → ℕ → ℕ → Float → Float
+actOf k g r c p x = clipOf (kindResult k g r c p x)
 
 -- "all other numbers stay. A skipped correction changes none"
 abbrev pub opcodeAt : Opcode → ℕ → ℕ → ℕ → Float → Float
 opcodeAt skipped r c p x = x
-opcodeAt (kept g k) r c p x = pick (onOf g r c p) (actOf k g r c x) x
+opcodeAt (kept g k) r c p x = pick (onOf g r c p) (actOf k g r c p x) x

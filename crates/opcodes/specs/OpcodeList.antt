@@ -17,7 +17,8 @@ use Rattle.levels.specs.Table.{tableOf}
 use Rattle.directory.specs.Out.{Out, Out.refused, Out.is, bind}
 use Rattle.opcodes.specs.Grid.{longOf, linesOf, gridOf, fitsOf}
 use Rattle.opcodes.specs.Step.{valueOf, coefficientsOf}
-use Rattle.opcodes.specs.Opcode.{row, column, Kind, table, polynomial, delta, scale, Opcode, skipped, kept}
+use Rattle.opcodes.specs.GainMap.{gainMapOf, gainMapLegal, gainsIn}
+use Rattle.opcodes.specs.Opcode.{row, column, Kind, table, polynomial, delta, scale, gain, Opcode, skipped, kept}
 use Rattle.opcodes.specs.declared.grid.Size.{Size}
 use Rattle.opcodes.specs.declared.grid.Grid.{Grid}
 use Rattle.opcodes.specs.declared.list.Header.{Header}
@@ -32,9 +33,9 @@ use Rattle.opcodes.specs.declared.list.Tested.the-variants as tested
 unfoldable pub headerOf : List ℕ → Header
 headerOf h = record { id = longOf h 0; version = longOf h 4; flags = longOf h 8; length = longOf h 12 }
 
--- the ids 7, 8 and 10 to 13
+-- the ids 7 to 13
 abbrev pub listedId : ℕ → Bool
-listedId n = eqb n 7 || (eqb n 8 || (leb 10 n && leb n 13))
+listedId n = leb 7 n && leb n 13
 
 -- "an id below not listed, or a version above 1.7.1.0, is skipped if flag bit 0 is set and refused by 11 if not"
 unfoldable pub classOf : Header → Class
@@ -86,27 +87,42 @@ abbrev pub exactOf : Form → ℕ → Bool
 exactOf m n = m .legal && eqb n (36 + m .bytes)
 
 -- "then the parameters (10), then their numbers (12)"; 0 where neither refuses
+abbrev pub refusalOf : Bool → Bool → ℕ
+refusalOf legal wrong = pick legal (pick wrong 12 0) 10
+
+-- of an opcode that is no GainMap
+unfoldable pub plainFault : Size → ℕ → List ℕ → ℕ
+plainFault z id ps =
+    refusalOf
+    (leb 36 (length ps) && (fitsOf z (gridOf ps) && exactOf (formOf (gridOf ps) id (countOf ps)) (length ps)))
+    (refusedIn (formOf (gridOf ps) id (countOf ps) .width) ps 36 (formOf (gridOf ps) id (countOf ps) .numbers))
+
+-- of a GainMap: 76 bytes and 4 for each gain; four DOUBLEs and the gains
+unfoldable pub gainMapFault : Size → List ℕ → ℕ
+gainMapFault z ps =
+    refusalOf
+    (leb 76 (length ps) && (fitsOf z (gridOf ps) && (gainMapLegal ps && eqb (length ps) (76 + 4 * gainsIn ps))))
+    (refusedIn 8 ps 40 4 || refusedIn 4 ps 76 (gainsIn ps))
+
 unfoldable pub faultOf : Size → ℕ → List ℕ → ℕ
-faultOf z id ps =
-    pick (leb 36 (length ps) && (fitsOf z (gridOf ps) && exactOf (formOf (gridOf ps) id (countOf ps)) (length ps)))
-    (pick (refusedIn (formOf (gridOf ps) id (countOf ps) .width) ps 36 (formOf (gridOf ps) id (countOf ps) .numbers)) 12 0)
-    10
+faultOf z id ps = pick (eqb id 9) (gainMapFault z ps) (plainFault z id ps)
 
 -- n FLOATs
 abbrev pub floatsOf : List ℕ → ℕ → ℕ → List Float
 floatsOf f at n = runOf (λ (p : ℕ). valueOf (realOf binary32 (numberOf Big (part f p 4)))) 4 at n
 
-unfoldable pub kindOf : ℕ → List ℕ → Kind
-kindOf id ps =
+unfoldable pub kindOf : Size → ℕ → List ℕ → Kind
+kindOf z id ps =
     pick (eqb id 7) (table (tableOf Big ps 36 (countOf ps)))
     (pick (eqb id 8) (polynomial (coefficientsOf ps 36 (countOf ps + 1)))
+    (pick (eqb id 9) (gain z (gainMapOf ps))
     (pick (eqb id 10) (delta row (floatsOf ps 36 (countOf ps)))
     (pick (eqb id 11) (delta column (floatsOf ps 36 (countOf ps)))
-    (pick (eqb id 12) (scale row (floatsOf ps 36 (countOf ps))) (scale column (floatsOf ps 36 (countOf ps)))))))
+    (pick (eqb id 12) (scale row (floatsOf ps 36 (countOf ps))) (scale column (floatsOf ps 36 (countOf ps))))))))
 
 -- a carried opcode, i-th of the list, from its id and its parameters
 unfoldable pub parametersOf : Size → ℕ → ℕ → List ℕ → Out Opcode
-parametersOf z i id ps = pick (eqb (faultOf z id ps) 0) (is (kept (gridOf ps) (kindOf id ps))) (refused (faultOf z id ps) i)
+parametersOf z i id ps = pick (eqb (faultOf z id ps) 0) (is (kept (gridOf ps) (kindOf z id ps))) (refused (faultOf z id ps) i)
 
 -- ---- the list
 -- one opcode, i-th of the list, whose header stands at a place; a skipped opcode's parameters are not read

@@ -3,7 +3,8 @@ use Prim.Native.Nat.{ℕ, _+_, _*_, _≤_}
 use mathlib.Core.List.{List}
 use mathlib.Core.Path.{_≡_}
 use mathlib.Core.Logic.{_⊎_}
-use lib.Dec.{eqb}
+use mathlib.Core.Bool.{Bool, _&&_, _||_}
+use lib.Dec.{leb, eqb}
 use lib.Ieee.{Float, binary32}
 use lib.ListN.{length}
 use Rattle.reading.specs.Bytes.{part}
@@ -15,6 +16,10 @@ use Rattle.opcodes.specs.Grid.{longOf}
 use Rattle.opcodes.specs.Step.{valueOf, coefficientsOf, polynomialOf}
 use Rattle.opcodes.specs.declared.step.Step.{Step}
 use Rattle.opcodes.specs.declared.step.Step.the-variants.{Add, Scale, Table}
+
+-- the ids of all opcodes but GainMap, whose step depends on the frame
+abbrev pub plainId : ℕ → Bool
+plainId n = eqb n 7 || (eqb n 8 || (leb 10 n && leb n 13))
 
 -- the k-th of the FLOATs behind the LONG
 abbrev pub floatAt : List ℕ → ℕ → ℕ → Float

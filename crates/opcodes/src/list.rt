@@ -7,7 +7,8 @@ ghost use lib.Dec.{eqb, leb};
 ghost use lib.ListN.{length};
 ghost use Rattle.reading.specs.Bytes.{part};
 ghost use Rattle.reading.specs.Reading.{run};
-ghost use Rattle.opcodes.specs.OpcodeList.{headerOf, listedId, classOf, tableForm, polynomialForm, linesForm, formOf, refusedReal, refusedAt, refusedIn, exactOf, faultOf, opcodeReading, listFrom, listReading, none, countedOne, countedOn, testedOut};
+ghost use Rattle.opcodes.specs.OpcodeList.{headerOf, listedId, classOf, tableForm, polynomialForm, linesForm, formOf, refusedReal, refusedAt, refusedIn, exactOf, plainFault, gainMapFault, faultOf, opcodeReading, listFrom, listReading, none, countedOne, countedOn, testedOut};
+use crate::gain_map;
 use crate::grid;
 use crate::grid::Grid;
 use crate::grid::Size;
@@ -71,13 +72,7 @@ fn within(low: usize, n: usize, high: usize) -> bool
 fn listed(id: usize) -> bool
     ensures { λ r. ⌜ r ≡ listedId id ⌝ }
 {
-    if id == 7 {
-        return true;
-    }
-    if id == 8 {
-        return true;
-    }
-    within(10, id, 13)
+    within(7, id, 13)
 }
 
 pub fn classify(header: Header) -> Class
@@ -205,10 +200,10 @@ fn exact(form: Form, length: usize) -> bool
     }
 }
 
-// The refusal of an opcode's parameters, or 0.
-fn fault(file: &[u8], size: Size, at: usize, bytes: usize, id: usize) -> usize
+// The refusal of an opcode's parameters, or 0, where it is no GainMap.
+fn plain_fault(file: &[u8], size: Size, at: usize, bytes: usize, id: usize) -> usize
     requires { ⌜ (at + bytes ≤ length (now file)) × (size .rows ≤ 16384) × (size .columns ≤ 16384) ⌝ }
-    ensures { λ r. ⌜ r ≡ faultOf size id (part (now (file .entry)) at bytes) ⌝ }
+    ensures { λ r. ⌜ r ≡ plainFault size id (part (now (file .entry)) at bytes) ⌝ }
 {
     if bytes < 36 {
         return 10;
@@ -226,6 +221,47 @@ fn fault(file: &[u8], size: Size, at: usize, bytes: usize, id: usize) -> usize
         }
     }
     10
+}
+
+// Whether one of a GainMap's numbers is refused: four DOUBLEs, and the gains.
+fn gain_map_refused(ps: &[u8], n: usize) -> bool
+    requires { ⌜ 76 + 4 * n ≤ length (now ps) ⌝ }
+    ensures { λ r. ⌜ r ≡ (refusedIn 8 (now (ps .entry)) 40 4 || refusedIn 4 (now (ps .entry)) 76 n) ⌝ }
+{
+    if refused_in(ps, 8, 40, 4) {
+        return true;
+    }
+    refused_in(ps, 4, 76, n)
+}
+
+// The refusal of a GainMap's parameters, or 0.
+fn gain_map_fault(ps: &[u8], size: Size) -> usize
+    ensures { λ r. ⌜ r ≡ gainMapFault size (now (ps .entry)) ⌝ }
+{
+    if ps.len() < 76 {
+        return 10;
+    }
+    let g = grid::grid_at(ps, 0);
+    if grid::fits(size, g) {
+        if gain_map::legal(ps) {
+            let n = gain_map::count(ps);
+            if ps.len() == 76 + 4 * n {
+                return if gain_map_refused(ps, n) { 12 } else { 0 };
+            }
+        }
+    }
+    10
+}
+
+// The refusal of an opcode's parameters, or 0.
+fn fault(file: &[u8], size: Size, at: usize, bytes: usize, id: usize) -> usize
+    requires { ⌜ (at + bytes ≤ length (now file)) × (size .rows ≤ 16384) × (size .columns ≤ 16384) ⌝ }
+    ensures { λ r. ⌜ r ≡ faultOf size id (part (now (file .entry)) at bytes) ⌝ }
+{
+    if id == 9 {
+        return gain_map_fault(&file[at..at + bytes], size);
+    }
+    plain_fault(file, size, at, bytes, id)
 }
 
 // The i-th opcode, whose header stands at a place, counted.

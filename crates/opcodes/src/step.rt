@@ -3,7 +3,7 @@ ghost use mathlib.Core.Path.{_≡_};
 ghost use Prim.Native.Nat.{_+_, _*_, _≤_, _<_, min};
 ghost use lib.ListN.{getD, length};
 ghost use Rattle.levels.specs.Clip.{clipOf};
-ghost use Rattle.opcodes.specs.Step.{minusZero, indexOf, mappedOf, sizeAt, tableAt, TableIn, StepIn, appliedOf, coefficientsOf, polynomialOf};
+ghost use Rattle.opcodes.specs.Step.{minusZero, indexOf, mappedOf, sizeAt, tableAt, TableIn, StepIn, appliedOf, valueOf, coefficientsOf, polynomialOf};
 use levels::table;
 use reading::number;
 use reading::number::Order;
@@ -73,16 +73,23 @@ pub fn apply(step: Step, file: &[u8], x: f64) -> f64
     }
 }
 
+// A FLOAT or a DOUBLE that was accepted.
+pub fn value(x: Real) -> f64
+    ensures { λ r. ⌜ r ≡ valueOf x ⌝ }
+{
+    match x {
+        Real::Value(v) => v,
+        Real::Refused => 0.0,
+    }
+}
+
 // The k-th of n coefficients, or -0.0 past the highest.
 pub fn coefficient(file: &[u8], at: usize, n: usize, k: usize) -> f64
     requires { ⌜ (k < 9) × (at + 8 * n ≤ length (now file)) ⌝ }
     ensures { λ r. ⌜ r ≡ getD (coefficientsOf (now (file .entry)) at n) k minusZero ⌝ }
 {
     if k < n {
-        match real::double_at(file, at + 8 * k) {
-            Real::Value(x) => x,
-            Real::Refused => 0.0,
-        }
+        value(real::double_at(file, at + 8 * k))
     } else {
         -0.0
     }

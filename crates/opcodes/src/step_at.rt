@@ -2,29 +2,24 @@
 ghost use mathlib.Core.Path.{_≡_};
 ghost use Prim.Native.Nat.{_+_, _*_, _≤_};
 ghost use lib.ListN.{length};
-ghost use Rattle.opcodes.specs.OpcodeList.{listedId};
-ghost use Rattle.opcodes.specs.StepAt.{floatAt, stepOf, StepAt-in};
+ghost use Rattle.opcodes.specs.StepAt.{plainId, floatAt, stepOf, StepAt-in};
 ghost use mathlib.Core.Bool.{true};
 use crate::grid;
 use crate::step;
 use crate::step::Step;
 use reading::real;
-use reading::real::Real;
 
 // The k-th FLOAT of an opcode.
 pub fn float_value(file: &[u8], at: usize, k: usize) -> f64
     requires { ⌜ (at + 36 + 4 * k + 4 ≤ length (now file)) ⌝ }
     ensures { λ r. ⌜ r ≡ floatAt (now (file .entry)) at k ⌝ }
 {
-    match real::float_at(file, at + 36 + 4 * k) {
-        Real::Value(x) => x,
-        Real::Refused => 0.0,
-    }
+    step::value(real::float_at(file, at + 36 + 4 * k))
 }
 
 // The step at a grid's i-th row and j-th column.
 pub fn step_for(file: &[u8], at: usize, id: usize, i: usize, j: usize) -> Step
-    requires { ⌜ StepAt-in (now file) at id i j × (listedId id ≡ true) ⌝ }
+    requires { ⌜ StepAt-in (now file) at id i j × (plainId id ≡ true) ⌝ }
     ensures { λ r. ⌜ r ≡ stepOf (now (file .entry)) at id i j ⌝ }
 {
     if id == 7 {

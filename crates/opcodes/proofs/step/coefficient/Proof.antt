@@ -27,23 +27,22 @@ add-double-at c = omega (arith, c .before .before .pre .1, c .if1 .taken)
 double-at-requires : tie.Need-double-at-requires
 double-at-requires c κs = omega (arith, c .before .before .pre .1, c .if1 .taken)
 
-enum-known-x : tie.Need-enum-known-x
-enum-known-x c = search needs
-
-enum-told : tie.Need-enum-told
-enum-told c = search needs
+value-requires : tie.Need-value-requires
+value-requires c κs = search needs
 
 returns : tie.Need-returns
-unfolding ofBits neg
-returns c = ap valueOf (sym (c .before .x .given .1) ∙ c .before .before .before .double-at .ensures) ∙ sym (run-at (number (now (c .before .before .before .before .before .before .args .file))) 8 (c .before .before .before .before .before .before .args .at) (c .before .before .before .before .before .before .args .n) (c .before .before .before .before .before .before .args .k) minusZero (c .before .before .before .before .if1 .taken))
+unfolding neg
+returns c =
+    let a = c .before .before .before .before .args in
+    let t = c .before .before .if1 .taken in
+    c .value .ensures ∙ ap valueOf (c .before .double-at .ensures) ∙ sym (run-at (number (now (a .file))) 8 (a .at) (a .n) (a .k) minusZero t)
 
 returns-2 : tie.Need-returns-2
 unfolding ofBits neg
-returns-2 c = ap valueOf (sym (c .enum-told .given .1) ∙ c .before .before .double-at .ensures) ∙ sym (run-at (number (now (c .before .before .before .before .before .args .file))) 8 (c .before .before .before .before .before .args .at) (c .before .before .before .before .before .args .n) (c .before .before .before .before .before .args .k) minusZero (c .before .before .before .if1 .taken))
-
-returns-3 : tie.Need-returns-3
-unfolding ofBits neg
-returns-3 c = sym (List·getD-eq-default (coefficientsOf (now (c .before .before .args .file)) (c .before .before .args .at) (c .before .before .args .n)) minusZero (rw (length-run (number (now (c .before .before .args .file))) 8 (c .before .before .args .at) (c .before .before .args .n)) (c .if1 .left)))
+returns-2 c =
+    let a = c .before .before .args in
+    let f = now (a .file) in
+    sym (List·getD-eq-default (coefficientsOf f (a .at) (a .n)) minusZero (rw (length-run (number f) 8 (a .at) (a .n)) (c .if1 .left)))
 
 pub coefficient-spec : {M : Type 1} → statement M
-coefficient-spec = tie.close (tie.spec mul-double-at add-double-at double-at-requires enum-known-x enum-told returns returns-2 returns-3)
+coefficient-spec = tie.close (tie.spec mul-double-at add-double-at double-at-requires value-requires returns returns-2)

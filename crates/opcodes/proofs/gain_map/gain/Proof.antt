@@ -1,0 +1,91 @@
+use mathlib.Core.Path.{_≡_, ap, _∙_}
+use native.Mathlib.Omega.{arith}
+use Prim.Native.Nat.{ℕ, _+_, _*_, _≤_}
+use denote.Ref.{now}
+use lib.ListN.{length}
+use Rattle.opcodes.specs.Grid.{longOf}
+use Rattle.opcodes.specs.GainMap.{planesIn}
+use Rattle.opcodes.specs.Step.{valueOf}
+use Rattle.opcodes.proofs.GainMaps.{gain-room, gain-read}
+use borrow.Author.Needs.{needs}
+use Rattle.opcodes.proofs.gain_map.gain.Statement.{statement}
+use Rattle.opcodes.proofs.gain_map.gain.Tie as tie
+
+field-requires : tie.Need-field-requires
+field-requires c κs = search needs
+
+field-requires-2 : tie.Need-field-requires-2
+field-requires-2 c κs = search needs
+
+mul-float-at : tie.Need-mul-float-at
+mul-float-at c =
+    let a = c .before .before .before .args in
+    let h = c .before .before .before .pre in
+    let s = gain-room (now (a .ps)) (a .i) (a .k) (a .q) _ _ (c .before .field .ensures .0) (c .field2 .ensures .0) (h .0) (h .1) (h .2) (h .3) in
+    omega (arith, s .0, s .1)
+
+add-float-at : tie.Need-add-float-at
+add-float-at c =
+    let a = c .before .before .before .args in
+    let h = c .before .before .before .pre in
+    let s = gain-room (now (a .ps)) (a .i) (a .k) (a .q) _ _ (c .before .field .ensures .0) (c .field2 .ensures .0) (h .0) (h .1) (h .2) (h .3) in
+    omega (arith, s .0, s .1)
+
+mul-float-at-2 : tie.Need-mul-float-at-2
+mul-float-at-2 c =
+    let a = c .before .before .before .args in
+    let h = c .before .before .before .pre in
+    let s = gain-room (now (a .ps)) (a .i) (a .k) (a .q) _ _ (c .before .field .ensures .0) (c .field2 .ensures .0) (h .0) (h .1) (h .2) (h .3) in
+    omega (arith, s .0, s .1)
+
+add-float-at-2 : tie.Need-add-float-at-2
+add-float-at-2 c =
+    let a = c .before .before .before .args in
+    let h = c .before .before .before .pre in
+    let s = gain-room (now (a .ps)) (a .i) (a .k) (a .q) _ _ (c .before .field .ensures .0) (c .field2 .ensures .0) (h .0) (h .1) (h .2) (h .3) in
+    omega (arith, s .0, s .1)
+
+mul-float-at-3 : tie.Need-mul-float-at-3
+mul-float-at-3 c =
+    let a = c .before .before .before .args in
+    let h = c .before .before .before .pre in
+    let s = gain-room (now (a .ps)) (a .i) (a .k) (a .q) _ _ (c .before .field .ensures .0) (c .field2 .ensures .0) (h .0) (h .1) (h .2) (h .3) in
+    omega (arith, s .0, s .1)
+
+add-float-at-3 : tie.Need-add-float-at-3
+add-float-at-3 c =
+    let a = c .before .before .before .args in
+    let h = c .before .before .before .pre in
+    let s = gain-room (now (a .ps)) (a .i) (a .k) (a .q) _ _ (c .before .field .ensures .0) (c .field2 .ensures .0) (h .0) (h .1) (h .2) (h .3) in
+    omega (arith, s .0, s .1)
+
+float-at-requires : tie.Need-float-at-requires
+float-at-requires c κs =
+    let a = c .before .before .before .args in
+    let h = c .before .before .before .pre in
+    let s = gain-room (now (a .ps)) (a .i) (a .k) (a .q) _ _ (c .before .field .ensures .0) (c .field2 .ensures .0) (h .0) (h .1) (h .2) (h .3) in
+    omega (arith, s .0, s .1)
+
+value-requires : tie.Need-value-requires
+value-requires c κs = search needs
+
+returns : tie.Need-returns
+returns c =
+    let e = c .before .before .before .field .ensures .0 in
+    c .value .ensures ∙ ap valueOf (c .before .float-at .ensures) ∙ gain-read _ _ _ _ _ _ e (c .before .before .field2 .ensures .0)
+
+pub gain-spec : {M : Type 1} → statement M
+gain-spec =
+    tie.close
+    (tie.spec
+    field-requires
+    field-requires-2
+    mul-float-at
+    add-float-at
+    mul-float-at-2
+    add-float-at-2
+    mul-float-at-3
+    add-float-at-3
+    float-at-requires
+    value-requires
+    returns)

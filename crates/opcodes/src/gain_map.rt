@@ -1,0 +1,251 @@
+// GainMap: where a sample lies among a map's points, and the gain there. A map is read in its opcode's own bytes.
+ghost use mathlib.Core.Path.{_≡_};
+ghost use Prim.Native.Nat.{_+_, _*_, _-_, _≤_, _<_, min};
+ghost use lib.ListN.{length};
+ghost use lib.Ieee.{binary64, nanBits};
+ghost use Rattle.opcodes.specs.Grid.{longOf};
+ghost use Rattle.opcodes.specs.GainMap.{placeOf, betweenOf, gainOf, doubleIn, floatIn, axisOf, downOf, acrossOf, planesIn, gainMapOf, aboveAt, axisLegal, gainMapLegal, gainsIn};
+ghost use Rattle.opcodes.specs.Spot.{Axis-in, GainMap-in, pointOf, takenOf, Spot-of, Spot-in, nextOf, cellOf, cellGain};
+use crate::grid;
+use crate::grid::Size;
+use crate::step;
+use reading::number;
+use reading::number::Order;
+use reading::real;
+
+// The points of one direction.
+pub struct Axis {
+    pub points: usize,
+    pub spacing: f64,
+    pub origin: f64,
+}
+
+// At a point, or between a point and the next one, with the part of the way.
+pub enum Spot {
+    At(usize),
+    Between(usize, f64),
+}
+
+// The gains at a point and the next one across, of a map row and the next one down.
+pub struct Cell {
+    pub point: usize,
+    pub upper_left: f64,
+    pub upper_right: f64,
+    pub lower_left: f64,
+    pub lower_right: f64,
+}
+
+fn nan_pattern(n: u64) -> bool
+    ensures { λ r. ⌜ r ≡ nanBits binary64 n ⌝ }
+{
+    n % 9223372036854775808 / 4503599627370496 == 2047 && n % 4503599627370496 != 0
+}
+
+// Whether the DOUBLE at a place is above 0.
+fn above(ps: &[u8], at: usize) -> bool
+    requires { ⌜ at + 8 ≤ length (now ps) ⌝ }
+    ensures { λ r. ⌜ r ≡ aboveAt (now (ps .entry)) at ⌝ }
+{
+    let n = number::eight(ps, Order::Big, at);
+    if nan_pattern(n) {
+        return false;
+    }
+    0.0 < f64::from_bits(n)
+}
+
+// Whether a number of points is from 1 to 64, and the spacing above 0 where there is more than one.
+fn axis_legal(ps: &[u8], points: usize, spacing: usize) -> bool
+    requires { ⌜ (points + 4 ≤ length (now ps)) × (spacing + 8 ≤ length (now ps)) ⌝ }
+    ensures { λ r. ⌜ r ≡ axisLegal (now (ps .entry)) points spacing ⌝ }
+{
+    let n = grid::field(ps, points);
+    if n < 1 {
+        return false;
+    }
+    if 64 < n {
+        return false;
+    }
+    if n == 1 {
+        return true;
+    }
+    above(ps, spacing)
+}
+
+// Whether points, spacings and planes are as the rules have them.
+pub fn legal(ps: &[u8]) -> bool
+    requires { ⌜ 76 ≤ length (now ps) ⌝ }
+    ensures { λ r. ⌜ r ≡ gainMapLegal (now (ps .entry)) ⌝ }
+{
+    if axis_legal(ps, 32, 40) {
+        if axis_legal(ps, 36, 48) {
+            return 1 <= grid::field(ps, 72);
+        }
+    }
+    false
+}
+
+// How many gains there are.
+pub fn count(ps: &[u8]) -> usize
+    requires { ⌜ (76 ≤ length (now ps)) × (longOf (now ps) 32 ≤ 64) × (longOf (now ps) 36 ≤ 64) ⌝ }
+    ensures { λ r. ⌜ (r ≡ gainsIn (now (ps .entry))) × (r < 0x1000_0000_0000) ⌝ }
+{
+    let rows = grid::field(ps, 32);
+    let columns = grid::field(ps, 36);
+    let planes = grid::field(ps, 72);
+    rows * columns * planes
+}
+
+// The points of a direction, from the places of their three numbers.
+fn axis_at(ps: &[u8], points: usize, spacing: usize, origin: usize) -> Axis
+    requires { ⌜ (points + 4 ≤ length (now ps)) × (spacing + 8 ≤ length (now ps)) × (origin + 8 ≤ length (now ps)) ⌝ }
+    ensures { λ r. ⌜ r ≡ axisOf (now (ps .entry)) points spacing origin ⌝ }
+{
+    Axis {
+        points: grid::field(ps, points),
+        spacing: step::value(real::double_at(ps, spacing)),
+        origin: step::value(real::double_at(ps, origin)),
+    }
+}
+
+pub fn down_axis(ps: &[u8]) -> Axis
+    requires { ⌜ 76 ≤ length (now ps) ⌝ }
+    ensures { λ r. ⌜ r ≡ downOf (now (ps .entry)) ⌝ }
+{
+    axis_at(ps, 32, 40, 56)
+}
+
+pub fn across_axis(ps: &[u8]) -> Axis
+    requires { ⌜ 76 ≤ length (now ps) ⌝ }
+    ensures { λ r. ⌜ r ≡ acrossOf (now (ps .entry)) ⌝ }
+{
+    axis_at(ps, 36, 48, 64)
+}
+
+// The place of the n-th of `size` rows or columns.
+fn place(axis: Axis, size: usize, n: usize) -> f64
+    requires { ⌜ (n < size) × (size ≤ 16384) ⌝ }
+    ensures { λ r. ⌜ r ≡ placeOf axis size n ⌝ }
+{
+    ((n as f64 + 0.5) / size as f64 - axis.origin) / axis.spacing
+}
+
+// And its spot.
+pub fn located(axis: Axis, size: usize, n: usize) -> Spot
+    requires { ⌜ Axis-in axis × (n < size) × (size ≤ 16384) ⌝ }
+    ensures { λ r. ⌜ Spot-of axis size n r × Spot-in (axis .points) r ⌝ }
+{
+    let points = axis.points;
+    if points == 1 {
+        return Spot::At(0);
+    }
+    let p = place(axis, size, n);
+    if p <= 0.0 {
+        return Spot::At(0);
+    }
+    let last = points - 1;
+    if last as f64 <= p {
+        return Spot::At(last);
+    }
+    let k = std::num::truncating_f64_to_u64(p) as usize;
+    Spot::Between(k, p - k as f64)
+}
+
+pub fn point(spot: Spot) -> usize
+    ensures { λ r. ⌜ r ≡ pointOf spot ⌝ }
+{
+    match spot {
+        Spot::At(k) => k,
+        Spot::Between(k, _) => k,
+    }
+}
+
+fn between(f: f64, a: f64, b: f64) -> f64
+    ensures { λ r. ⌜ r ≡ betweenOf f a b ⌝ }
+{
+    (1.0 - f) * a + f * b
+}
+
+// What is taken of the gains at a spot's point and at the next one.
+fn taken(spot: Spot, a: f64, b: f64) -> f64
+    ensures { λ r. ⌜ r ≡ takenOf spot a b ⌝ }
+{
+    match spot {
+        Spot::At(_) => a,
+        Spot::Between(_, f) => between(f, a, b),
+    }
+}
+
+// The gain of a cell: across first and then down.
+pub fn cell_gain(cell: Cell, down: Spot, across: Spot) -> f64
+    ensures { λ r. ⌜ r ≡ cellGain cell down across ⌝ }
+{
+    let upper = taken(across, cell.upper_left, cell.upper_right);
+    let lower = taken(across, cell.lower_left, cell.lower_right);
+    taken(down, upper, lower)
+}
+
+fn next(points: usize, k: usize) -> usize
+    requires { ⌜ (k < points) × (points ≤ 64) ⌝ }
+    ensures { λ r. ⌜ (r ≡ nextOf points k) × (r < points) ⌝ }
+{
+    if k + 1 < points { k + 1 } else { k }
+}
+
+// The gain at a map row, a map column and a map plane.
+fn gain(ps: &[u8], i: usize, k: usize, q: usize) -> f64
+    requires { ⌜ GainMap-in (now ps) × (i < longOf (now ps) 32) × (k < longOf (now ps) 36) × (q < planesIn (now ps)) ⌝ }
+    ensures { λ r. ⌜ r ≡ gainMapOf (now (ps .entry)) .gains i k q ⌝ }
+{
+    let columns = grid::field(ps, 36);
+    let planes = grid::field(ps, 72);
+    step::value(real::float_at(ps, 76 + 4 * ((i * columns + k) * planes + q)))
+}
+
+// The four gains around map column k, at a row whose spot is `down`.
+pub fn cell_at(ps: &[u8], down: Spot, q: usize, k: usize) -> Cell
+    requires { ⌜ GainMap-in (now ps) × Spot-in (longOf (now ps) 32) down × (q < planesIn (now ps)) × (k < longOf (now ps) 36) ⌝ }
+    ensures { λ r. ⌜ r ≡ cellOf (gainMapOf (now (ps .entry))) down q k ⌝ }
+{
+    let i = point(down);
+    let lower = next(grid::field(ps, 32), i);
+    let right = next(grid::field(ps, 36), k);
+    Cell {
+        point: k,
+        upper_left: gain(ps, i, k, q),
+        upper_right: gain(ps, i, right, q),
+        lower_left: gain(ps, lower, k, q),
+        lower_right: gain(ps, lower, right, q),
+    }
+}
+
+// The same, where a cell of this row is at hand.
+pub fn cell_from(ps: &[u8], cell: Cell, down: Spot, q: usize, k: usize) -> Cell
+    requires { ⌜ GainMap-in (now ps) × Spot-in (longOf (now ps) 32) down × (q < planesIn (now ps)) × (k < longOf (now ps) 36) ⌝ }
+    requires { ⌜ cell ≡ cellOf (gainMapOf (now ps)) down q (cell .point) ⌝ }
+    ensures { λ r. ⌜ r ≡ cellOf (gainMapOf (now (ps .entry))) down q k ⌝ }
+{
+    if cell.point == k {
+        return cell;
+    }
+    cell_at(ps, down, q, k)
+}
+
+// The map plane of an opcode's j-th plane: the j-th, or the last.
+pub fn plane_for(ps: &[u8], j: usize) -> usize
+    requires { ⌜ GainMap-in (now ps) ⌝ }
+    ensures { λ r. ⌜ (r ≡ min j (planesIn (now (ps .entry)) - 1)) × (r < planesIn (now (ps .entry))) ⌝ }
+{
+    let last = grid::field(ps, 72) - 1;
+    if j <= last { j } else { last }
+}
+
+// The gain at a row and a column of the active area, on the opcode's j-th plane.
+pub fn gain_at(ps: &[u8], size: Size, row: usize, column: usize, j: usize) -> f64
+    requires { ⌜ GainMap-in (now ps) × (size .rows ≤ 16384) × (size .columns ≤ 16384) × (row < size .rows) × (column < size .columns) ⌝ }
+    ensures { λ r. ⌜ r ≡ gainOf (gainMapOf (now (ps .entry))) size row column j ⌝ }
+{
+    let down = located(down_axis(ps), size.rows, row);
+    let across = located(across_axis(ps), size.columns, column);
+    let cell = cell_at(ps, down, plane_for(ps, j), point(across));
+    cell_gain(cell, down, across)
+}
