@@ -98,7 +98,7 @@ module _ (m : GainMap) (down across : Spot) (q columns c : ℕ) (here : Spot-of 
   abbrev along : ℕ → Float
   along i = alongOf (m .across .points) (placeOf (m .across) columns c) (λ (k : ℕ). m .gains i k q)
 
-  pub cell-in : Spot-in (m .down .points) down → Spot-in (m .across .points) across →
+  cell-in : Spot-in (m .down .points) down → Spot-in (m .across .points) across →
       cellGain (cellOf m down q (pointOf across)) down across ≡ gainIn m down q columns c
   unfolding cellOf gainIn
   cell-in d a =
@@ -108,6 +108,17 @@ module _ (m : GainMap) (down across : Spot) (q columns c : ℕ) (here : Spot-of 
       let n = nextOf (m .down .points) i in
       ap (λ (x : Float). takenOf down x (takenOf across (left n) (right n))) (row i) ∙ ap (takenOf down (along i)) (row n)
       ∙ taken-next (m .down .points) down (along i) along d
+
+  -- of a cell that was read
+  pub cell-found : (cell : Cell) (k : ℕ) (g : Float) → cell ≡ cellOf m down q k → k ≡ pointOf across → g ≡ cellGain cell down across →
+      Spot-in (m .down .points) down → Spot-in (m .across .points) across → g ≡ gainIn m down q columns c
+  cell-found cell k g e f h d a =
+      h ∙ ap (λ (x : Cell). cellGain x down across) e ∙ ap (λ (n : ℕ). cellGain (cellOf m down q n) down across) f ∙ cell-in d a
+
+-- a cell says where it stands
+pub cell-own : (m : GainMap) (down : Spot) (q k : ℕ) (cell : Cell) → cell ≡ cellOf m down q k → cell ≡ cellOf m down q (cell .point)
+unfolding cellOf
+cell-own m down q k cell e = e ∙ ap (cellOf m down q) (sym (ap (λ (x : Cell). x .point) e))
 
 -- and with the row's own spot the gain at the sample
 pub gain-in : (m : GainMap) (z : Size) (r c j : ℕ) (down : Spot) (q : ℕ) → Spot-of (m .down) (z .rows) r down → q ≡ min j (m .planes - 1) →

@@ -25,7 +25,6 @@ use Rattle.opcodes.specs.OpcodeList.{refusedReal}
 use Rattle.opcodes.specs.GainMap.{floatOf, placeOf, wholeOf}
 use Rattle.opcodes.specs.declared.gain_map.Axis.{Axis}
 use Rattle.opcodes.proofs.Floor.{odd-shape, round-shape}
-use Rattle.opcodes.proofs.Pad.{le-or-lt}
 
 -- ---- a whole number as f64
 pub float-exact : (n : ℕ) → n ≤ 65536 → T (inFloat binary64 (pos n))
@@ -167,10 +166,7 @@ not-high a b h = go (ltb a b) (eqb a b) refl refl h
     go : (x y : Bool) → ltb a b ≡ x → eqb a b ≡ y → (x || (y && true)) ≡ false → b < a
     go true y p q r = absurd (true≢false r)
     go false true p q r = absurd (true≢false r)
-    go false false p q r = let n = eqb-false a b q in let l : b ≤ a = ltb-false a b p in lt-of-le l n
-      where
-        lt-of-le : b ≤ a → (a ≡ b → ⊥) → b < a
-        lt-of-le l n = ⊎-elim (λ (k : a ≤ b). absurd (n (omega arith))) (λ k. k) (le-or-lt a b)
+    go false false p q r = let n = eqb-false a b q in let l = ltb-false a b p in omega arith
 
 inner : (p w : Float) (n : ℕ) → HasValue w false n 1 → isNan p ≡ false → le p plusZero ≡ false → le w p ≡ false → Inner p n
 unfolding le isNan

@@ -9,7 +9,7 @@ use native.Mathlib.Omega.{arith}
 use lib.Dec.{eqb, leb}
 use lib.Ieee.{Float, binary32, binary64, add, mul}
 use lib.ListN.{length, getD}
-use borrow.Author.Tests.{eq-eqb, ne-eqb, leb-true, leb-false, ltb-true, eqb-true, eqb-false}
+use borrow.Author.Tests.{le-leb, eq-eqb, ne-eqb, leb-true, leb-false, ltb-true, eqb-true, eqb-false}
 use Rattle.reading.specs.Bytes.{part}
 use Rattle.reading.specs.Number.{numberOf}
 use Rattle.reading.specs.Reading.{pick}
@@ -24,7 +24,7 @@ use Rattle.levels.proofs.Unit.{unit}
 use Rattle.opcodes.specs.Grid.{longOf, linesOf, gridOf, onOf, fitsOf, Fits-in}
 use Rattle.opcodes.specs.Step.{hornerOf, mappedOf, resultOf, appliedOf, valueOf, coefficientsOf, polynomialOf}
 use Rattle.opcodes.specs.Opcode.{row, column, actOf, lineOf}
-use Rattle.opcodes.specs.OpcodeList.{countOf, rowsOf, columnsOf, tableForm, polynomialForm, linesForm, formOf, exactOf, plainFault, floatsOf, kindOf}
+use Rattle.opcodes.specs.OpcodeList.{listedId, countOf, rowsOf, columnsOf, tableForm, polynomialForm, linesForm, formOf, exactOf, plainFault, floatsOf, kindOf}
 use Rattle.opcodes.specs.StepAt.{plainId, floatAt, stepOf}
 use Rattle.opcodes.specs.declared.grid.Size.{Size}
 use Rattle.opcodes.specs.declared.grid.Grid.{Grid}
@@ -82,6 +82,23 @@ module _ (f : List ℕ) (at n : ℕ) where
     scale-step : (m k : ℕ) → 36 + 4 * m ≤ n → k < m → appliedOf (Scale (floatAt f at k)) f x ≡ clipOf (mul binary64 x (getD (floatsOf own 36 m) k plusZero))
     unfolding appliedOf resultOf
     scale-step m k h l = ap (λ (v : Float). clipOf (mul binary64 x v)) (float-own m k h l)
+
+-- every listed id but 9
+pub plain-listed : (id : ℕ) → listedId id ≡ true → (id ≡ 9 → ⊥) → plainId id ≡ true
+plain-listed id h n = go (eqb id 7) (eqb id 8) refl refl
+  where
+    go : (a b : Bool) → eqb id 7 ≡ a → eqb id 8 ≡ b → (a || (b || (leb 10 id && leb id 13))) ≡ true
+    go true b p q = refl
+    go false true p q = refl
+    go false false p q =
+        let l = and-true (leb 7 id) (leb id 13) h in
+        let low = leb-true 7 id (l .0) in
+        let n7 = eqb-false id 7 p in
+        let n8 = eqb-false id 8 q in
+        rw (le-leb 10 id (omega arith)) (l .1)
+
+pub plain-other : (id : ℕ) → plainId id ≡ true → id ≡ 9 → ⊥
+plain-other id h e = true≢false (sym h ∙ ap plainId e)
 
 -- the last of the ids
 pub listed-last : (id : ℕ) → plainId id ≡ true → (id ≡ 7 → ⊥) → (id ≡ 8 → ⊥) → (id ≡ 10 → ⊥) → (id ≡ 11 → ⊥) → (id ≡ 12 → ⊥) → id ≡ 13

@@ -4,10 +4,9 @@ use Prim.Native.Nat.{ℕ}
 use denote.Ref.{now}
 use Rattle.opcodes.specs.Grid.{longOf}
 use Rattle.opcodes.specs.GainMap.{gainMapOf}
-use Rattle.opcodes.specs.Spot.{Axis-in, Spot-of, Spot-in, cellOf, cellGain}
+use Rattle.opcodes.specs.Spot.{Axis-in, Spot-of, Spot-in}
 use Rattle.opcodes.specs.declared.gain_map.Axis.{Axis}
-use Rattle.opcodes.specs.declared.gain_map.Cell.{Cell}
-use Rattle.opcodes.proofs.GainMaps.{point-below, cell-in, gain-in}
+use Rattle.opcodes.proofs.GainMaps.{point-below, cell-found, gain-in}
 use borrow.Author.Needs.{needs}
 use Rattle.opcodes.proofs.gain_map.gain_at.Statement.{statement}
 use Rattle.opcodes.proofs.gain_map.gain_at.Tie as tie
@@ -64,9 +63,8 @@ returns c =
     let rows = subst (λ (x : Axis). Spot-in (x .points) (down .result)) f (down .ensures .1) in
     let columns = subst (λ (x : Axis). Spot-in (x .points) (across .result)) e (across .ensures .1) in
     let q = p .plane-for in
-    c .cell-gain .ensures ∙ ap (λ (x : Cell). cellGain x (down .result) (across .result)) (c .before .cell-at .ensures)
-    ∙ ap (λ (k : ℕ). cellGain (cellOf m (down .result) (q .result) k) (down .result) (across .result)) (c .before .before .point .ensures)
-    ∙ cell-in m (down .result) (across .result) (q .result) (a .size .columns) (a .column) here rows columns
+    cell-found m (down .result) (across .result) (q .result) (a .size .columns) (a .column) here (c .before .cell-at .result) _ _ (c .before .cell-at .ensures)
+    (c .before .before .point .ensures) (c .cell-gain .ensures) rows columns
     ∙ gain-in m (a .size) (a .row) (a .column) (a .j) (down .result) (q .result) row (q .ensures .0)
 
 pub gain-at-spec : {M : Type 1} → statement M

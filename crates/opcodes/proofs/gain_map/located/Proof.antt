@@ -1,13 +1,11 @@
 use mathlib.Core.Path.{_≡_, sym, _∙_, ap}
 use mathlib.Core.Bool.{false}
-use mathlib.Core.Logic.{⊎-elim}
 use native.Mathlib.Omega.{arith}
 use Prim.Native.Nat.{ℕ, _+_, _-_, _≤_, _<_}
 use lib.Ieee.{Float, binary64, ofBits, sub, isNan}
 use Rattle.opcodes.specs.GainMap.{floatOf, placeOf, wholeOf, betweenOf, alongOf}
 use Rattle.opcodes.specs.Spot.{Axis-in}
 use Rattle.opcodes.specs.declared.gain_map.Axis.{Axis}
-use Rattle.opcodes.proofs.Pad.{le-or-lt}
 use Rattle.opcodes.proofs.Places.{float-exact, place-number, whole-below, word-below}
 use Rattle.opcodes.proofs.GainMaps.{along-one, along-first, along-last, along-between}
 use borrow.Author.Needs.{needs}
@@ -17,7 +15,7 @@ use Rattle.opcodes.proofs.gain_map.located.Tie as tie
 -- an axis of more than one point has a place for every row or column
 number : (a : Axis) (size n : ℕ) (p : Float) → Axis-in a → (a .points ≡ 1 → ⊥) → n < size → size ≤ 16384 → p ≡ placeOf a size n → isNan p ≡ false
 number a size n p i h l m e =
-    let more : 1 < a .points = let s = i .some in ⊎-elim (λ q. absurd (h (omega arith))) (λ q. q) (le-or-lt (a .points) 1) in
+    let more : 1 < a .points = omega (arith, i .some) in
     ap isNan e ∙ place-number a size n (i .origin) (i .spacing more) l (omega arith)
 
 returns : tie.Need-returns
@@ -85,11 +83,12 @@ returns-4 c =
     let a = d .before .before .if2 .left in
     let e = c .before .truncating-f64-to-u64 .ensures in
     let k = number (s .args .axis) _ _ (p .result) (h .0) more (h .1) (h .2) (p .ensures) in
-    let w = whole-below (p .result) (n - 1) (omega (arith, few)) k a (d .if3 .left) in
-    (λ g.
-    ap (λ (m : ℕ). betweenOf (sub binary64 (p .result) (floatOf m)) (g m) (g (m + 1))) e ∙ along-between n (p .result) g more a (d .if3 .left)
-    ∙ ap (λ (x : Float). alongOf n x g) (p .ensures),
-    omega (arith, w, e))
+    let w = whole-below (p .result) (n - 1) (omega (arith, few)) k a (d .if3 .left) in (
+      λ g.
+          ap (λ (m : ℕ). betweenOf (sub binary64 (p .result) (floatOf m)) (g m) (g (m + 1))) e ∙ along-between n (p .result) g more a (d .if3 .left)
+          ∙ ap (λ (x : Float). alongOf n x g) (p .ensures),
+      omega (arith, w, e),
+    )
 
 pub located-spec : {M : Type 1} → statement M
 located-spec =

@@ -1,17 +1,16 @@
-use mathlib.Core.Path.{_≡_, refl, sym, ap, _∙_, subst}
+use mathlib.Core.Path.{sym, _∙_}
 use native.Mathlib.Omega.{arith}
 use denote.Ref.{now}
-use Rattle.opcodes.specs.Step.{appliedOf}
 use Rattle.opcodes.proofs.StepLaws.{on-in}
 use Rattle.rows.proofs.Gains.{own-grid, on-parts, at-on, at-off, map-in, enough, grid-in}
 use borrow.Author.Needs.{needs}
-use Rattle.rows.proofs.gain.gain_at.Statement.{statement}
-use Rattle.rows.proofs.gain.gain_at.Tie as tie
+use Rattle.rows.proofs.gain_map.gain_at.Statement.{statement}
+use Rattle.rows.proofs.gain_map.gain_at.Tie as tie
 
 grid-at-requires : tie.Need-grid-at-requires
 grid-at-requires c κs =
-    let a = c .before .args in
-    enough (a .size) (now (a .ps)) (c .before .pre .0)
+    let s = c .before in
+    omega (arith, enough (s .args .size) (now (s .args .ps)) (s .pre .0))
 
 on-requires : tie.Need-on-requires
 on-requires c κs =
@@ -37,8 +36,8 @@ gain-at-requires c κs =
       map-in (a .size) (now (a .ps)) (s .pre .0),
       z .rows,
       z .columns,
-      omega (arith, o .bottom, g .rows, z .rows),
-      omega (arith, o .right, g .columns, z .columns),
+      omega (arith, o .bottom, g .rows),
+      omega (arith, o .right, g .columns),
     )
 
 apply-requires : tie.Need-apply-requires
@@ -49,7 +48,7 @@ returns c =
     let s = c .before .before .before .before .before .before .before in
     let a = s .args in
     let n = c .before .before .before .before .before .grid-at in
-    let e = own-grid (a .size) (now (a .ps)) (enough (a .size) (now (a .ps)) (s .pre .0)) (n .result) (n .ensures .0) in
+    let e = own-grid (a .size) (now (a .ps)) (s .pre .0) (n .result) (n .ensures .0) in
     let t = sym (c .before .before .before .before .on .ensures) ∙ c .before .before .before .if1 .taken in
     let v = c .before .gain-at in
     c .apply .ensures ∙ at-on (a .size) (now (a .ps)) (a .row) (a .column) (a .plane) (a .x) (n .result) e t (v .result) (v .ensures)
@@ -59,7 +58,7 @@ returns-2 c =
     let s = c .before .before .before .before in
     let a = s .args in
     let n = c .before .before .grid-at in
-    let e = own-grid (a .size) (now (a .ps)) (enough (a .size) (now (a .ps)) (s .pre .0)) (n .result) (n .ensures .0) in
+    let e = own-grid (a .size) (now (a .ps)) (s .pre .0) (n .result) (n .ensures .0) in
     at-off (a .size) (now (a .ps)) (a .row) (a .column) (a .plane) (a .x) (n .result) e (sym (c .before .on .ensures) ∙ c .if1 .left)
 
 pub gain-at-spec : {M : Type 1} → statement M

@@ -1,0 +1,182 @@
+use mathlib.Core.Path.{_≡_, sym, ap, _∙_, subst}
+use Prim.Native.Nat.{ℕ, _+_, _-_, _*_, _/_, _≤_, _<_}
+use native.Mathlib.Omega.{arith}
+use denote.Ref.{now}
+use mir.Syntax.{w64}
+use mir.Val.{Fits}
+use lib.Ieee.{Float, nan, binary64, mul}
+use lib.ListN.{length, getD}
+use borrow.Author.Needs.{scaled-fits}
+use Rattle.levels.specs.Clip.{clipOf}
+use Rattle.opcodes.specs.GainMap.{gainMapOf}
+use Rattle.opcodes.specs.Spot.{Axis-in, Spot-of, Spot-in, cellOf}
+use Rattle.opcodes.specs.declared.gain_map.Axis.{Axis}
+use Rattle.opcodes.proofs.GainMaps.{point-below, cell-found, cell-own}
+use Rattle.rows.specs.GainMap.{columnAt, timesGain}
+use Rattle.rows.specs.declared.gain_map.Columns.{Columns}
+use Rattle.rows.proofs.Gains.{column-first, column-more}
+use Rattle.rows.proofs.Sweeps.{Swept, swept-start, swept-step, swept-end, every-tell}
+use borrow.Author.Needs.{needs}
+use Rattle.rows.proofs.gain_map.sweep_gain.Statement.{statement}
+use Rattle.rows.proofs.gain_map.sweep_gain.Tie as tie
+
+abbrev spots : ℕ → ℕ → ℕ → ℕ → ℕ → ℕ → Columns
+spots left pitch skip first end step = record { left = left; pitch = pitch; skip = skip; first = first; end = end; step = step }
+
+abbrev Inv-loop : tie.InvT-loop
+Inv-loop ps across width down q out₀ left pitch skip first end step cell₀ c₀ i₀ out cell c i =
+    Swept first end step (λ k x. timesGain ps down q width (columnAt (spots left pitch skip first end step) k) x) i out₀ out
+    × (c ≡ columnAt (spots left pitch skip first end step) i) × (cell ≡ cellOf (gainMapOf ps) down q (cell .point))
+
+abbrev μ-loop : tie.MeasureT-loop
+μ-loop ps across width down q out₀ left pitch skip first end step cell₀ c₀ i₀ out cell c i = end - i
+
+cell-at-requires : tie.Need-cell-at-requires Inv-loop μ-loop
+cell-at-requires c κs =
+    let h = c .before .before .pre .1 in
+    (h .0, h .2, h .3, omega (arith, h .0 .across .some))
+
+mul-c : tie.Need-mul-c Inv-loop μ-loop
+mul-c c = let h = c .before .before .before .pre .0 .0 in omega (arith, h .skip)
+
+add-c : tie.Need-add-c Inv-loop μ-loop
+add-c c = let h = c .before .before .before .pre .0 .0 in omega (arith, h .skip, h .left)
+
+loop-holds : tie.Need-loop-holds Inv-loop μ-loop
+loop-holds c =
+    let a = c .before .before .before .args in
+    (swept-start _ _ _ _ _, column-first (a .columns), cell-own (gainMapOf (now (a .ps))) (a .down) (a .q) 0 _ (c .cell-at .ensures))
+
+-- the column of a sample is one of the active area
+located-requires : tie.Need-located-requires Inv-loop μ-loop
+located-requires c κs =
+    let s = c .before .before .before .before .before in
+    let v = c .before .loop in
+    let m = every-tell _ _ _ (v .i) (v .inv .0 .from) (c .loop-test .taken) (v .inv .0 .point) in
+    (subst Axis-in (sym (s .pre .1 .1)) (s .pre .1 .0 .across), omega (arith, v .inv .1, s .pre .0 .0 .inside (v .i) m), s .pre .0 .1)
+
+point-requires : tie.Need-point-requires Inv-loop μ-loop
+point-requires c κs = search needs
+
+cell-from-requires : tie.Need-cell-from-requires Inv-loop μ-loop
+cell-from-requires c κs =
+    let s = c .before .before .before .before .before .before .before in
+    let h = s .pre .1 in
+    let t = c .before .located in
+    let k = point-below _ (t .result) (subst (λ (a : Axis). Spot-in (a .points) (t .result)) (h .1) (t .ensures .1)) in
+    ((h .0, h .2, h .3, omega (arith, k, c .point .ensures)), c .before .before .before .loop .inv .2)
+
+mul-clip : tie.Need-mul-clip Inv-loop μ-loop
+mul-clip c =
+    let s = c .before .before .before .before .before .before .before .before in
+    let i = c .before .before .before .before .loop .i in
+    let t = c .before .before .before .loop-test .taken in
+    scaled-fits i (length (now (s .args .out))) 8 (omega (arith, t, s .pre .0 .0 .end)) (s .good .1 .1 .1 .1 .1 .1 .0 .1)
+
+slice-read-clip : tie.Need-slice-read-clip Inv-loop μ-loop
+slice-read-clip c =
+    let d = c .before in
+    let s = d .before .before .before .before .before .before .before .before in
+    omega (arith, d .before .before .before .before .loop .inv .0 .same, d .before .before .before .loop-test .taken, s .pre .0 .0 .end)
+
+cell-gain-requires : tie.Need-cell-gain-requires Inv-loop μ-loop
+cell-gain-requires c κs = search needs
+
+clip-requires : tie.Need-clip-requires Inv-loop μ-loop
+clip-requires c κs = search needs
+
+mul-out : tie.Need-mul-out Inv-loop μ-loop
+mul-out c =
+    let d = c .before .before .before in
+    let s = d .before .before .before .before .before .before .before .before in
+    let i = d .before .before .before .before .loop .i in
+    let t = d .before .before .before .loop-test .taken in
+    scaled-fits i (length (now (s .args .out))) 8 (omega (arith, t, s .pre .0 .0 .end)) (s .good .1 .1 .1 .1 .1 .1 .0 .1)
+
+slice-write-out : tie.Need-slice-write-out Inv-loop μ-loop
+slice-write-out c =
+    let d = c .before .before .before in
+    let s = d .before .before .before .before .before .before .before .before in
+    omega (arith, d .before .before .before .before .loop .inv .0 .same, d .before .before .before .loop-test .taken, s .pre .0 .0 .end)
+
+add-c-2 : tie.Need-add-c-2 Inv-loop μ-loop
+add-c-2 c =
+    let d = c .before .before .before in
+    let s = d .before .before .before .before .before .before .before .before in
+    let v = d .before .before .before .before .loop in
+    let m = every-tell _ _ _ (v .i) (v .inv .0 .from) (d .before .before .before .loop-test .taken) (v .inv .0 .point) in
+    omega (arith, v .inv .1, s .pre .0 .0 .inside (v .i) m, s .pre .0 .1, s .pre .0 .0 .pitch)
+
+add-i : tie.Need-add-i Inv-loop μ-loop
+add-i c =
+    let d = c .before .before .before in
+    let s = d .before .before .before .before .before .before .before .before in
+    let i = d .before .before .before .before .loop .i in
+    let t = d .before .before .before .loop-test .taken in
+    let g = s .good .1 .1 .1 .1 .1 .1 .0 .1 in
+    let o : Fits w64 (i * 8) = scaled-fits i (length (now (s .args .out))) 8 (omega (arith, t, s .pre .0 .0 .end)) g in
+    omega (arith, s .pre .0 .0 .step)
+
+loop-less : tie.Need-loop-less Inv-loop μ-loop
+loop-less c =
+    let d = c .before .before .before in
+    let s = d .before .before .before .before .before .before .before .before in
+    omega (arith, d .before .before .before .loop-test .taken, s .pre .0 .0 .some)
+
+loop-again : tie.Need-loop-again Inv-loop μ-loop
+unfolding gainMapOf
+loop-again c =
+    let d = c .before .before .before in
+    let s = d .before .before .before .before .before .before .before .before in
+    let a = s .args in
+    let h = s .pre .1 in
+    let v = d .before .before .before .before .loop in
+    let t = d .before .before .before .loop-test .taken in
+    let spot = d .before .before .located in
+    let m = gainMapOf (now (a .ps)) in
+    let here = subst (λ (x : Axis). Spot-of x (a .width) (v .c) (spot .result)) (h .1) (spot .ensures .0) in
+    let among = subst (λ (x : Axis). Spot-in (x .points) (spot .result)) (h .1) (spot .ensures .1) in
+    let gain = cell-found m (a .down) (spot .result) (a .q) (a .width) (v .c) here (d .cell-from .result) _ _ (d .cell-from .ensures) (d .before .point .ensures)
+    (c .before .cell-gain .ensures) (h .2) among in
+    let x = getD (v .out) (v .i) nan in
+    let e : c .clip .result ≡ timesGain (now (a .ps)) (a .down) (a .q) (a .width) (columnAt (a .columns) (v .i)) x =
+    c .clip .ensures ∙ ap (λ (y : Float). clipOf (mul binary64 x y)) gain ∙ ap (λ (n : ℕ). timesGain (now (a .ps)) (a .down) (a .q) (a .width) n x) (v .inv .1) in
+    let p = s .pre .0 .0 in (
+      rw e (swept-step _ _ _ _ (v .i) (now (a .out)) (v .out) (p .some) t (p .end) (v .inv .0)),
+      column-more (a .columns) (v .i) (v .c) (p .some) (v .inv .0 .from) (v .inv .1),
+      cell-own m (a .down) (a .q) _ _ (d .cell-from .ensures),
+    )
+
+same-length : tie.Need-same-length Inv-loop μ-loop
+same-length c = c .before .loop .inv .0 .same
+
+returns : tie.Need-returns Inv-loop μ-loop
+returns c =
+    let v = c .before .loop in
+    swept-end _ _ _ _ (v .i) (now (c .before .before .before .before .before .args .out)) (v .out) (c .loop-test .left) (v .inv .0)
+
+pub sweep-gain-spec : {M : Type 1} → statement M
+sweep-gain-spec =
+    tie.close
+    (tie.spec
+    Inv-loop
+    μ-loop
+    cell-at-requires
+    mul-c
+    add-c
+    loop-holds
+    located-requires
+    point-requires
+    cell-from-requires
+    mul-clip
+    slice-read-clip
+    cell-gain-requires
+    clip-requires
+    mul-out
+    slice-write-out
+    add-c-2
+    add-i
+    loop-less
+    loop-again
+    same-length
+    returns)

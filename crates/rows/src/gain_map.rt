@@ -1,0 +1,124 @@
+// GainMap over a part of a row, and at one sample. A map is read in its opcode's own bytes.
+ghost use mathlib.Core.Path.{_≡_};
+ghost use Prim.Native.Nat.{ℕ, _+_, _<_, _≤_};
+ghost use lib.ListN.{length};
+ghost use lib.Ieee.{Float};
+ghost use Rattle.opcodes.specs.Grid.{longOf, Fits-in};
+ghost use Rattle.opcodes.specs.GainMap.{acrossOf, planesIn};
+ghost use Rattle.opcodes.specs.Spot.{GainMap-in, Spot-in};
+ghost use Rattle.opcodes.specs.Opcode.{opcodeAt};
+ghost use Rattle.opcodes.specs.OpcodeList.{gainMapFault};
+ghost use Rattle.rows.specs.Sweep.{sweptOf, planesOf, overPart};
+ghost use Rattle.rows.specs.GainMap.{columnAt, Columns-in, timesGain, gainLine};
+ghost use Rattle.rows.specs.Part.{Sized-in, gainedOf};
+use crate::sweep;
+use opcodes::gain_map;
+use opcodes::gain_map::Axis;
+use opcodes::gain_map::Spot;
+use opcodes::grid;
+use opcodes::grid::Grid;
+use opcodes::grid::Size;
+use opcodes::step;
+use opcodes::step::Step;
+
+// A grid's columns, from number `skip` on, in a part of a row: at first, first + step, .. below end.
+pub struct Columns {
+    pub left: usize,
+    pub pitch: usize,
+    pub skip: usize,
+    pub first: usize,
+    pub end: usize,
+    pub step: usize,
+}
+
+// These columns on map plane q, in a row whose spot is `down`; the active area is `width` columns wide.
+fn sweep_gain(
+    ps: &[u8],
+    across: Axis,
+    width: usize,
+    down: Spot,
+    q: usize,
+    columns: Columns,
+    out: &mut [f64],
+)
+    requires { ⌜ Columns-in columns width (length (now out)) × (width ≤ 16384) ⌝ }
+    requires { ⌜ GainMap-in (now ps) × (across ≡ acrossOf (now ps)) × Spot-in (longOf (now ps) 32) down × (q < planesIn (now ps)) ⌝ }
+    ensures { λ _. ⌜ now (out .exit) ≡ sweptOf (columns .first) (columns .end) (columns .step) (λ (k : ℕ) (x : Float). timesGain (now (ps .entry)) down q width (columnAt columns k) x) (now (out .entry)) ⌝ }
+{
+    let left = columns.left;
+    let pitch = columns.pitch;
+    let skip = columns.skip;
+    let first = columns.first;
+    let end = columns.end;
+    let step = columns.step;
+    let mut cell = gain_map::cell_at(ps, down, q, 0);
+    let mut c = left + skip * pitch;
+    let mut i = first;
+    while i < end {
+        let spot = gain_map::located(across, width, c);
+        cell = gain_map::cell_from(ps, cell, down, q, gain_map::point(spot));
+        out[i] = step::clip(out[i] * gain_map::cell_gain(cell, down, spot));
+        c += pitch;
+        i += step;
+    }
+}
+
+// A grid's columns in the part from column l on, plane after plane, in a row whose spot is `down`.
+fn gain_planes(ps: &[u8], size: Size, grid: Grid, down: Spot, l: usize, out: &mut [f64])
+    requires { ⌜ Sized-in size × Fits-in size grid × (grid .«column_pitch» < 0x1_0000_0000) × (l < 0x1_0000_0000) ⌝ }
+    requires { ⌜ GainMap-in (now ps) × Spot-in (longOf (now ps) 32) down ⌝ }
+    ensures { λ _. ⌜ now (out .exit) ≡ planesOf (gainLine (now (ps .entry)) size grid down) (grid .left) (grid .right) (grid .«column_pitch») l (size .samples) (grid .plane) (grid .plane + grid .planes) (now (out .entry)) ⌝ }
+{
+    let left = grid.left;
+    let right = grid.right;
+    let pitch = grid.column_pitch;
+    let plane = grid.plane;
+    let planes = grid.planes;
+    let stop = plane + planes;
+    let n = size.samples;
+    let width = size.columns;
+    let across = gain_map::across_axis(ps);
+    let skip = sweep::skipped(left, pitch, l);
+    let first = sweep::first_at(left, pitch, l, n);
+    let end = sweep::end_at(right, l, n, out.len());
+    let mut p = plane;
+    while p < stop {
+        let q = gain_map::plane_for(ps, p - plane);
+        let columns = Columns {
+            left,
+            pitch,
+            skip,
+            first: first + p,
+            end,
+            step: pitch * n,
+        };
+        sweep_gain(ps, across, width, down, q, columns, out);
+        p += 1;
+    }
+}
+
+// An accepted GainMap over the part of a row from column l on.
+pub fn gain_row(ps: &[u8], size: Size, row: usize, l: usize, out: &mut [f64])
+    requires { ⌜ (gainMapFault size (now ps) ≡ 0) × Sized-in size × (l < 0x1_0000_0000) ⌝ }
+    ensures { λ _. ⌜ now (out .exit) ≡ overPart (gainedOf size (now (ps .entry))) row l (size .samples) (now (out .entry)) ⌝ }
+{
+    let g = grid::grid_at(ps, 0);
+    if grid::every(g.top, g.bottom, g.row_pitch, row) {
+        let down = gain_map::located(gain_map::down_axis(ps), size.rows, row);
+        gain_planes(ps, size, g, down, l, out);
+    }
+}
+
+// An accepted GainMap at one sample: a factor.
+pub fn gain_at(ps: &[u8], size: Size, row: usize, column: usize, plane: usize, x: f64) -> f64
+    requires { ⌜ (gainMapFault size (now ps) ≡ 0) × Sized-in size ⌝ }
+    ensures { λ r. ⌜ r ≡ opcodeAt (gainedOf size (now (ps .entry))) row column plane x ⌝ }
+{
+    let g = grid::grid_at(ps, 0);
+    if grid::on(g, row, column, plane) {
+        let gain = gain_map::gain_at(ps, size, row, column, plane - g.plane);
+        step::apply(Step::Scale(gain), ps, x)
+    } else {
+        x
+    }
+}
