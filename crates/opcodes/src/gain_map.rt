@@ -122,7 +122,7 @@ pub fn across_axis(ps: &[u8]) -> Axis
 }
 
 // The place of the n-th of `size` rows or columns.
-fn place(axis: Axis, size: usize, n: usize) -> f64
+pub fn place(axis: Axis, size: usize, n: usize) -> f64
     requires { ⌜ (n < size) × (size ≤ 16384) ⌝ }
     ensures { λ r. ⌜ r ≡ placeOf axis size n ⌝ }
 {

@@ -103,7 +103,8 @@ pub fn gain_row(ps: &[u8], size: Size, row: usize, l: usize, out: &mut [f64])
     ensures { λ _. ⌜ now (out .exit) ≡ overPart (gainedOf size (now (ps .entry))) row l (size .samples) (now (out .entry)) ⌝ }
 {
     let g = grid::grid_at(ps, 0);
-    if grid::every(g.top, g.bottom, g.row_pitch, row) {
+    let top = g.top;
+    if grid::every(top, g.bottom, g.row_pitch, row) {
         let down = gain_map::located(gain_map::down_axis(ps), size.rows, row);
         gain_planes(ps, size, g, down, l, out);
     }
