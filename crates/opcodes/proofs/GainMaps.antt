@@ -22,7 +22,7 @@ use Rattle.levels.specs.Clip.{plusZero}
 use Rattle.opcodes.specs.Grid.{longOf, gridOf, fitsOf, Fits-in}
 use Rattle.opcodes.specs.GainMap.{GainMap, floatOf, placeOf, wholeOf, restOf, betweenOf, alongOf, gainOf, doubleIn, floatIn, planesIn}
 use Rattle.opcodes.specs.GainMap.{gainMapOf, gainsIn, aboveAt, axisLegal, gainMapLegal}
-use Rattle.opcodes.specs.Spot.{GainMap-in, pointOf, takenOf, Spot-of, Spot-in, nextOf, gainIn, cellOf, cellGain}
+use Rattle.opcodes.specs.Spot.{GainMap-in, pointOf, takenOf, Spot-at, Spot-of, Spot-in, nextOf, gainIn, cellOf, cellGain}
 use Rattle.opcodes.specs.OpcodeList.{refusedAt, refusedIn, plainFault, gainMapFault, faultOf}
 use Rattle.opcodes.specs.declared.grid.Size.{Size}
 use Rattle.opcodes.specs.declared.grid.Grid.{Grid}
@@ -31,7 +31,7 @@ use Rattle.opcodes.specs.declared.gain_map.Cell.{Cell}
 use Rattle.opcodes.specs.declared.gain_map.Spot.{Spot}
 use Rattle.opcodes.specs.declared.gain_map.Spot.the-variants.{At, Between}
 use Rattle.opcodes.proofs.OpcodeLists.{and-true, fits-in}
-use Rattle.opcodes.proofs.Places.{or-false, real-finite, real-positive}
+use Rattle.opcodes.proofs.Places.{or-false, real-finite, real-positive, between-less, between-low, between-high, between-whole}
 
 -- ---- a spot by the code's tests
 module _ (points : ℕ) (p : Float) (g : ℕ → Float) where
@@ -71,6 +71,32 @@ module _ (points k : ℕ) where
       go true q = let l = ltb-true (k + 1) points q in let w : n ≡ k + 1 = rw q at e in omega arith
       go false q = let w : n ≡ k = rw q at e in omega arith
 
+-- a place between a point and the next one
+module _ (points k : ℕ) (p : Float) (h : k < points) (few : points ≤ 64) where
+  abbrev n : ℕ
+  n = nextOf points k
+
+  module _ (a : lt (floatOf k) p ≡ true) (b : lt p (floatOf n) ≡ true) where
+    next-is : k < n → n ≡ k + 1
+    unfolding pick
+    next-is l = go (ltb (k + 1) points) refl
+      where
+        go : (t : Bool) → ltb (k + 1) points ≡ t → n ≡ k + 1
+        go true q = rw q
+        go false q = absurd (let w : n ≡ k = rw q in omega arith)
+
+    pub spot-near : Spot-at points p (Between k (sub binary64 p (floatOf k))) × (k + 1 < points)
+    spot-near =
+        let m : n < points = next-below points k n h refl in
+        let i : n ≤ 65536 = omega arith in
+        let j : k ≤ 65536 = omega arith in
+        let e = next-is (between-less p k n i a b j) in
+        let low = between-low p k n i a b j in
+        let high = between-high p k n i a b j (points - 1) (omega arith) (omega arith) in
+        let w = between-whole p k n i a b j e in
+        let more : points ≡ 1 → ⊥ = λ o. omega arith in
+        (λ g. ap (λ (x : ℕ). betweenOf (sub binary64 p (floatOf x)) (g x) (g (x + 1))) (sym w) ∙ along-between points p g more low high, omega arith)
+
 pub point-below : (points : ℕ) (s : Spot) → Spot-in points s → pointOf s < points
 point-below points (At k) h = h
 point-below points (Between k f) h = omega arith
@@ -81,11 +107,13 @@ taken-next : (points : ℕ) (s : Spot) (a : Float) (g : ℕ → Float) → Spot-
 taken-next points (At k) a g h = refl
 taken-next points (Between k f) a g h = ap (λ (n : ℕ). betweenOf f a (g n)) (sym (next-more points k h))
 
-pub cell-read : (m : GainMap) (down : Spot) (q k i l r : ℕ) (a b c d : Float) → i ≡ pointOf down → l ≡ nextOf (m .down .points) i → r ≡ nextOf (m .across .points) k →
-    a ≡ m .gains i k q → b ≡ m .gains i r q → c ≡ m .gains l k q → d ≡ m .gains l r q →
-    record { point = k; «upper_left» = a; «upper_right» = b; «lower_left» = c; «lower_right» = d } ≡ cellOf m down q k
-unfolding cellOf
-cell-read m down q k i l r a b c d e f g s t u v = rw (s, t, u, v, f, g, e)
+module _ (m : GainMap) (down : Spot) (q k i l r : ℕ) (a b c d : Float) where
+  pub cell-read : i ≡ pointOf down → l ≡ nextOf (m .down .points) i → r ≡ nextOf (m .across .points) k →
+      a ≡ m .gains i k q → b ≡ m .gains i r q → c ≡ m .gains l k q → d ≡ m .gains l r q →
+      record { point = k; from = floatOf k; to = floatOf r; «upper_left» = a; «upper_right» = b; «lower_left» = c; «lower_right» = d }
+      ≡ cellOf m down q k
+  unfolding cellOf
+  cell-read e f g s t u v = rw (s, t, u, v, f, g, e)
 
 -- the gain of the cell at a column's spot is the gain in the column
 module _ (m : GainMap) (down across : Spot) (q columns c : ℕ) (here : Spot-of (m .across) columns c across) where
@@ -116,9 +144,17 @@ module _ (m : GainMap) (down across : Spot) (q columns c : ℕ) (here : Spot-of 
       h ∙ ap (λ (x : Cell). cellGain x down across) e ∙ ap (λ (n : ℕ). cellGain (cellOf m down q n) down across) f ∙ cell-in d a
 
 -- a cell says where it stands
-pub cell-own : (m : GainMap) (down : Spot) (q k : ℕ) (cell : Cell) → cell ≡ cellOf m down q k → cell ≡ cellOf m down q (cell .point)
-unfolding cellOf
-cell-own m down q k cell e = e ∙ ap (cellOf m down q) (sym (ap (λ (x : Cell). x .point) e))
+module _ (m : GainMap) (down : Spot) (q k : ℕ) (cell : Cell) (e : cell ≡ cellOf m down q k) where
+  pub cell-point : cell .point ≡ k
+  unfolding cellOf
+  cell-point = ap (λ (x : Cell). x .point) e
+
+  pub cell-own : cell ≡ cellOf m down q (cell .point)
+  cell-own = e ∙ ap (cellOf m down q) (sym cell-point)
+
+  pub cell-sides : (cell .from ≡ floatOf k) × (cell .to ≡ floatOf (nextOf (m .across .points) k))
+  unfolding cellOf
+  cell-sides = (ap (λ (x : Cell). x .from) e, ap (λ (x : Cell). x .to) e)
 
 -- and with the row's own spot the gain at the sample
 pub gain-in : (m : GainMap) (z : Size) (r c j : ℕ) (down : Spot) (q : ℕ) → Spot-of (m .down) (z .rows) r down → q ≡ min j (m .planes - 1) →

@@ -4,9 +4,9 @@ use mathlib.Core.Path.{_≡_, refl, sym, ap, _∙_, subst}
 use mathlib.Core.Bool.{Bool, true, false, cond, not, Bool·beq, _&&_, _||_, true≢false}
 use mathlib.Core.Logic.{⊎-elim}
 use Prim.Native.Nat.{ℕ, zero, suc, _+_, _*_, _-_, _/_, _%_, _^_, _≤_, _<_}
-use native.Mathlib.Nat.{div-lt-iff-lt-mul, lt-of-mul-lt-mul-right, mul-le-mul, le-refl, zero-mul}
+use native.Mathlib.Nat.{div-lt-iff-lt-mul, lt-of-mul-lt-mul-right, mul-le-mul, le-refl, zero-mul, mul-lt-mul-of-pos-right, le-div-iff-mul-le}
 use native.Mathlib.Omega.{arith}
-use borrow.Author.Tests.{lt-ltb, ltb-true, ltb-false, eqb-false, ne-eqb, eq-eqb}
+use borrow.Author.Tests.{lt-ltb, le-ltb, ltb-true, ltb-false, eqb-false, ne-eqb, eq-eqb}
 use lib.IntN.{ℤ, pos}
 use lib.Dec.{T, leb, ltb, eqb, ltb→lt, lt→ltb, le→leb}
 use lib.Ieee.{Float, nan, inf, fin, Format, binary64, prec, low, up, down, hid, ones, top, odd, round, unlike, lt, le}
@@ -23,6 +23,7 @@ use Rattle.levels.specs.Clip.{plusZero}
 use Rattle.opcodes.specs.Step.{half, valueOf}
 use Rattle.opcodes.specs.OpcodeList.{refusedReal}
 use Rattle.opcodes.specs.GainMap.{floatOf, placeOf, wholeOf}
+use Rattle.opcodes.specs.Spot.{Axis-in}
 use Rattle.opcodes.specs.declared.gain_map.Axis.{Axis}
 use Rattle.opcodes.proofs.Floor.{odd-shape, round-shape}
 
@@ -128,13 +129,19 @@ value-number (inf s) n v = refl
 value-number (fin s m e) n v = refl
 
 -- of a finite origin, and a spacing that is finite and above 0
-pub place-number : (a : Axis) (size n : ℕ) → T (finite (a .origin)) → T (positive (a .spacing)) → n < size → size ≤ 65536 → isNan (placeOf a size n) ≡ false
+place-number : (a : Axis) (size n : ℕ) → T (finite (a .origin)) → T (positive (a .spacing)) → n < size → size ≤ 65536 → isNan (placeOf a size n) ≡ false
 unfolding placeOf
 place-number a size n o s h few =
     let near : n ≤ 65536 = omega arith in
     let sum = add-number (floatOf n) half (value-number (floatOf n) n (float-value n near)) tt in
     let part = div-number (add binary64 (floatOf n) half) (floatOf size) sum (positive-of-value (floatOf size) size 1 (float-value size few) (omega arith)) in
     div-number _ (a .spacing) (sub-number _ (a .origin) part o) s
+
+-- so for every row or column, where an axis has more than one point
+pub axis-number : (a : Axis) (size n : ℕ) (p : Float) → Axis-in a → (a .points ≡ 1 → ⊥) → n < size → size ≤ 16384 → p ≡ placeOf a size n → isNan p ≡ false
+axis-number a size n p i h l m e =
+    let more : 1 < a .points = omega (arith, i .some) in
+    ap isNan e ∙ place-number a size n (i .origin) (i .spacing more) l (omega arith)
 
 -- ---- a place between 0 and a whole number
 abbrev Inner : Float → ℕ → Type 0
@@ -206,3 +213,84 @@ module _ (p : Float) (n : ℕ) (few : n ≤ 65536) (k : isNan p ≡ false) (a : 
   word-below =
       let (m, e, q, h) = here in
       subst (λ (x : Float). T (lt (fin true 1 (pos 0)) x) × T (lt x (fin false 1 (pos 64)))) (sym q) (word-here m e h)
+
+-- ---- a place strictly between two whole numbers
+abbrev Held : Float → ℕ → ℕ → Type 0
+Held p k n = (m : ℕ) × (e : ℤ) × (p ≡ fin false m e) × (k * down e < m * up e) × (m * up e < n * down e)
+
+-- the other way round
+cancel-low : (a b k d e : ℕ) → b * e < a * d → b * 1 ≡ k * d → k * e < a
+cancel-low a b k d e h v =
+    let q : b ≡ k * d = omega arith in
+    let l : k * d * e < a * d = rw (← q) h in
+    let s : k * d * e ≡ k * e * d = omega arith in
+    lt-of-mul-lt-mul-right d (rw (← s) l)
+
+held : (p w v : Float) (k n : ℕ) → HasValue w false k 1 → HasValue v false n 1 → lt w p ≡ true → lt p v ≡ true → Held p k n
+unfolding lt
+held p nan v k n i j a b = absurd i
+held p (inf s) v k n i j a b = absurd i
+held p (fin true l d) v k n i j a b = absurd (true≢false (i .0))
+held p (fin false l d) nan k n i j a b = absurd j
+held p (fin false l d) (inf s) k n i j a b = absurd j
+held p (fin false l d) (fin true h g) k n i j a b = absurd (true≢false (j .0))
+held nan (fin false l d) (fin false h g) k n i j a b = absurd (true≢false (sym a))
+held (inf true) (fin false l d) (fin false h g) k n i j a b = absurd (true≢false (sym a))
+held (inf false) (fin false l d) (fin false h g) k n i j a b = absurd (true≢false (sym b))
+held (fin true m e) (fin false l d) (fin false h g) k n i j a b = absurd (true≢false (sym a))
+held (fin false m e) (fin false l d) (fin false h g) k n i j a b =
+    let low = cancel-low (m * up e) (l * up d) k (down d) (down e) (ltb-true (l * up d * down e) (m * up e * down d) a) (i .1) in
+    let high = cancel (m * up e) (h * up g) n (down g) (down e) (ltb-true (m * up e * down g) (h * up g * down e) b) (j .1) in
+    (m, e, refl, low, high)
+
+not-le : (a b : ℕ) → b < a → (ltb a b || (eqb a b && true)) ≡ false
+not-le a b h = let n : a ≡ b → ⊥ = λ e. omega arith in rw (le-ltb a b (omega arith), ne-eqb a b n)
+
+above-zero : (m : ℕ) (e : ℤ) → 0 < m * up e → le (fin false m e) plusZero ≡ false
+unfolding le
+above-zero m e h = not-le (m * up e * 1) (0 * down e) (omega (arith, zero-mul (down e)))
+
+below-whole : (w : Float) (n m : ℕ) (e : ℤ) → HasValue w false n 1 → m * up e < n * down e → le w (fin false m e) ≡ false
+unfolding le
+below-whole nan n m e v h = absurd v
+below-whole (inf s) n m e v h = absurd v
+below-whole (fin true l d) n m e v h = absurd (true≢false (v .0))
+below-whole (fin false l d) n m e v h = not-le (l * up d * down e) (m * up e * down d) (scaled (l * up d) (m * up e) n (down d) (down e) (down-pos d) h (v .1))
+  where
+    scaled : (b a n d e : ℕ) → 0 < d → a < n * e → b * 1 ≡ n * d → a * d < b * e
+    scaled b a n d e p h v =
+        let q : b ≡ n * d = omega arith in
+        let l : a * d < n * e * d = mul-lt-mul-of-pos-right h p in
+        let s : n * d * e ≡ n * e * d = omega arith in
+        rw (q, s) l
+
+module _ (p : Float) (k n : ℕ) (few : n ≤ 65536) (a : lt (floatOf k) p ≡ true) (b : lt p (floatOf n) ≡ true) (near : k ≤ 65536) where
+  between-held : Held p k n
+  between-held = held p (floatOf k) (floatOf n) k n (float-value k near) (float-value n few) a b
+
+  -- the first is below the second
+  pub between-less : k < n
+  between-less = let (m, e, q, l, h) = between-held in lt-of-mul-lt-mul-right (down e) (let s : k * down e < n * down e = omega arith in s)
+
+  pub between-low : le p plusZero ≡ false
+  between-low =
+      let (m, e, q, l, h) = between-held in
+      subst (λ (x : Float). le x plusZero ≡ false) (sym q) (above-zero m e (omega arith))
+
+  pub between-high : (last : ℕ) → n ≤ last → last ≤ 65536 → le (floatOf last) p ≡ false
+  between-high last i j =
+      let (m, e, q, l, h) = between-held in
+      let w : n * down e ≤ last * down e = mul-le-mul i (le-refl (down e)) in
+      subst (λ (x : Float). le (floatOf last) x ≡ false) (sym q) (below-whole (floatOf last) last m e (float-value last j) (omega arith))
+
+  whole-here : (m : ℕ) (e : ℤ) → k * down e < m * up e → m * up e < (k + 1) * down e → wholeOf (fin false m e) ≡ k
+  unfolding toUnsigned
+  whole-here m e l h =
+      let low : k ≤ m * up e / down e = le-div-iff-mul-le (down-pos e) .1 (omega arith) in
+      let high : m * up e / down e < k + 1 = div-lt-iff-lt-mul (down-pos e) .1 h in
+      omega (arith, near)
+
+  pub between-whole : n ≡ k + 1 → wholeOf p ≡ k
+  between-whole o =
+      let (m, e, q, l, h) = between-held in
+      subst (λ (x : Float). wholeOf x ≡ k) (sym q) (whole-here m e l (subst (λ (x : ℕ). m * up e < x * down e) o h))

@@ -8,7 +8,7 @@ use lib.Ieee.Scale.{finite}
 use lib.Ieee.Positive.{positive}
 use lib.ListN.{length}
 use Rattle.reading.specs.Reading.{pick}
-use Rattle.opcodes.specs.GainMap.{GainMap, placeOf, betweenOf, alongOf, downOf, acrossOf, planesIn, gainsIn}
+use Rattle.opcodes.specs.GainMap.{GainMap, floatOf, placeOf, betweenOf, alongOf, downOf, acrossOf, planesIn, gainsIn}
 use Rattle.opcodes.specs.declared.gain_map.Axis.{Axis}
 use Rattle.opcodes.specs.declared.gain_map.Cell.{Cell}
 use Rattle.opcodes.specs.declared.gain_map.Spot.{Spot}
@@ -36,9 +36,13 @@ abbrev pub takenOf : Spot → Float → Float → Float
 takenOf (At k) a b = a
 takenOf (Between k f) a b = betweenOf f a b
 
--- it is the spot of the n-th of `size` rows or columns
+-- it is the spot of a place among so many points
+abbrev pub Spot-at : ℕ → Float → Spot → Type 0
+Spot-at points p s = (g : ℕ → Float) → takenOf s (g (pointOf s)) (g (pointOf s + 1)) ≡ alongOf points p g
+
+-- it is that of the n-th of `size` rows or columns
 abbrev pub Spot-of : Axis → ℕ → ℕ → Spot → Type 0
-Spot-of a size n s = (g : ℕ → Float) → takenOf s (g (pointOf s)) (g (pointOf s + 1)) ≡ alongOf (a .points) (placeOf a size n) g
+Spot-of a size n s = Spot-at (a .points) (placeOf a size n) s
 
 -- it lies among so many points
 abbrev pub Spot-in : ℕ → Spot → Type 0
@@ -56,11 +60,13 @@ gainIn m down q columns c = takenOf down (inRow (pointOf down)) (inRow (pointOf 
     inRow : ℕ → Float
     inRow i = alongOf (m .across .points) (placeOf (m .across) columns c) (λ (k : ℕ). m .gains i k q)
 
--- the four gains around map column k: of the map rows of a spot, at k and at the next
+-- map column k and the next as places, and the four gains there: of the map rows of a spot
 unfoldable pub cellOf : GainMap → Spot → ℕ → ℕ → Cell
 cellOf m down q k =
     record {
       point = k;
+      from = floatOf k;
+      to = floatOf (nextOf (m .across .points) k);
       «upper_left» = m .gains (pointOf down) k q;
       «upper_right» = m .gains (pointOf down) (nextOf (m .across .points) k) q;
       «lower_left» = m .gains (nextOf (m .down .points) (pointOf down)) k q;

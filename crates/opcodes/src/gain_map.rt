@@ -2,10 +2,11 @@
 ghost use mathlib.Core.Path.{_≡_};
 ghost use Prim.Native.Nat.{_+_, _*_, _-_, _≤_, _<_, min};
 ghost use lib.ListN.{length};
-ghost use lib.Ieee.{binary64, nanBits};
+ghost use lib.Ieee.{binary64, nanBits, isNan};
+ghost use mathlib.Core.Bool.{false};
 ghost use Rattle.opcodes.specs.Grid.{longOf};
-ghost use Rattle.opcodes.specs.GainMap.{placeOf, betweenOf, gainOf, doubleIn, floatIn, axisOf, downOf, acrossOf, planesIn, gainMapOf, aboveAt, axisLegal, gainMapLegal, gainsIn};
-ghost use Rattle.opcodes.specs.Spot.{Axis-in, GainMap-in, pointOf, takenOf, Spot-of, Spot-in, nextOf, cellOf, cellGain};
+ghost use Rattle.opcodes.specs.GainMap.{floatOf, placeOf, betweenOf, gainOf, doubleIn, floatIn, axisOf, downOf, acrossOf, planesIn, gainMapOf, aboveAt, axisLegal, gainMapLegal, gainsIn};
+ghost use Rattle.opcodes.specs.Spot.{Axis-in, GainMap-in, pointOf, takenOf, Spot-at, Spot-of, Spot-in, nextOf, cellOf, cellGain};
 use crate::grid;
 use crate::grid::Size;
 use crate::step;
@@ -26,9 +27,11 @@ pub enum Spot {
     Between(usize, f64),
 }
 
-// The gains at a point and the next one across, of a map row and the next one down.
+// The gains at a point and the next one across, of a map row and the next one down; both points as places.
 pub struct Cell {
     pub point: usize,
+    pub from: f64,
+    pub to: f64,
     pub upper_left: f64,
     pub upper_right: f64,
     pub lower_left: f64,
@@ -129,16 +132,11 @@ pub fn place(axis: Axis, size: usize, n: usize) -> f64
     ((n as f64 + 0.5) / size as f64 - axis.origin) / axis.spacing
 }
 
-// And its spot.
-pub fn located(axis: Axis, size: usize, n: usize) -> Spot
-    requires { ⌜ Axis-in axis × (n < size) × (size ≤ 16384) ⌝ }
-    ensures { λ r. ⌜ Spot-of axis size n r × Spot-in (axis .points) r ⌝ }
+// The spot of a place among more than one point.
+fn spot_at(points: usize, p: f64) -> Spot
+    requires { ⌜ (1 < points) × (points ≤ 64) × (isNan p ≡ false) ⌝ }
+    ensures { λ r. ⌜ Spot-at points p r × Spot-in points r ⌝ }
 {
-    let points = axis.points;
-    if points == 1 {
-        return Spot::At(0);
-    }
-    let p = place(axis, size, n);
     if p <= 0.0 {
         return Spot::At(0);
     }
@@ -148,6 +146,38 @@ pub fn located(axis: Axis, size: usize, n: usize) -> Spot
     }
     let k = std::num::truncating_f64_to_u64(p) as usize;
     Spot::Between(k, p - k as f64)
+}
+
+// The spot of the n-th of `size` rows or columns.
+pub fn located(axis: Axis, size: usize, n: usize) -> Spot
+    requires { ⌜ Axis-in axis × (n < size) × (size ≤ 16384) ⌝ }
+    ensures { λ r. ⌜ Spot-of axis size n r × Spot-in (axis .points) r ⌝ }
+{
+    let points = axis.points;
+    if points == 1 {
+        return Spot::At(0);
+    }
+    spot_at(points, place(axis, size, n))
+}
+
+// The same, looked for first between the points of a cell: the next column mostly lies there too.
+pub fn located_near(axis: Axis, size: usize, n: usize, cell: Cell) -> Spot
+    requires { ⌜ Axis-in axis × (n < size) × (size ≤ 16384) ⌝ }
+    requires { ⌜ (cell .from ≡ floatOf (cell .point)) × (cell .to ≡ floatOf (nextOf (axis .points) (cell .point))) × (cell .point < axis .points) ⌝ }
+    ensures { λ r. ⌜ Spot-of axis size n r × Spot-in (axis .points) r ⌝ }
+{
+    let points = axis.points;
+    if points == 1 {
+        return Spot::At(0);
+    }
+    let p = place(axis, size, n);
+    let from = cell.from;
+    if from < p {
+        if p < cell.to {
+            return Spot::Between(cell.point, p - from);
+        }
+    }
+    spot_at(points, p)
 }
 
 pub fn point(spot: Spot) -> usize
@@ -211,6 +241,8 @@ pub fn cell_at(ps: &[u8], down: Spot, q: usize, k: usize) -> Cell
     let right = next(grid::field(ps, 36), k);
     Cell {
         point: k,
+        from: k as f64,
+        to: right as f64,
         upper_left: gain(ps, i, k, q),
         upper_right: gain(ps, i, right, q),
         lower_left: gain(ps, lower, k, q),

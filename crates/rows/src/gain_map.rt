@@ -55,7 +55,7 @@ fn sweep_gain(
     let mut c = left + skip * pitch;
     let mut i = first;
     while i < end {
-        let spot = gain_map::located(across, width, c);
+        let spot = gain_map::located_near(across, width, c, cell);
         cell = gain_map::cell_from(ps, cell, down, q, gain_map::point(spot));
         out[i] = step::clip(out[i] * gain_map::cell_gain(cell, down, spot));
         c += pitch;

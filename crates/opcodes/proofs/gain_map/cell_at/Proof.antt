@@ -5,6 +5,7 @@ use denote.Ref.{now}
 use Rattle.opcodes.specs.Grid.{longOf}
 use Rattle.opcodes.specs.GainMap.{gainMapOf}
 use Rattle.opcodes.specs.Spot.{nextOf}
+use Rattle.opcodes.proofs.Places.{float-exact}
 use Rattle.opcodes.proofs.GainMaps.{point-below, cell-read}
 use borrow.Author.Needs.{needs}
 use Rattle.opcodes.proofs.gain_map.cell_at.Statement.{statement}
@@ -31,15 +32,27 @@ next-requires-2 c κs =
     let s = c .before .before .before .before .before in
     (omega (arith, s .pre .3, c .field2 .ensures .0), omega (arith, s .pre .0 .across .most, c .field2 .ensures .0))
 
+int-to-float-t9 : tie.Need-int-to-float-t9
+int-to-float-t9 c =
+    let s = c .before .before .before .before .before .before .before in
+    float-exact _ (omega (arith, s .pre .3, s .pre .0 .across .most))
+
+int-to-float-t10 : tie.Need-int-to-float-t10
+int-to-float-t10 c =
+    let t = c .before .before in
+    let s = t .before .before .before .before .before .before in
+    float-exact _ (omega (arith, t .next2 .ensures .1, t .before .field2 .ensures .0, s .pre .0 .across .most))
+
 gain-requires : tie.Need-gain-requires
 gain-requires c κs =
-    let s = c .before .before .before .before .before .before in
+    let t = c .before .before in
+    let s = t .before .before .before .before .before .before in
     let p = point-below _ (s .args .down) (s .pre .1) in
-    (s .pre .0, omega (arith, p, c .before .before .before .before .point .ensures), s .pre .3, s .pre .2)
+    (s .pre .0, omega (arith, p, t .before .before .before .before .point .ensures), s .pre .3, s .pre .2)
 
 gain-requires-2 : tie.Need-gain-requires-2
 gain-requires-2 c κs =
-    let t = c .before in
+    let t = c .before .before .before in
     let s = t .before .before .before .before .before .before in
     let p = point-below _ (s .args .down) (s .pre .1) in
     let r = t .next2 .ensures .1 in
@@ -47,13 +60,13 @@ gain-requires-2 c κs =
 
 gain-requires-3 : tie.Need-gain-requires-3
 gain-requires-3 c κs =
-    let t = c .before .before .before .before in
+    let t = c .before .before .before .before .before .before in
     let s = t .before .before .before .before in
     (s .pre .0, omega (arith, t .next .ensures .1, t .before .field .ensures .0), s .pre .3, s .pre .2)
 
 gain-requires-4 : tie.Need-gain-requires-4
 gain-requires-4 c κs =
-    let u = c .before .before .before in
+    let u = c .before .before .before .before .before in
     let t = u .before .before in
     let s = t .before .before .before .before in
     let l = t .next .ensures .1 in
@@ -62,7 +75,7 @@ gain-requires-4 c κs =
 returns : tie.Need-returns
 unfolding gainMapOf
 returns c =
-    let u = c .before .before .before .before in
+    let u = c .before .before .before .before .before .before in
     let t = u .before .before in
     let s = t .before .before .before .before in
     let m = gainMapOf (now (s .args .ps)) in
@@ -81,6 +94,8 @@ cell-at-spec =
     next-requires
     field-requires-2
     next-requires-2
+    int-to-float-t9
+    int-to-float-t10
     gain-requires
     gain-requires-2
     gain-requires-3

@@ -8,10 +8,11 @@ use lib.Ieee.{Float, nan, binary64, mul}
 use lib.ListN.{length, getD}
 use borrow.Author.Needs.{scaled-fits}
 use Rattle.levels.specs.Clip.{clipOf}
-use Rattle.opcodes.specs.GainMap.{gainMapOf}
-use Rattle.opcodes.specs.Spot.{Axis-in, Spot-of, Spot-in, cellOf}
+use Rattle.opcodes.specs.Grid.{longOf}
+use Rattle.opcodes.specs.GainMap.{floatOf, gainMapOf}
+use Rattle.opcodes.specs.Spot.{Axis-in, Spot-of, Spot-in, nextOf, cellOf}
 use Rattle.opcodes.specs.declared.gain_map.Axis.{Axis}
-use Rattle.opcodes.proofs.GainMaps.{point-below, cell-found, cell-own}
+use Rattle.opcodes.proofs.GainMaps.{point-below, cell-found, cell-point, cell-own, cell-sides}
 use Rattle.rows.specs.GainMap.{columnAt, timesGain}
 use Rattle.rows.specs.declared.gain_map.Columns.{Columns}
 use Rattle.rows.proofs.Gains.{column-first, column-more}
@@ -26,7 +27,7 @@ spots left pitch skip first end step = record { left = left; pitch = pitch; skip
 abbrev Inv-loop : tie.InvT-loop
 Inv-loop ps across width down q out₀ left pitch skip first end step cell₀ c₀ i₀ out cell c i =
     Swept first end step (λ k x. timesGain ps down q width (columnAt (spots left pitch skip first end step) k) x) i out₀ out
-    × (c ≡ columnAt (spots left pitch skip first end step) i) × (cell ≡ cellOf (gainMapOf ps) down q (cell .point))
+    × (c ≡ columnAt (spots left pitch skip first end step) i) × (cell ≡ cellOf (gainMapOf ps) down q (cell .point)) × (cell .point < longOf ps 36)
 
 abbrev μ-loop : tie.MeasureT-loop
 μ-loop ps across width down q out₀ left pitch skip first end step cell₀ c₀ i₀ out cell c i = end - i
@@ -44,16 +45,26 @@ add-c c = let h = c .before .before .before .pre .0 .0 in omega (arith, h .skip,
 
 loop-holds : tie.Need-loop-holds Inv-loop μ-loop
 loop-holds c =
-    let a = c .before .before .before .args in
-    (swept-start _ _ _ _ _, column-first (a .columns), cell-own (gainMapOf (now (a .ps))) (a .down) (a .q) 0 _ (c .cell-at .ensures))
+    let s = c .before .before .before in
+    let a = s .args in
+    let m = gainMapOf (now (a .ps)) in
+    let e = c .cell-at .ensures in
+    let o = cell-point m (a .down) (a .q) 0 _ e in
+    (swept-start _ _ _ _ _, column-first (a .columns), cell-own m (a .down) (a .q) 0 _ e, omega (arith, o, s .pre .1 .0 .across .some))
 
 -- the column of a sample is one of the active area
-located-requires : tie.Need-located-requires Inv-loop μ-loop
-located-requires c κs =
+located-near-requires : tie.Need-located-near-requires Inv-loop μ-loop
+unfolding gainMapOf
+located-near-requires c κs =
     let s = c .before .before .before .before .before in
+    let a = s .args in
+    let h = s .pre .1 in
     let v = c .before .loop in
-    let m = every-tell _ _ _ (v .i) (v .inv .0 .from) (c .loop-test .taken) (v .inv .0 .point) in
-    (subst Axis-in (sym (s .pre .1 .1)) (s .pre .1 .0 .across), omega (arith, v .inv .1, s .pre .0 .0 .inside (v .i) m), s .pre .0 .1)
+    let t = every-tell _ _ _ (v .i) (v .inv .0 .from) (c .loop-test .taken) (v .inv .0 .point) in
+    let d = cell-sides (gainMapOf (now (a .ps))) (a .down) (a .q) (v .cell .point) (v .cell) (v .inv .2) in (
+      (subst Axis-in (sym (h .1)) (h .0 .across), omega (arith, v .inv .1, s .pre .0 .0 .inside (v .i) t), s .pre .0 .1),
+      subst (λ (x : Axis). (v .cell .from ≡ floatOf (v .cell .point)) × (v .cell .to ≡ floatOf (nextOf (x .points) (v .cell .point))) × (v .cell .point < x .points)) (sym (h .1)) (d .0, d .1, v .inv .3),
+    )
 
 point-requires : tie.Need-point-requires Inv-loop μ-loop
 point-requires c κs = search needs
@@ -62,7 +73,7 @@ cell-from-requires : tie.Need-cell-from-requires Inv-loop μ-loop
 cell-from-requires c κs =
     let s = c .before .before .before .before .before .before .before in
     let h = s .pre .1 in
-    let t = c .before .located in
+    let t = c .before .located-near in
     let k = point-below _ (t .result) (subst (λ (a : Axis). Spot-in (a .points) (t .result)) (h .1) (t .ensures .1)) in
     ((h .0, h .2, h .3, omega (arith, k, c .point .ensures)), c .before .before .before .loop .inv .2)
 
@@ -132,7 +143,7 @@ loop-again c =
     let h = s .pre .1 in
     let v = d .before .before .before .before .loop in
     let t = d .before .before .before .loop-test .taken in
-    let spot = d .before .before .located in
+    let spot = d .before .before .located-near in
     let m = gainMapOf (now (a .ps)) in
     let here = subst (λ (x : Axis). Spot-of x (a .width) (v .c) (spot .result)) (h .1) (spot .ensures .0) in
     let among = subst (λ (x : Axis). Spot-in (x .points) (spot .result)) (h .1) (spot .ensures .1) in
@@ -141,10 +152,13 @@ loop-again c =
     let x = getD (v .out) (v .i) nan in
     let e : c .clip .result ≡ timesGain (now (a .ps)) (a .down) (a .q) (a .width) (columnAt (a .columns) (v .i)) x =
     c .clip .ensures ∙ ap (λ (y : Float). clipOf (mul binary64 x y)) gain ∙ ap (λ (n : ℕ). timesGain (now (a .ps)) (a .down) (a .q) (a .width) n x) (v .inv .1) in
-    let p = s .pre .0 .0 in (
+    let p = s .pre .0 .0 in
+    let o = cell-point m (a .down) (a .q) _ _ (d .cell-from .ensures) in
+    let k = point-below (longOf (now (a .ps)) 36) (spot .result) among in (
       rw e (swept-step _ _ _ _ (v .i) (now (a .out)) (v .out) (p .some) t (p .end) (v .inv .0)),
       column-more (a .columns) (v .i) (v .c) (p .some) (v .inv .0 .from) (v .inv .1),
       cell-own m (a .down) (a .q) _ _ (d .cell-from .ensures),
+      omega (arith, o, k, d .before .point .ensures),
     )
 
 same-length : tie.Need-same-length Inv-loop μ-loop
@@ -165,7 +179,7 @@ sweep-gain-spec =
     mul-c
     add-c
     loop-holds
-    located-requires
+    located-near-requires
     point-requires
     cell-from-requires
     mul-clip
