@@ -569,6 +569,43 @@ impl Area {
     }
 }
 
+/// What a GainMap says behind its area; of two the vertical one stands first.
+#[derive(Clone, Debug, PartialEq)]
+pub struct GainMap {
+    pub points: [u32; 2],
+    pub spacing: [f64; 2],
+    pub origin: [f64; 2],
+    pub planes: u32,
+    /// Row, column, plane.
+    pub gains: Vec<f32>,
+}
+
+/// Which LONGs of a GainMap have its points and planes, and which bytes its
+/// spacings, origins and gains.
+pub const MAP_POINTS: [usize; 2] = [8, 9];
+pub const MAP_PLANES: usize = 18;
+pub const MAP_SPACING: [usize; 2] = [40, 48];
+pub const MAP_ORIGIN: [usize; 2] = [56, 64];
+pub const MAP_GAINS: usize = 76;
+
+impl GainMap {
+    /// One plane of gains, row by row. The first and the last points stand on
+    /// the frame's edges.
+    pub fn spread<const H: usize>(gains: &[[f32; H]]) -> GainMap {
+        let points = [gains.len() as u32, H as u32];
+        let spacing = points.map(|points| 1.0 / f64::from(points.max(2) - 1));
+        GainMap { points, spacing, origin: [0.0; 2], planes: 1, gains: gains.concat() }
+    }
+
+    /// The parameters behind the area.
+    fn spell(&self) -> Vec<u8> {
+        let points = self.points.into_iter().flat_map(u32::to_be_bytes);
+        let doubles = self.spacing.into_iter().chain(self.origin).flat_map(f64::to_be_bytes);
+        let gains = self.gains.iter().flat_map(|gain| gain.to_be_bytes());
+        points.chain(doubles).chain(self.planes.to_be_bytes()).chain(gains).collect()
+    }
+}
+
 /// One opcode of OpcodeList2.
 #[derive(Clone, Debug, PartialEq)]
 pub struct Opcode {
@@ -602,6 +639,11 @@ impl Opcode {
         Opcode::on_area(8, area, coefficients.len() as u32 - 1, numbers)
     }
 
+    pub fn gain_map(area: Area, map: &GainMap) -> Opcode {
+        let area = area.fields().into_iter().flat_map(u32::to_be_bytes);
+        Opcode::new(9, 0, area.chain(map.spell()).collect())
+    }
+
     /// 10, 11, 12 or 13: delta or scale, per row or per column.
     pub fn per_line(id: u32, area: Area, values: &[f32]) -> Opcode {
         let numbers = values.iter().flat_map(|v| v.to_bits().to_be_bytes()).collect();
@@ -623,9 +665,14 @@ impl Opcode {
         self
     }
 
-    /// The same opcode with one of its nine LONG parameters changed.
-    pub fn with_long(mut self, place: usize, value: u32) -> Opcode {
-        self.parameters[4 * place..4 * place + 4].copy_from_slice(&value.to_be_bytes());
+    /// The same opcode with one of its LONG parameters changed.
+    pub fn with_long(self, place: usize, value: u32) -> Opcode {
+        self.with_bytes(4 * place, &value.to_be_bytes())
+    }
+
+    /// The same opcode with some bytes of its parameters changed.
+    pub fn with_bytes(mut self, place: usize, bytes: &[u8]) -> Opcode {
+        self.parameters[place..place + bytes.len()].copy_from_slice(bytes);
         self
     }
 

@@ -4,7 +4,7 @@
 use crate::answer::Answer;
 use crate::bytes::File;
 use crate::directory::{walk, Directory};
-use crate::opcodes::{read_list, FrameSize, Opcode};
+use crate::opcodes::{read_list, FrameSize, OnGrid, Opcode};
 use crate::raw_tags::{self, RawTags};
 
 /// A file that has passed every test up to the opcode list.
@@ -81,8 +81,9 @@ impl Accepted<'_> {
             let columns = (grid.left..grid.right).step_by(grid.column_pitch as usize);
             for (grid_column, column) in columns.enumerate() {
                 for plane in grid.plane..grid.plane + grid.planes {
+                    let grid_plane = plane - grid.plane;
                     let x = &mut frame[self.index(row, column, plane)];
-                    *x = action.apply(grid_row, grid_column, *x);
+                    *x = action.apply(OnGrid { row, column, grid_row, grid_column, grid_plane }, *x);
                 }
             }
         }
@@ -99,8 +100,8 @@ impl Accepted<'_> {
         let mut x = self.scaled(row, column, plane);
         for opcode in &self.opcodes {
             if let Opcode::Kept(grid, action) = opcode {
-                if let Some((grid_row, grid_column)) = grid.place_of(row, column, plane) {
-                    x = action.apply(grid_row, grid_column, x);
+                if let Some(on_grid) = grid.place_of(row, column, plane) {
+                    x = action.apply(on_grid, x);
                 }
             }
         }

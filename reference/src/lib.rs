@@ -1,8 +1,8 @@
 //! An independent reference for document 01, "From stored DNG samples to
-//! developed values", with half-size colour (T-01), the greatest black (T-02)
-//! and the 64-bit layout (T-09) of document 02. The modules follow document
-//! 01's sections; each rule stands once, beside the words of the document that
-//! demand it.
+//! developed values", with half-size colour (T-01), the greatest black (T-02),
+//! GainMap (T-05) and the 64-bit layout (T-09) of document 02. The modules
+//! follow document 01's sections; each rule stands once, beside the words of
+//! the document that demand it.
 
 #![forbid(unsafe_code)]
 
@@ -12,6 +12,7 @@ pub mod calls;
 pub mod colour;
 pub mod develop;
 pub mod directory;
+pub mod gain_map;
 pub mod levels;
 pub mod listing;
 pub mod opcodes;

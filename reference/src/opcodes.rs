@@ -4,10 +4,13 @@ use std::num::FpCategory;
 
 use crate::answer::Answer;
 use crate::bytes::ByteOrder;
+use crate::gain_map::{self, GainMap};
 
 const GREATEST_COUNT: u64 = 32;
 const CARRIED_VERSION: u64 = 0x0107_0100;
 const HEADER: usize = 16;
+/// GainMap's parameters are read in a module of its own.
+const GAIN_MAP: u64 = 9;
 const FIXED_PARAMETERS: usize = 36;
 
 /// "The grid is every pitch-th row from Top, column from Left, on those planes."
@@ -28,6 +31,7 @@ pub enum Action {
     MapTable(Vec<u16>),
     /// Constant first.
     MapPolynomial(Vec<f64>),
+    GainMap(GainMap),
     DeltaPerRow(Vec<f64>),
     DeltaPerColumn(Vec<f64>),
     ScalePerRow(Vec<f64>),
@@ -51,7 +55,7 @@ pub struct FrameSize {
 }
 
 /// "OpcodeList2 is big-endian in every file."
-fn long(bytes: &[u8], place: usize) -> u64 {
+pub fn long(bytes: &[u8], place: usize) -> u64 {
     ByteOrder::Big.number(&bytes[place..place + 4])
 }
 
@@ -88,16 +92,35 @@ fn read_opcode(bytes: &[u8], place: u32, frame: FrameSize) -> Result<(Opcode, &[
     let (parameters, after) = bytes[HEADER..].split_at(length as usize);
     // "an id below not listed, or a version above 1.7.1.0, is skipped if flag
     // bit 0 is set and refused by 11 if not"
-    let listed = [7, 8, 10, 11, 12, 13].contains(&id);
+    let listed = [7, 8, GAIN_MAP, 10, 11, 12, 13].contains(&id);
     if !listed || version > CARRIED_VERSION {
         return if flags & 1 == 1 { Ok((Opcode::Skipped, after)) } else { Err(Answer::compulsory(place)) };
     }
     let grid = read_grid(parameters, frame).ok_or(Answer::malformed(place))?;
-    let numbers = read_numbers(id, parameters, &grid).ok_or(Answer::malformed(place))?;
+    let action = if id == GAIN_MAP {
+        read_gain_map(parameters, place, frame)?
+    } else {
+        read_action(id, parameters, place, &grid)?
+    };
+    Ok((Opcode::Kept(grid, action), after))
+}
+
+/// "then the parameters (10), then their numbers (12)"
+fn read_gain_map(parameters: &[u8], place: u32, frame: FrameSize) -> Result<Action, Answer> {
+    let map = gain_map::read(parameters, frame).ok_or(Answer::malformed(place))?;
+    if !map.has_good_numbers() {
+        return Err(Answer::bad_number(place));
+    }
+    Ok(Action::GainMap(map))
+}
+
+/// The same of the other kinds.
+fn read_action(id: u64, parameters: &[u8], place: u32, grid: &Grid) -> Result<Action, Answer> {
+    let numbers = read_numbers(id, parameters, grid).ok_or(Answer::malformed(place))?;
     if !numbers.iter().all(|bits| good_number(id, *bits)) {
         return Err(Answer::bad_number(place));
     }
-    Ok((Opcode::Kept(grid, action(id, &numbers)), after))
+    Ok(action(id, &numbers))
 }
 
 /// The first eight LONGs, or nothing if they are malformed.
@@ -137,11 +160,14 @@ fn read_numbers(id: u64, parameters: &[u8], grid: &Grid) -> Option<Vec<u64>> {
 
 /// Refusal 12: "infinite, NaN or denormal number". Zero of either sign is good.
 fn good_number(id: u64, bits: u64) -> bool {
-    let category = match id {
-        7 => return true,
-        8 => f64::from_bits(bits).classify(),
-        _ => f32::from_bits(bits as u32).classify(),
-    };
+    match id {
+        7 => true,
+        8 => good_category(f64::from_bits(bits).classify()),
+        _ => good_category(f32::from_bits(bits as u32).classify()),
+    }
+}
+
+pub fn good_category(category: FpCategory) -> bool {
     matches!(category, FpCategory::Normal | FpCategory::Zero)
 }
 
@@ -158,6 +184,17 @@ fn action(id: u64, numbers: &[u64]) -> Action {
     }
 }
 
+/// A sample on a grid: its active row and column, and which row, column and
+/// plane of the grid these are.
+#[derive(Clone, Copy, Debug, PartialEq, Eq)]
+pub struct OnGrid {
+    pub row: u64,
+    pub column: u64,
+    pub grid_row: usize,
+    pub grid_column: usize,
+    pub grid_plane: u64,
+}
+
 impl Grid {
     pub fn rows(&self) -> u64 {
         (self.bottom - self.top).div_ceil(self.row_pitch)
@@ -167,8 +204,8 @@ impl Grid {
         (self.right - self.left).div_ceil(self.column_pitch)
     }
 
-    /// Which of the grid's rows and columns a sample stands on, if it does.
-    pub fn place_of(&self, row: u64, column: u64, plane: u64) -> Option<(usize, usize)> {
+    /// Where on the grid a sample stands, if it does.
+    pub fn place_of(&self, row: u64, column: u64, plane: u64) -> Option<OnGrid> {
         let inside = (self.top..self.bottom).contains(&row)
             && (self.left..self.right).contains(&column)
             && (self.plane..self.plane + self.planes).contains(&plane);
@@ -177,20 +214,27 @@ impl Grid {
         }
         let (below_top, past_left) = (row - self.top, column - self.left);
         let on_grid = below_top.is_multiple_of(self.row_pitch) && past_left.is_multiple_of(self.column_pitch);
-        on_grid.then_some(((below_top / self.row_pitch) as usize, (past_left / self.column_pitch) as usize))
+        on_grid.then(|| OnGrid {
+            row,
+            column,
+            grid_row: (below_top / self.row_pitch) as usize,
+            grid_column: (past_left / self.column_pitch) as usize,
+            grid_plane: plane - self.plane,
+        })
     }
 }
 
 impl Action {
-    /// The clipped result for the number x at a row and column of the grid.
-    pub fn apply(&self, grid_row: usize, grid_column: usize, x: f64) -> f64 {
+    /// The clipped result for the number x at a sample of the grid.
+    pub fn apply(&self, at: OnGrid, x: f64) -> f64 {
         clip(match self {
             Action::MapTable(table) => f64::from(table[table_index(x).min(table.len() - 1)]) / 65535.0,
             Action::MapPolynomial(coefficients) => polynomial(coefficients, x),
-            Action::DeltaPerRow(deltas) => x + deltas[grid_row],
-            Action::DeltaPerColumn(deltas) => x + deltas[grid_column],
-            Action::ScalePerRow(scales) => x * scales[grid_row],
-            Action::ScalePerColumn(scales) => x * scales[grid_column],
+            Action::GainMap(map) => x * map.gain(at.row, at.column, at.grid_plane),
+            Action::DeltaPerRow(deltas) => x + deltas[at.grid_row],
+            Action::DeltaPerColumn(deltas) => x + deltas[at.grid_column],
+            Action::ScalePerRow(scales) => x * scales[at.grid_row],
+            Action::ScalePerColumn(scales) => x * scales[at.grid_column],
         })
     }
 }

@@ -5,7 +5,7 @@ mod common;
 use std::ops::Range;
 
 use common::*;
-use reference::builder::{Area, Dng, Opcode, Picture};
+use reference::builder::{Area, Dng, GainMap, Opcode, Picture};
 use reference::bytes::ByteOrder;
 use reference::develop::{accept, Accepted};
 use reference::generate::{generate, generate_valid};
@@ -49,7 +49,9 @@ fn a_great_frame_goes_sample_by_sample_with_the_same_answers() {
     let mut picture = Picture::counting(1_200, 1_000, 1, 8);
     picture.rows_per_strip = 7;
     let area = Area { top: 1, left: 2, row_pitch: 3, column_pitch: 5, ..Area::whole(1_000, 1_200, 1) };
-    let dng = Dng::new(ByteOrder::Big, &picture).with_opcodes(&[Opcode::map_polynomial(area, &[0.1, 0.7])]);
+    let map = Opcode::gain_map(area, &GainMap::spread(&[[0.1, 0.9, 0.3], [1.3, 0.2, 0.7]]));
+    let dng =
+        Dng::new(ByteOrder::Big, &picture).with_opcodes(&[Opcode::map_polynomial(area, &[0.1, 0.7]), map]);
     let file = dng.file();
     let accepted = accept(&file).expect("a good file");
     assert_eq!(bits(&frame_of(&file)), bits(&accepted.whole_frame()));
@@ -97,13 +99,17 @@ fn random_opcode(random: &mut Random) -> Opcode {
     let rows = (area.bottom - area.top).div_ceil(area.row_pitch);
     let columns = (area.right - area.left).div_ceil(area.column_pitch);
     let mut number = |low: i64, high: i64| random.between(low * 1000, high * 1000) as f32 / 1000.0;
-    match number(0, 5) as u32 {
+    match number(0, 6) as u32 {
         0 => Opcode::map_table(area, &[5, 60_000, 300, 20_000]),
         1 => {
             Opcode::map_polynomial(area, &[number(-1, 1).into(), number(-1, 1).into(), number(-1, 1).into()])
         }
         2 => Opcode::per_line(10, area, &(0..rows).map(|_| number(-1, 1)).collect::<Vec<f32>>()),
         3 => Opcode::per_line(11, area, &(0..columns).map(|_| number(-1, 1)).collect::<Vec<f32>>()),
+        4 => {
+            let gains = [(); 2].map(|()| [(); 3].map(|()| number(0, 2)));
+            Opcode::gain_map(area, &GainMap::spread(&gains))
+        }
         _ => Opcode::per_line(12, area, &(0..rows).map(|_| number(0, 2)).collect::<Vec<f32>>()),
     }
 }
@@ -144,7 +150,7 @@ fn a_skipped_opcode_may_change_places_with_any_neighbour() {
     let random = &mut Random::new(23);
     let base = Dng::new(ByteOrder::Little, &Picture::counting(SIDE, SIDE, 3, 8));
     for _ in 0..200 {
-        let (a, skipped) = (random_opcode(random), Opcode::new(9, 1, vec![7; 13]));
+        let (a, skipped) = (random_opcode(random), Opcode::new(14, 1, vec![7; 13]));
         let with = |opcodes: &[Opcode]| frame(&base.clone().with_opcodes(opcodes));
         let alone = with(std::slice::from_ref(&a));
         assert_eq!(bits(&with(&[a.clone(), skipped.clone()])), bits(&alone));

@@ -6,8 +6,9 @@ use reference::bytes::{ByteOrder, Widths};
 use reference::cases::{answer_line, Call, Fingerprint};
 use reference::develop::{accept, Accepted};
 use reference::directory::walk;
+use reference::gain_map::{Axis, GainMap};
 use reference::generate::{generate, generate_valid};
-use reference::opcodes::Opcode;
+use reference::opcodes::{Action, Grid, Opcode};
 use reference::pattern;
 use reference::tag_test::{fine, Tags, LONG, RATIONAL, SHORT, SRATIONAL};
 use reference::{card, colour_window, half_window, spot, window, Answer};
@@ -30,8 +31,8 @@ fn answer(file: &[u8], call: &Call) -> Answer {
 }
 
 /// Of the first 3,000 cases of seed 1: their files and calls, their answers.
-const FILES: Fingerprint = Fingerprint(1433722758376816421);
-const ANSWERS: Fingerprint = Fingerprint(12463398793987382069);
+const FILES: Fingerprint = Fingerprint(17517845584835061728);
+const ANSWERS: Fingerprint = Fingerprint(8403833826180534967);
 
 #[test]
 fn the_first_cases_have_a_known_fingerprint() {
@@ -59,7 +60,7 @@ fn every_kind_of_file_comes_in_both_layouts() {
             of_layouts[layout] += u32::from(case.file.iter().take(4).any(|byte| *byte == mark));
         }
     }
-    assert!(kinds.len() >= 29, "{kinds:?}");
+    assert!(kinds.len() >= 30, "{kinds:?}");
     assert!(kinds.values().all(|of_layouts| of_layouts.iter().all(|count| *count >= 4)), "{kinds:?}");
 }
 
@@ -180,6 +181,69 @@ fn half_size_colour_is_often_accepted() {
     assert_eq!(counts.keys().filter(|kind| kind.starts_with("Pattern")).count(), 12);
     assert_eq!(counts.len(), 12 + 15, "{counts:?}");
     assert!(counts.values().all(|count| *count >= 50), "{counts:?}");
+}
+
+/// The kinds of GainMaps to which one belongs.
+fn kinds_of_gain_map(grid: &Grid, map: &GainMap) -> Vec<&'static str> {
+    let axes = [&map.vertical, &map.horizontal];
+    let several = axes.map(|axis| axis.points > 1);
+    let rows = (grid.top..grid.bottom).step_by(grid.row_pitch as usize);
+    let columns = (grid.left..grid.right).step_by(grid.column_pitch as usize);
+    let mut places: Vec<(f64, f64)> = Vec::new();
+    let mut add = |axis: &Axis, line: u64| {
+        if axis.points > 1 {
+            places.push((axis.place(line), (axis.points - 1) as f64));
+        }
+    };
+    rows.for_each(|row| add(&map.vertical, row));
+    columns.for_each(|column| add(&map.horizontal, column));
+    let any = |met: fn(f64, f64) -> bool| places.iter().any(|(place, last)| met(*place, *last));
+    let kinds = [
+        (several == [false, false], "one point"),
+        (several == [false, true], "one row"),
+        (several == [true, false], "one column"),
+        (several == [true, true], "rows and columns"),
+        (map.planes < grid.planes, "fewer planes"),
+        (map.planes == grid.planes, "as many planes"),
+        (map.planes > grid.planes, "more planes"),
+        (axes.iter().any(|axis| axis.spacing <= 0.0), "spacing not above 0"),
+        (axes.iter().any(|axis| axis.origin < 0.0), "negative origin"),
+        (any(|place, _| place < 0.0), "below the first"),
+        (any(|place, _| place == 0.0), "at the first"),
+        (any(|place, last| place > 0.0 && place < last && place == place.floor()), "on a point"),
+        (any(|place, last| place > 0.0 && place < last && place != place.floor()), "between"),
+        (any(|place, last| place == last), "at the last"),
+        (any(|place, last| place > last), "above the last"),
+        (any(|place, _| place.is_infinite()), "infinite place"),
+        (map.gains.iter().any(|gain| *gain < 0.0), "negative gain"),
+        (map.gains.iter().any(|gain| *gain > 1.0), "gain above 1"),
+        (grid.row_pitch > 1 && grid.rows() > 1, "row pitch"),
+        (grid.top > 0 && grid.left > 0, "grid off the corner"),
+    ];
+    kinds.into_iter().filter(|(met, _)| *met).map(|(_, kind)| kind).collect()
+}
+
+#[test]
+fn gain_maps_of_every_kind_are_accepted_and_refused() {
+    let mut counts: BTreeMap<&str, u32> = BTreeMap::new();
+    let mut faulty: BTreeMap<u32, u32> = BTreeMap::new();
+    for index in 0..4_000 {
+        let case = generate(8, index);
+        if case.label == "gain map" {
+            *faulty.entry(card(&case.file).number).or_default() += 1;
+        }
+        let Ok(accepted) = accept(&case.file) else { continue };
+        for opcode in &accepted.opcodes {
+            if let Opcode::Kept(grid, Action::GainMap(map)) = opcode {
+                kinds_of_gain_map(grid, map)
+                    .into_iter()
+                    .for_each(|kind| *counts.entry(kind).or_default() += 1);
+            }
+        }
+    }
+    println!("{counts:?}, {faulty:?}");
+    assert!(counts.len() == 20 && counts.values().all(|count| *count >= 10), "{counts:?}");
+    assert!([0, 10, 12].iter().all(|number| faulty[number] >= 3), "{faulty:?}");
 }
 
 /// What the level tags of an accepted file say, in 256ths.

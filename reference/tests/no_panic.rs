@@ -3,7 +3,7 @@
 mod common;
 
 use common::*;
-use reference::builder::{Area, Dng, Opcode, Tag};
+use reference::builder::{Area, Dng, GainMap, Opcode, Tag};
 use reference::bytes::LAYOUTS;
 use reference::cases::{answer_line, Call};
 use reference::generate::generate;
@@ -59,7 +59,8 @@ fn subject(dng: Dng, samples: u32) -> Dng {
     let opcodes = [
         Opcode::map_table(area, &[1, 2]),
         Opcode::map_polynomial(Area { row_pitch: 2, ..area }, &[0.5, 0.25]),
-        Opcode::new(9, 1, vec![1, 2]),
+        Opcode::new(14, 1, vec![1, 2]),
+        Opcode::gain_map(area, &GainMap::spread(&[[0.5, 0.25], [0.75, 1.5]])),
         Opcode::per_line(11, area, &[0.5, 0.25]),
     ];
     let samples = samples as usize;

@@ -19,7 +19,7 @@ fn all_answers(file: &[u8]) -> (reference::Card, Vec<u64>, Vec<u64>) {
 fn subject() -> (Dng, OpcodeList) {
     let list = OpcodeList::new(&[
         Opcode::map_polynomial(Area::whole(2, 2, 3), &[0.25, 0.5]),
-        Opcode::new(9, 1, vec![1; 40]),
+        Opcode::new(14, 1, vec![1; 40]),
         Opcode::per_line(12, Area::whole(2, 2, 3), &[0.5, 0.75]),
     ]);
     let dng = linear(4, 4)

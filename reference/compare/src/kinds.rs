@@ -7,12 +7,13 @@ use reference::bytes::ByteOrder;
 use reference::colour;
 use reference::develop::{accept, Accepted};
 use reference::directory::{walk, Tree};
+use reference::gain_map::{Axis, GainMap};
 use reference::opcodes::{Action, FrameSize, Grid, Opcode};
 use reference::pattern::{self, Pattern};
 use reference::tag_test::{fine, Fraction, Tags, IFD8, LONG, LONG8, SHORT, SLONG8, SRATIONAL};
 
 /// Every kind that must occur in each layout.
-const KINDS: [&str; 65] = [
+const KINDS: [&str; 86] = [
     "mosaic 8 II",
     "mosaic 8 MM",
     "mosaic 16 II",
@@ -78,6 +79,27 @@ const KINDS: [&str; 65] = [
     "no block in one row",
     "no block in one column",
     "opcode on one colour",
+    "GainMap",
+    "two GainMaps or more",
+    "GainMap of a mosaic",
+    "GainMap of a LinearRaw",
+    "map of 1 x 1",
+    "map of one row",
+    "map of one column",
+    "map of rows and columns",
+    "64 points",
+    "map planes fewer",
+    "map planes as many",
+    "map planes more",
+    "spacing not above 0",
+    "below the first point",
+    "at the first point",
+    "on a point",
+    "between points",
+    "at the last point",
+    "above the last point",
+    "GainMap between others",
+    "GainMap beside a neighbour apart",
 ];
 
 /// Where the kinds of mosaics' blocks begin.
@@ -98,6 +120,7 @@ impl Kinds {
         let mut kinds = of_frame(&accepted);
         kinds.extend(of_tags(&accepted));
         kinds.extend(of_list(&accepted));
+        kinds.extend(of_gain_maps(&accepted));
         kinds.extend(of_colour(&accepted));
         kinds.extend(of_blocks(&accepted));
         kinds.sort_unstable();
@@ -205,6 +228,7 @@ fn of_action(action: &Action) -> &'static str {
     match action {
         Action::MapTable(_) => "MapTable",
         Action::MapPolynomial(_) => "MapPolynomial",
+        Action::GainMap(_) => "GainMap",
         Action::DeltaPerRow(_) => "DeltaPerRow",
         Action::DeltaPerColumn(_) => "DeltaPerColumn",
         Action::ScalePerRow(_) => "ScalePerRow",
@@ -219,6 +243,83 @@ fn of_grid(grid: &Grid, samples: u64) -> Vec<&'static str> {
         (grid.column_pitch > 1 && grid.columns() > 1, "column pitch"),
         (grid.planes < samples, "some planes"),
     ])
+}
+
+fn is_gain_map(opcode: &Opcode) -> bool {
+    matches!(opcode, Opcode::Kept(_, Action::GainMap(_)))
+}
+
+fn of_gain_maps(accepted: &Accepted) -> Vec<&'static str> {
+    let list = &accepted.opcodes;
+    let mosaic = accepted.size().samples == 1;
+    let maps = list.iter().filter(|opcode| is_gain_map(opcode)).count();
+    let between = |three: &[Opcode]| three.iter().map(is_gain_map).eq([false, true, false]);
+    let beside = |two: &[Opcode]| two.iter().any(is_gain_map) && apart(two);
+    let mut kinds = met([
+        (maps >= 2, "two GainMaps or more"),
+        (maps >= 1 && mosaic, "GainMap of a mosaic"),
+        (maps >= 1 && !mosaic, "GainMap of a LinearRaw"),
+        (list.windows(3).any(between), "GainMap between others"),
+        (list.windows(2).any(beside), "GainMap beside a neighbour apart"),
+    ]);
+    for opcode in list {
+        if let Opcode::Kept(grid, Action::GainMap(map)) = opcode {
+            kinds.extend(of_map(grid, map));
+            kinds.extend(of_places(&map.vertical, rows_of(grid)));
+            kinds.extend(of_places(&map.horizontal, columns_of(grid)));
+        }
+    }
+    kinds
+}
+
+fn rows_of(grid: &Grid) -> impl Iterator<Item = u64> + Clone {
+    (grid.top..grid.bottom).step_by(grid.row_pitch as usize)
+}
+
+fn columns_of(grid: &Grid) -> impl Iterator<Item = u64> + Clone {
+    (grid.left..grid.right).step_by(grid.column_pitch as usize)
+}
+
+/// Two grids that share no sample.
+fn apart(two: &[Opcode]) -> bool {
+    let [Opcode::Kept(a, _), Opcode::Kept(b, _)] = two else {
+        return false;
+    };
+    let rows = rows_of(a).any(|row| rows_of(b).any(|other| other == row));
+    let columns = columns_of(a).any(|column| columns_of(b).any(|other| other == column));
+    let planes = (a.plane..a.plane + a.planes).any(|plane| (b.plane..b.plane + b.planes).contains(&plane));
+    !(rows && columns && planes)
+}
+
+fn of_map(grid: &Grid, map: &GainMap) -> Vec<&'static str> {
+    let axes = [&map.vertical, &map.horizontal];
+    let several = axes.map(|axis| axis.points > 1);
+    met([
+        (several == [false, false], "map of 1 x 1"),
+        (several == [false, true], "map of one row"),
+        (several == [true, false], "map of one column"),
+        (several == [true, true], "map of rows and columns"),
+        (axes.iter().any(|axis| axis.points == 64), "64 points"),
+        (map.planes < grid.planes, "map planes fewer"),
+        (map.planes == grid.planes, "map planes as many"),
+        (map.planes > grid.planes, "map planes more"),
+        (axes.iter().any(|axis| axis.spacing <= 0.0), "spacing not above 0"),
+    ])
+}
+
+/// Where the lines of a grid lie among the points of a map.
+fn of_places(axis: &Axis, lines: impl Iterator<Item = u64>) -> Vec<&'static str> {
+    let last = (axis.points - 1) as f64;
+    let of = |place: f64| match place {
+        _ if place < 0.0 => "below the first point",
+        _ if place == 0.0 => "at the first point",
+        _ if place > last => "above the last point",
+        _ if place == last => "at the last point",
+        _ if place == place.floor() => "on a point",
+        _ => "between points",
+    };
+    let lines = lines.filter(|_| axis.points > 1);
+    lines.map(|line| of(axis.place(line))).collect()
 }
 
 fn of_colour(accepted: &Accepted) -> Option<&'static str> {

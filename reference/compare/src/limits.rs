@@ -4,6 +4,7 @@
 
 mod blacks;
 mod colour;
+mod gain_map;
 mod headers;
 mod lists;
 mod numbers;
@@ -67,6 +68,7 @@ pub fn check(tally: &mut Tally) {
     parameters::check(tally);
     numbers::check(tally);
     values::check(tally);
+    gain_map::check(tally);
     colour::check(tally);
     pattern::check(tally);
     places::check(tally);

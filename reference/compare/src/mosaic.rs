@@ -1,5 +1,5 @@
-//! The 16-bit mosaic that is measured, and the level of one of its samples in
-//! Rust.
+//! The 16-bit mosaic that is measured, and what the measurements share: levels
+//! and the clip in Rust, a plain loop, and the core's window of the whole frame.
 
 use std::hint::black_box;
 
@@ -7,6 +7,9 @@ use reference::builder::{Data, Dng, Picture, Place, Tag};
 use reference::bytes::ByteOrder;
 use reference::random::Random;
 use reference::tag_test::LONG;
+use reference::Answer;
+
+use crate::core;
 
 pub const ROWS: usize = 4_000;
 pub const COLUMNS: usize = 6_000;
@@ -67,4 +70,38 @@ pub fn scaled(sample: &[u8], black: i64, s: i64) -> f64 {
 
 pub fn same_bits(a: &[f64], b: &[f64]) -> bool {
     a.len() == b.len() && a.iter().zip(b).all(|(x, y)| x.to_bits() == y.to_bits())
+}
+
+/// Every sample as an f64, without its level.
+#[inline(never)]
+pub fn plain(stored: &[u8], out: &mut [f64]) {
+    for (value, sample) in out.iter_mut().zip(stored.chunks_exact(2)) {
+        *value = f64::from(u16::from_le_bytes([sample[0], sample[1]])) * (1.0 / 65535.0);
+    }
+}
+
+/// One row of levels, with the black of two columns and S.
+#[inline(never)]
+pub fn levels_of_row(stored: &[u8], black: [i64; 2], s: i64, out: &mut [f64]) {
+    for (column, (value, sample)) in out.iter_mut().zip(stored.chunks_exact(2)).enumerate() {
+        *value = scaled(sample, black[column % 2], s);
+    }
+}
+
+/// Of results on both sides of 1 at random a branch would be costly: both
+/// comparisons choose one of two numbers.
+#[inline(always)]
+pub fn clip(x: f64) -> f64 {
+    let not_below = if x > 0.0 { x } else { 0.0 };
+    if not_below < 1.0 {
+        not_below
+    } else {
+        1.0
+    }
+}
+
+/// The core's window of the whole frame.
+pub fn whole_window(file: &[u8], out: &mut [f64]) {
+    let answer = core::window(black_box(file), 0, 0, ROWS as u64, COLUMNS as u64, out);
+    assert_eq!(answer, Answer::DONE);
 }

@@ -13,6 +13,11 @@ impl Times {
         self.0.push(start.elapsed().as_secs_f64());
     }
 
+    /// The seconds of the last repetition.
+    pub fn last(&self) -> f64 {
+        self.0.last().copied().unwrap_or(f64::NAN)
+    }
+
     pub fn best(&self) -> f64 {
         self.0.iter().copied().fold(f64::INFINITY, f64::min)
     }

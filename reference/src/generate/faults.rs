@@ -1,14 +1,14 @@
 //! Single faults in a valid description, at each limit and one step off it.
 //! Not every edit is a fault: some land on the good side of their limit.
 
-use crate::builder::{pattern_tags, Data, Dng, OpcodeList, Place, Tag, PATTERN_TAGS};
+use crate::builder::{pattern_tags, Data, Dng, OpcodeList, Place, Tag, MAP_GAINS, PATTERN_TAGS};
 use crate::bytes::{ByteOrder, LAYOUTS};
 use crate::random::Random;
 
 use super::colours;
 use super::draft::Draft;
 use super::layouts::WIDE_TYPES;
-use super::lists;
+use super::{gain_maps, lists};
 
 type Fault = fn(&mut Random, &mut Draft);
 
@@ -39,6 +39,8 @@ const FAULTS: &[(&str, Fault)] = &[
     ("opcode area", opcode_area),
     ("opcode numbers", opcode_numbers),
     ("opcode size", opcode_size),
+    ("gain map", gain_map),
+    ("gain map", gain_map),
 ];
 
 /// A valid file with one fault, or now and then two or three.
@@ -402,12 +404,12 @@ fn opcode_header(random: &mut Random, draft: &mut Draft) {
         0 => opcode.id = random.pick(&[0, 6, 7, 8, 9, 10, 11, 12, 13, 14, 0x0700_0000]),
         1 => opcode.version = random.pick(&[0, 0x0107_0100, 0x0107_0101, 0x0108_0000, u32::MAX]),
         2 => opcode.length = Some(random.pick(&[0, 35, 36, length.saturating_sub(1), length + 1, u32::MAX])),
-        _ => opcode.id = 9,
+        _ => opcode.id = random.pick(&[6, 9, 14]),
     }
     opcode.flags = random.pick(&[0, 0, 1, 2, 0xFFFF_FFFE]);
 }
 
-/// One of the nine LONGs changed to a limit or a neighbour of it.
+/// One of the first nine LONGs changed to a limit or a neighbour of it.
 fn opcode_area(random: &mut Random, draft: &mut Draft) {
     let (rows, columns, samples) = (draft.rows, draft.columns, draft.samples());
     let list = list(random, draft);
@@ -427,16 +429,17 @@ fn opcode_numbers(random: &mut Random, draft: &mut Draft) {
     let opcode = &mut list.opcodes[i];
     let (size, patterns): (usize, &[u64]) = match opcode.id {
         8 => (8, &[0x7FF << 52, 0xFFF << 52, 0x7FF8 << 48, 1, (1 << 52) - 1, 1 << 52, 1 << 63, 0x7FEF << 48]),
-        10..=13 => (
+        9..=13 => (
             4,
             &[0x7F80_0000, 0xFF80_0000, 0x7FC0_0000, 1, 0x007F_FFFF, 0x0080_0000, 0x8000_0000, 0x8000_0001],
         ),
         _ => return,
     };
-    if opcode.parameters.len() < 36 + size {
+    let first = if opcode.id == 9 { MAP_GAINS } else { 36 };
+    if opcode.parameters.len() < first + size {
         return;
     }
-    let place = 36 + size * random.index((opcode.parameters.len() - 36) / size);
+    let place = first + size * random.index((opcode.parameters.len() - first) / size);
     let bytes = ByteOrder::Big.spell(random.pick(patterns), size);
     opcode.parameters[place..place + size].copy_from_slice(&bytes);
 }
@@ -447,9 +450,20 @@ fn opcode_size(random: &mut Random, draft: &mut Draft) {
     let (stated, bytes) = match one.id {
         7 => random.pick(&[(0, 0), (1, 2), (3, 6), (3, 5), (3, 8), (65_536, 131_072), (65_537, 131_074)]),
         8 => random.pick(&[(0, 8), (8, 72), (9, 80), (2, 16), (2, 32), (u32::MAX, 0)]),
+        9 => return gain_map(random, draft),
         _ => random.pick(&[(0, 0), (1, 4), (2, 8), (1, 5), (u32::MAX, 4)]),
     };
     let mut one = one.with_long(8, stated);
     one.parameters.resize(36 + bytes, 0);
     list(random, draft).opcodes.push(one);
+}
+
+/// A GainMap with a fault of its own, anywhere in the list.
+fn gain_map(random: &mut Random, draft: &mut Draft) {
+    let area = lists::area(random, draft);
+    let flags = random.pick(&[0, 0, 1]);
+    let one = gain_maps::faulty(random, area, [draft.rows, draft.columns]).with_flags(flags);
+    let list = list(random, draft);
+    let place = random.index(list.opcodes.len() + 1);
+    list.opcodes.insert(place, one);
 }

@@ -1,6 +1,6 @@
 //! Great frames in small files, by strips that overlap.
 
-use crate::builder::{Area, Data, Dng, Opcode, Picture, Place, Tag};
+use crate::builder::{Area, Data, Dng, GainMap, Opcode, Picture, Place, Tag};
 use crate::bytes::ByteOrder;
 use crate::random::Random;
 use crate::tag_test::SHORT;
@@ -29,7 +29,8 @@ pub fn great(random: &mut Random) -> Vec<u8> {
         dng = dng.with(Tag::longs(50829, &[top, left, length, width]));
         frame = Frame { rows: length - top, columns: width - left, ..frame };
     } else {
-        dng = dng.with_opcodes(&[stripes(length, width, samples)]);
+        let polynomial = random.one_in(2);
+        dng = dng.with_opcodes(&[stripes(length, width, samples, polynomial)]);
     }
     levels::choose(random, &mut dng, frame);
     colours::choose(random, &mut dng);
@@ -38,8 +39,11 @@ pub fn great(random: &mut Random) -> Vec<u8> {
     dng.file()
 }
 
-/// A polynomial on every third row and seventh column.
-fn stripes(rows: u32, columns: u32, samples: u32) -> Opcode {
+/// A polynomial, or a GainMap, on every third row and seventh column.
+fn stripes(rows: u32, columns: u32, samples: u32, polynomial: bool) -> Opcode {
     let area = Area { row_pitch: 3, column_pitch: 7, ..Area::whole(rows, columns, samples) };
-    Opcode::map_polynomial(area, &[0.125, 0.5, 0.25])
+    if polynomial {
+        return Opcode::map_polynomial(area, &[0.125, 0.5, 0.25]);
+    }
+    Opcode::gain_map(area, &GainMap::spread(&[[0.1, 0.7, 1.3], [0.9, 0.3, 0.6]]))
 }

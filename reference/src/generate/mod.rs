@@ -5,6 +5,7 @@ mod colours;
 mod damage;
 mod draft;
 mod faults;
+mod gain_maps;
 mod great;
 mod layouts;
 mod levels;

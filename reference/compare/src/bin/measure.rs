@@ -4,7 +4,9 @@
 use std::hint::black_box;
 
 use compare::core;
-use compare::mosaic::{black_and_span, mosaic, same_bits, scaled, stored, COLUMNS, ROWS};
+use compare::mosaic::{
+    black_and_span, clip, levels_of_row, mosaic, plain, same_bits, stored, whole_window, COLUMNS, ROWS,
+};
 use compare::times::{print_ratio, Times};
 use reference::builder::{Area, Opcode};
 use reference::random::Random;
@@ -36,21 +38,6 @@ fn file(stored: &[u8], rows: usize, opcodes: bool) -> Vec<u8> {
 }
 
 #[inline(never)]
-fn plain(stored: &[u8], out: &mut [f64]) {
-    for (value, sample) in out.iter_mut().zip(stored.chunks_exact(2)) {
-        *value = f64::from(u16::from_le_bytes([sample[0], sample[1]])) * (1.0 / 65535.0);
-    }
-}
-
-/// One row of levels, with the black of two columns and S.
-#[inline(never)]
-fn levels_of_row(stored: &[u8], black: [i64; 2], s: i64, out: &mut [f64]) {
-    for (column, (value, sample)) in out.iter_mut().zip(stored.chunks_exact(2)).enumerate() {
-        *value = scaled(sample, black[column % 2], s);
-    }
-}
-
-#[inline(never)]
 fn add(delta: f64, out: &mut [f64]) {
     out.iter_mut().for_each(|value| *value = clip(*value + delta));
 }
@@ -58,17 +45,6 @@ fn add(delta: f64, out: &mut [f64]) {
 #[inline(never)]
 fn cubic([a, b, c, d]: [f64; 4], out: &mut [f64]) {
     out.iter_mut().for_each(|value| *value = clip(((d * *value + c) * *value + b) * *value + a));
-}
-
-#[inline(always)]
-fn clip(x: f64) -> f64 {
-    if x > 0.0 && x < 1.0 {
-        x
-    } else if x >= 1.0 {
-        1.0
-    } else {
-        0.0
-    }
 }
 
 fn levels(stored: &[u8], deltas: Option<&[f32]>, out: &mut [f64]) {
@@ -82,11 +58,6 @@ fn levels(stored: &[u8], deltas: Option<&[f32]>, out: &mut [f64]) {
             cubic(black_box(CUBIC), out);
         }
     }
-}
-
-fn whole_window(file: &[u8], out: &mut [f64]) {
-    let answer = core::window(black_box(file), 0, 0, ROWS as u64, COLUMNS as u64, out);
-    assert_eq!(answer, Answer::DONE);
 }
 
 /// Spots and small windows all over a frame of so many rows, in microseconds.

@@ -6,7 +6,7 @@
 use std::hint::black_box;
 
 use compare::core;
-use compare::mosaic::{black_and_span, mosaic, same_bits, scaled, stored, COLUMNS, ROWS};
+use compare::mosaic::{black_and_span, mosaic, same_bits, scaled, stored, whole_window, COLUMNS, ROWS};
 use compare::times::{print_ratio, Times};
 use reference::builder::Tag;
 use reference::random::Random;
@@ -95,11 +95,6 @@ impl Job {
 fn half_window(file: &[u8], rows: usize, out: &mut [f64]) {
     let out = &mut out[..3 * rows * BLOCK_COLUMNS];
     let answer = core::half_window(black_box(file), 0, 0, rows as u64, BLOCK_COLUMNS as u64, out);
-    assert_eq!(answer, Answer::DONE);
-}
-
-fn whole_window(file: &[u8], out: &mut [f64]) {
-    let answer = core::window(black_box(file), 0, 0, ROWS as u64, COLUMNS as u64, out);
     assert_eq!(answer, Answer::DONE);
 }
 

@@ -360,7 +360,7 @@ fn neighbours(planes: usize) -> [(Tag, Answer); 12] {
         (entry(51009, 1, &[255; 4]), (4, 51009)),
         (Tag::undefined(51009, &[255; 4]), (11, 32)),
         (Tag::undefined(51009, &[0, 0, 0, 1]), (10, 0)),
-        (OpcodeList::new(&[Opcode::new(9, 0, vec![])]).tag(), (11, 0)),
+        (OpcodeList::new(&[Opcode::new(14, 0, vec![])]).tag(), (11, 0)),
         (OpcodeList::new(&[infinite]).tag(), (12, 0)),
     ]
 }

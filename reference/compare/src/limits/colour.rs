@@ -175,7 +175,7 @@ fn order(tally: &mut Tally) {
 
 /// The list before 15, 15 before the colour tags, these before 13, 13 before 14.
 fn before_and_after(tally: &mut Tally) {
-    let list = [Opcode::new(9, 0, vec![])];
+    let list = [Opcode::new(14, 0, vec![])];
     let nan = [good(8, whole()), Opcode::map_polynomial(whole(), &[f64::NAN])];
     let mut rows =
         vec![(framed(MOSAIC), (15, 0)), (coloured(MOSAIC), (15, 0)), (framed(LINEAR), (5, MATRIX.into()))];

@@ -7,8 +7,8 @@ use super::{COLUMNS, DONE, ROWS};
 use crate::tally::Tally;
 
 /// Without their sign: zero, and both ends of the normal numbers.
-const GOOD_FLOATS: [u32; 5] = [0, 0x0080_0000, 0x0080_0001, 0x3F80_0000, 0x7F7F_FFFF];
-const BAD_FLOATS: [u32; 10] = [
+pub const GOOD_FLOATS: [u32; 5] = [0, 0x0080_0000, 0x0080_0001, 0x3F80_0000, 0x7F7F_FFFF];
+pub const BAD_FLOATS: [u32; 10] = [
     1,
     0x80,
     0x0001_0000,
@@ -20,11 +20,11 @@ const BAD_FLOATS: [u32; 10] = [
     0x7FC0_0000,
     0x7FFF_FFFF,
 ];
-const FLOAT_SIGN: u32 = 1 << 31;
+pub const FLOAT_SIGN: u32 = 1 << 31;
 
-const GOOD_DOUBLES: [u64; 5] =
+pub const GOOD_DOUBLES: [u64; 5] =
     [0, 0x0010_0000_0000_0000, 0x0010_0000_0000_0001, 0x3FF0_0000_0000_0000, 0x7FEF_FFFF_FFFF_FFFF];
-const BAD_DOUBLES: [u64; 13] = [
+pub const BAD_DOUBLES: [u64; 13] = [
     1,
     0xFFFF_FFFF,
     0x0000_0001_0000_0000,
@@ -39,7 +39,7 @@ const BAD_DOUBLES: [u64; 13] = [
     0x7FFF_FFFF_0000_0000,
     0x7FFF_FFFF_FFFF_FFFF,
 ];
-const DOUBLE_SIGN: u64 = 1 << 63;
+pub const DOUBLE_SIGN: u64 = 1 << 63;
 
 /// Every case of an opcode's numbers.
 pub fn check(tally: &mut Tally) {
@@ -49,7 +49,7 @@ pub fn check(tally: &mut Tally) {
 }
 
 /// A row of numbers, good (DONE) and bad (12), with both signs.
-fn signed<T: Copy + std::ops::BitOr<Output = T>>(good: &[T], bad: &[T], sign: T) -> Vec<(T, u32)> {
+pub fn signed<T: Copy + std::ops::BitOr<Output = T>>(good: &[T], bad: &[T], sign: T) -> Vec<(T, u32)> {
     let good = good.iter().map(|bits| (*bits, 0));
     let numbers: Vec<(T, u32)> = good.chain(bad.iter().map(|bits| (*bits, 12))).collect();
     numbers.iter().flat_map(|(bits, number)| [(*bits, *number), (*bits | sign, *number)]).collect()

@@ -175,7 +175,7 @@ fn pitches_and_counts(tally: &mut Tally) {
             let area = Area { row_pitch, column_pitch, ..whole() };
             for count in [1, ROWS, COLUMNS] {
                 let mut one = good(id, area);
-                if id > 8 {
+                if id > 9 {
                     one = one.with_long(8, count);
                     one.parameters.resize(36 + 4 * count as usize, 0);
                 }
@@ -215,6 +215,8 @@ fn sizes(tally: &mut Tally) {
         let rows = match id {
             7 => tables.to_vec(),
             8 => degrees.clone(),
+            // A GainMap's points and planes stand with its other limits.
+            9 => Vec::new(),
             _ => counts.to_vec(),
         };
         rows.into_iter().map(move |row| (id, row))

@@ -330,7 +330,7 @@ fn in_file(answer: Answer, change: impl Fn(Dng) -> Dng + 'static) -> Fault {
 fn list_faults() -> Vec<Fault> {
     let lists = [
         ((10, 0), vec![good(8, whole()).with_long(6, 0)]),
-        ((11, 0), vec![Opcode::new(9, 0, vec![])]),
+        ((11, 0), vec![Opcode::new(14, 0, vec![])]),
         ((12, 1), vec![good(8, whole()), Opcode::map_polynomial(whole(), &[f64::NAN])]),
     ];
     lists.into_iter().map(|(answer, list)| in_file(answer, move |dng| dng.with_opcodes(&list))).collect()

@@ -59,7 +59,7 @@ const WRAPPING: [[u64; 2]; 8] = [
 /// Every case of 13 and 14.
 pub fn check(tally: &mut Tally) {
     for (base, samples) in [(MOSAIC, 1), (LINEAR, 3)] {
-        let list = [good(8, whole()), Opcode::new(99, 1, vec![]), good(13, whole())];
+        let list = [good(8, whole()), Opcode::new(99, 1, vec![]), good(9, whole()), good(13, whole())];
         let dng = framed(base)
             .with_opcodes(&list)
             .with_pattern([1, 0, 2, 1])
