@@ -15,10 +15,10 @@ use Rattle.levels.specs.Clip.{clipOf}
 use Rattle.opcodes.specs.Grid.{gridOf, fitsOf}
 use Rattle.opcodes.specs.Step.{resultOf, appliedOf}
 use Rattle.opcodes.specs.GainMap.{placeOf, wholeOf, restOf, betweenOf, alongOf, gainOf, gainMapOf, gainMapLegal}
-use Rattle.opcodes.specs.Spot.{GainMap-in, cellOf}
+use Rattle.opcodes.specs.Bracket.{GainMap-in, cornersOf}
 use Rattle.opcodes.specs.OpcodeList.{refusedIn, gainMapFault}
-use Rattle.opcodes.specs.declared.gain_map.Cell.{Cell}
-use Rattle.opcodes.specs.declared.gain_map.Spot.the-variants.{At}
+use Rattle.opcodes.specs.declared.gain_map.Corners.{Corners}
+use Rattle.opcodes.specs.declared.gain_map.Bracket.the-variants.{At}
 use Rattle.opcodes.specs.declared.step.Step.the-variants.{Scale}
 use Rattle.opcodes.proofs.GainMaps.{map-accepted}
 use Rattle.board.specs.Board.{bits, board, example, quarter, shading, four-by-four, rowPlace, columnPlace}
@@ -53,23 +53,23 @@ pub column-counted : Counted columnPlace
 unfolding lt placeOf gainMapOf numberOf bigOf realOf ofBits ofInt toUnsigned add sub div
 column-counted = (tt, tt, omega arith)
 
-abbrev pub corners : Cell
-corners = cellOf (gainMapOf shading) (At 0) 0 0
+abbrev pub four-gains : Corners
+four-gains = cornersOf (gainMapOf shading) (At 0) 0 0
 
 abbrev pub gainThere : Float
 gainThere = gainOf (gainMapOf shading) four-by-four 1 2 0
 
-pub corner-numbers : Number (corners .«upper_left») × Number (corners .«upper_right») × Number (corners .«lower_left») × Number (corners .«lower_right»)
-unfolding isNan cellOf gainMapOf numberOf bigOf realOf ofBits pick
-corner-numbers = (tt, tt, tt, tt)
+pub gain-numbers : Number (four-gains .«upper_left») × Number (four-gains .«upper_right») × Number (four-gains .«lower_left») × Number (four-gains .«lower_right»)
+unfolding isNan cornersOf gainMapOf numberOf bigOf realOf ofBits pick
+gain-numbers = (tt, tt, tt, tt)
 
 pub gained-numbers : Number gainThere × Number (appliedOf (Scale gainThere) shading quarter)
 unfolding isNan appliedOf resultOf clipOf gainOf alongOf betweenOf placeOf gainMapOf numberOf bigOf realOf ofBits ofInt toUnsigned add sub mul div le pick
 gained-numbers = (tt, tt)
 
 pub values-hold :
-    bits (corners .«upper_left») ∷ bits (corners .«upper_right») ∷ bits (corners .«lower_left») ∷ bits (corners .«lower_right»)
+    bits (four-gains .«upper_left») ∷ bits (four-gains .«upper_right») ∷ bits (four-gains .«lower_left») ∷ bits (four-gains .«lower_right»)
     ∷ bits gainThere ∷ bits (appliedOf (Scale gainThere) shading quarter) ∷ [] ≡ example 12
-unfolding board example cellOf appliedOf resultOf clipOf gainOf alongOf betweenOf placeOf gainMapOf numberOf bigOf realOf ofBits toBits ofInt toUnsigned add sub mul
+unfolding board example cornersOf appliedOf resultOf clipOf gainOf alongOf betweenOf placeOf gainMapOf numberOf bigOf realOf ofBits toBits ofInt toUnsigned add sub mul
     div le pick
 values-hold = refl

@@ -1,4 +1,4 @@
--- A GainMap's spots, cells and rules by the code's tests.
+-- A GainMap's brackets, corners and rules by the code's tests.
 -- Assumes nothing.
 use mathlib.Core.Path.{_≡_, refl, sym, ap, _∙_, subst}
 use mathlib.Core.Bool.{Bool, true, false, not, cond, _&&_, _||_, true≢false}
@@ -20,20 +20,21 @@ use Rattle.reading.specs.Reading.{pick}
 use Rattle.reading.specs.declared.number.Order.the-variants.{Big}
 use Rattle.levels.specs.Clip.{plusZero}
 use Rattle.opcodes.specs.Grid.{longOf, gridOf, fitsOf, Fits-in}
-use Rattle.opcodes.specs.GainMap.{GainMap, floatOf, placeOf, wholeOf, restOf, betweenOf, alongOf, gainOf, doubleIn, floatIn, planesIn}
+use Rattle.opcodes.specs.Step.{floatIn, doubleIn}
+use Rattle.opcodes.specs.GainMap.{GainMap, floatOf, placeOf, wholeOf, restOf, betweenOf, alongOf, gainOf, planesIn}
 use Rattle.opcodes.specs.GainMap.{gainMapOf, gainsIn, aboveAt, axisLegal, gainMapLegal}
-use Rattle.opcodes.specs.Spot.{GainMap-in, pointOf, takenOf, Spot-at, Spot-of, Spot-in, nextOf, gainIn, cellOf, cellGain}
+use Rattle.opcodes.specs.Bracket.{GainMap-in, pointOf, takenOf, Bracket-at, Bracket-of, Bracket-in, nextOf, gainIn, cornersOf, cornersGain}
 use Rattle.opcodes.specs.OpcodeList.{refusedAt, refusedIn, plainFault, gainMapFault, faultOf}
 use Rattle.opcodes.specs.declared.grid.Size.{Size}
 use Rattle.opcodes.specs.declared.grid.Grid.{Grid}
 use Rattle.opcodes.specs.declared.gain_map.Axis.{Axis}
-use Rattle.opcodes.specs.declared.gain_map.Cell.{Cell}
-use Rattle.opcodes.specs.declared.gain_map.Spot.{Spot}
-use Rattle.opcodes.specs.declared.gain_map.Spot.the-variants.{At, Between}
+use Rattle.opcodes.specs.declared.gain_map.Corners.{Corners}
+use Rattle.opcodes.specs.declared.gain_map.Bracket.{Bracket}
+use Rattle.opcodes.specs.declared.gain_map.Bracket.the-variants.{At, Between}
 use Rattle.opcodes.proofs.OpcodeLists.{and-true, fits-in}
 use Rattle.opcodes.proofs.Places.{or-false, real-finite, real-positive, between-less, between-low, between-high, between-whole}
 
--- ---- a spot by the code's tests
+-- ---- a bracket by the code's tests
 module _ (points : ℕ) (p : Float) (g : ℕ → Float) where
   pub along-one : points ≡ 1 → g 0 ≡ alongOf points p g
   unfolding alongOf pick
@@ -53,7 +54,7 @@ module _ (points : ℕ) (p : Float) (g : ℕ → Float) where
       unfolding alongOf pick
       along-between b = rw (ne-eqb points 1 h, a, b)
 
--- ---- a cell
+-- ---- the corners
 module _ (points k : ℕ) where
   pub next-more : k + 1 < points → k + 1 ≡ nextOf points k
   unfolding pick
@@ -85,8 +86,8 @@ module _ (points k : ℕ) (p : Float) (h : k < points) (few : points ≤ 64) whe
         go true q = rw q
         go false q = absurd (let w : n ≡ k = rw q in omega arith)
 
-    pub spot-near : Spot-at points p (Between k (sub binary64 p (floatOf k))) × (k + 1 < points)
-    spot-near =
+    pub bracket-near : Bracket-at points p (Between k (sub binary64 p (floatOf k))) × (k + 1 < points)
+    bracket-near =
         let m : n < points = next-below points k n h refl in
         let i : n ≤ 65536 = omega arith in
         let j : k ≤ 65536 = omega arith in
@@ -97,26 +98,26 @@ module _ (points k : ℕ) (p : Float) (h : k < points) (few : points ≤ 64) whe
         let more : points ≡ 1 → ⊥ = λ o. omega arith in
         (λ g. ap (λ (x : ℕ). betweenOf (sub binary64 p (floatOf x)) (g x) (g (x + 1))) (sym w) ∙ along-between points p g more low high, omega arith)
 
-pub point-below : (points : ℕ) (s : Spot) → Spot-in points s → pointOf s < points
+pub point-below : (points : ℕ) (s : Bracket) → Bracket-in points s → pointOf s < points
 point-below points (At k) h = h
 point-below points (Between k f) h = omega arith
 
 -- the next point counts only between two points
-taken-next : (points : ℕ) (s : Spot) (a : Float) (g : ℕ → Float) → Spot-in points s →
+taken-next : (points : ℕ) (s : Bracket) (a : Float) (g : ℕ → Float) → Bracket-in points s →
     takenOf s a (g (nextOf points (pointOf s))) ≡ takenOf s a (g (pointOf s + 1))
 taken-next points (At k) a g h = refl
 taken-next points (Between k f) a g h = ap (λ (n : ℕ). betweenOf f a (g n)) (sym (next-more points k h))
 
-module _ (m : GainMap) (down : Spot) (q k i l r : ℕ) (a b c d : Float) where
-  pub cell-read : i ≡ pointOf down → l ≡ nextOf (m .down .points) i → r ≡ nextOf (m .across .points) k →
+module _ (m : GainMap) (down : Bracket) (q k i l r : ℕ) (a b c d : Float) where
+  pub corners-read : i ≡ pointOf down → l ≡ nextOf (m .down .points) i → r ≡ nextOf (m .across .points) k →
       a ≡ m .gains i k q → b ≡ m .gains i r q → c ≡ m .gains l k q → d ≡ m .gains l r q →
       record { point = k; from = floatOf k; to = floatOf r; «upper_left» = a; «upper_right» = b; «lower_left» = c; «lower_right» = d }
-      ≡ cellOf m down q k
-  unfolding cellOf
-  cell-read e f g s t u v = rw (s, t, u, v, f, g, e)
+      ≡ cornersOf m down q k
+  unfolding cornersOf
+  corners-read e f g s t u v = rw (s, t, u, v, f, g, e)
 
--- the gain of the cell at a column's spot is the gain in the column
-module _ (m : GainMap) (down across : Spot) (q columns c : ℕ) (here : Spot-of (m .across) columns c across) where
+-- the gain between the corners at a column's bracket is the gain in the column
+module _ (m : GainMap) (down across : Bracket) (q columns c : ℕ) (here : Bracket-of (m .across) columns c across) where
   abbrev left : ℕ → Float
   left i = m .gains i (pointOf across) q
 
@@ -126,10 +127,10 @@ module _ (m : GainMap) (down across : Spot) (q columns c : ℕ) (here : Spot-of 
   abbrev along : ℕ → Float
   along i = alongOf (m .across .points) (placeOf (m .across) columns c) (λ (k : ℕ). m .gains i k q)
 
-  cell-in : Spot-in (m .down .points) down → Spot-in (m .across .points) across →
-      cellGain (cellOf m down q (pointOf across)) down across ≡ gainIn m down q columns c
-  unfolding cellOf gainIn
-  cell-in d a =
+  corners-in : Bracket-in (m .down .points) down → Bracket-in (m .across .points) across →
+      cornersGain (cornersOf m down q (pointOf across)) down across ≡ gainIn m down q columns c
+  unfolding cornersOf gainIn
+  corners-in d a =
       let row : (i : ℕ) → takenOf across (left i) (right i) ≡ along i =
       λ i. taken-next (m .across .points) across (left i) (λ (k : ℕ). m .gains i k q) a ∙ here (λ (k : ℕ). m .gains i k q) in
       let i = pointOf down in
@@ -137,27 +138,27 @@ module _ (m : GainMap) (down across : Spot) (q columns c : ℕ) (here : Spot-of 
       ap (λ (x : Float). takenOf down x (takenOf across (left n) (right n))) (row i) ∙ ap (takenOf down (along i)) (row n)
       ∙ taken-next (m .down .points) down (along i) along d
 
-  -- of a cell that was read
-  pub cell-found : (cell : Cell) (k : ℕ) (g : Float) → cell ≡ cellOf m down q k → k ≡ pointOf across → g ≡ cellGain cell down across →
-      Spot-in (m .down .points) down → Spot-in (m .across .points) across → g ≡ gainIn m down q columns c
-  cell-found cell k g e f h d a =
-      h ∙ ap (λ (x : Cell). cellGain x down across) e ∙ ap (λ (n : ℕ). cellGain (cellOf m down q n) down across) f ∙ cell-in d a
+  -- of corners that were read
+  pub corners-found : (corners : Corners) (k : ℕ) (g : Float) → corners ≡ cornersOf m down q k → k ≡ pointOf across → g ≡ cornersGain corners down across →
+      Bracket-in (m .down .points) down → Bracket-in (m .across .points) across → g ≡ gainIn m down q columns c
+  corners-found corners k g e f h d a =
+      h ∙ ap (λ (x : Corners). cornersGain x down across) e ∙ ap (λ (n : ℕ). cornersGain (cornersOf m down q n) down across) f ∙ corners-in d a
 
--- a cell says where it stands
-module _ (m : GainMap) (down : Spot) (q k : ℕ) (cell : Cell) (e : cell ≡ cellOf m down q k) where
-  pub cell-point : cell .point ≡ k
-  unfolding cellOf
-  cell-point = ap (λ (x : Cell). x .point) e
+-- corners say where they stand
+module _ (m : GainMap) (down : Bracket) (q k : ℕ) (corners : Corners) (e : corners ≡ cornersOf m down q k) where
+  pub corners-point : corners .point ≡ k
+  unfolding cornersOf
+  corners-point = ap (λ (x : Corners). x .point) e
 
-  pub cell-own : cell ≡ cellOf m down q (cell .point)
-  cell-own = e ∙ ap (cellOf m down q) (sym cell-point)
+  pub corners-own : corners ≡ cornersOf m down q (corners .point)
+  corners-own = e ∙ ap (cornersOf m down q) (sym corners-point)
 
-  pub cell-sides : (cell .from ≡ floatOf k) × (cell .to ≡ floatOf (nextOf (m .across .points) k))
-  unfolding cellOf
-  cell-sides = (ap (λ (x : Cell). x .from) e, ap (λ (x : Cell). x .to) e)
+  pub corners-sides : (corners .from ≡ floatOf k) × (corners .to ≡ floatOf (nextOf (m .across .points) k))
+  unfolding cornersOf
+  corners-sides = (ap (λ (x : Corners). x .from) e, ap (λ (x : Corners). x .to) e)
 
--- and with the row's own spot the gain at the sample
-pub gain-in : (m : GainMap) (z : Size) (r c j : ℕ) (down : Spot) (q : ℕ) → Spot-of (m .down) (z .rows) r down → q ≡ min j (m .planes - 1) →
+-- and with the row's own bracket the gain at the sample
+pub gain-in : (m : GainMap) (z : Size) (r c j : ℕ) (down : Bracket) (q : ℕ) → Bracket-of (m .down) (z .rows) r down → q ≡ min j (m .planes - 1) →
     gainIn m down q (z .columns) c ≡ gainOf m z r c j
 unfolding gainOf gainIn
 gain-in m z r c j down q h e =
@@ -284,21 +285,19 @@ module _ (z : Size) (ps : List ℕ) where
         unfolding gainMapFault pick
         map-inexact c = rw (le-leb 76 (length ps) h, a, b, c)
 
-        map-numbers : eqb (length ps) bytes ≡ true → (r : Bool) → wrong ≡ r → pick r 12 0 ≡ gainMapFault z ps
+        map-numbers : eqb (length ps) bytes ≡ true → pick wrong 12 0 ≡ gainMapFault z ps
         unfolding gainMapFault pick
-        map-numbers c r e = rw (le-leb 76 (length ps) h, a, b, c, e)
+        map-numbers c = rw (le-leb 76 (length ps) h, a, b, c)
 
         -- of a number of gains that was counted
         module _ (n : ℕ) (k : n ≡ gainsIn ps) where
           pub map-other : (length ps ≡ 76 + 4 * n → ⊥) → 10 ≡ gainMapFault z ps
           map-other c = map-inexact (ne-eqb (length ps) bytes (λ e. c (e ∙ ap (λ (m : ℕ). 76 + 4 * m) (sym k))))
 
-          pub map-read : length ps ≡ 76 + 4 * n → (r : Bool) → (refusedIn 8 ps 40 4 || refusedIn 4 ps 76 n) ≡ r → pick r 12 0 ≡ gainMapFault z ps
-          map-read c r e = map-numbers (eq-eqb (length ps) bytes (c ∙ ap (λ (m : ℕ). 76 + 4 * m) k)) r (rw k at e)
-
-  -- of a grid that was read
-  pub map-fits : (g : Grid) → ((n : ℕ) → 32 ≤ n → g ≡ gridOf (part ps 0 n)) → 76 ≤ length ps → (b : Bool) → fitsOf z g ≡ b → fitsOf z (gridOf ps) ≡ b
-  map-fits g e h b t = let q : g ≡ gridOf ps = e (length ps) (omega arith) ∙ ap gridOf (take-length ps) in rw (← q) t
+          pub map-read : length ps ≡ 76 + 4 * n → (r : Bool) → r ≡ (refusedIn 8 ps 40 4 || refusedIn 4 ps 76 n) → pick r 12 0 ≡ gainMapFault z ps
+          map-read c r e =
+              let w : r ≡ wrong = e ∙ ap (λ (m : ℕ). refusedIn 8 ps 40 4 || refusedIn 4 ps 76 m) k in
+              ap (λ (b : Bool). pick b 12 0) w ∙ map-numbers (eq-eqb (length ps) bytes (c ∙ ap (λ (m : ℕ). 76 + 4 * m) k))
 
   -- ---- what an accepted map's parameters are
   pub record Map-accepted : Type 0 where
@@ -350,7 +349,7 @@ module _ (z : Size) (ps : List ℕ) where
       go true false c d r h k l m w = absurd (no 10 (map-grid (leb-true 76 (length ps) h) k) (omega arith))
       go true true false d r h k l m w = absurd (no 10 (map-illegal (leb-true 76 (length ps) h) k l) (omega arith))
       go true true true false r h k l m w = absurd (no 10 (map-inexact (leb-true 76 (length ps) h) k l m) (omega arith))
-      go true true true true true h k l m w = absurd (no 12 (map-numbers (leb-true 76 (length ps) h) k l m true w) (omega arith))
+      go true true true true true h k l m w = absurd (no 12 (sym (ap (λ (r : Bool). pick r 12 0) w) ∙ map-numbers (leb-true 76 (length ps) h) k l m) (omega arith))
       go true true true true false h k l m w =
           record { grid = fits-in z (gridOf ps) k; map = numbers-in (legal-in ps l) w (eqb-true (length ps) bytes m) }
 

@@ -1,24 +1,24 @@
 -- The list's definitions by the code's tests.
 -- Assumes nothing.
-use mathlib.Core.Path.{_≡_, refl, sym, ap}
+use mathlib.Core.Path.{_≡_, refl, sym, ap, _∙_}
 use mathlib.Core.Bool.{Bool, true, false, _&&_, _||_, true≢false}
-use mathlib.Core.Logic.{_⊎_, inl, inr, ⊎-elim}
+use mathlib.Core.Logic.{_⊎_, inl, inr}
 use mathlib.Core.List.{List}
 use Prim.Native.Nat.{ℕ, zero, suc, _+_, _*_, _-_, _%_, _≤_, _<_}
 use native.Mathlib.Nat.{mul-suc}
 use native.Mathlib.Omega.{arith}
 use lib.Dec.{eqb, leb}
-use lib.Ieee.{binary32, binary64}
 use lib.ListN.{length}
-use borrow.Author.Tests.{le-leb, lt-leb, ltb-true, leb-true, eq-eqb, ne-eqb, eqb-true}
+use lib.Seq.{take-length}
+use borrow.Author.Tests.{le-leb, lt-leb, ltb-true, leb-true, eqb-true}
 use Rattle.reading.specs.Bytes.{part}
 use Rattle.reading.specs.Reading.{pick}
 use Rattle.reading.specs.Number.{numberOf}
-use Rattle.reading.specs.Real.{realOf}
 use Rattle.reading.specs.declared.number.Order.the-variants.{Big}
 use Rattle.reading.proofs.Bytes.{part-part}
 use Rattle.opcodes.specs.Grid.{longOf, gridOf, fitsOf, Fits-in}
-use Rattle.opcodes.specs.OpcodeList.{countOf, exactOf, plainFault, refusedReal, listedId, classOf, rowsOf, columnsOf, tableForm, polynomialForm, linesForm, formOf, refusedAt, refusedIn}
+use Rattle.opcodes.specs.OpcodeList.{listedId, classOf, countOf, rowsOf, columnsOf, tableForm, polynomialForm, linesForm, formOf}
+use Rattle.opcodes.specs.OpcodeList.{refusedAt, refusedIn, exactOf, plainFault}
 use Rattle.opcodes.specs.declared.grid.Size.{Size}
 use Rattle.opcodes.specs.declared.grid.Grid.{Grid}
 use Rattle.opcodes.specs.declared.list.Header.{Header}
@@ -94,10 +94,14 @@ module _ (z : Size) (id : ℕ) (ps : List ℕ) where
       unfolding plainFault pick
       fault-form b = rw (le-leb 36 (length ps) h, a, b)
 
-      pub fault-numbers : exactOf (formOf (gridOf ps) id (countOf ps)) (length ps) ≡ true →
-          (r : Bool) → refusedIn (formOf (gridOf ps) id (countOf ps) .width) ps 36 (formOf (gridOf ps) id (countOf ps) .numbers) ≡ r → pick r 12 0 ≡ plainFault z id ps
-      unfolding plainFault pick
-      fault-numbers b r e = rw (le-leb 36 (length ps) h, a, b, e)
+      -- of a form that was found
+      module _ (m : Form) (f : m ≡ formOf (gridOf ps) id (countOf ps)) where
+        pub fault-inexact : exactOf m (length ps) ≡ false → 10 ≡ plainFault z id ps
+        fault-inexact b = fault-form (rw (← f) b)
+
+        pub fault-numbers : exactOf m (length ps) ≡ true → (r : Bool) → r ≡ refusedIn (m .width) ps 36 (m .numbers) → pick r 12 0 ≡ plainFault z id ps
+        unfolding plainFault pick
+        fault-numbers b r e = rw (le-leb 36 (length ps) h, a, ← f, b, e)
 
 pub and-true : (a b : Bool) → (a && b) ≡ true → (a ≡ true) × (b ≡ true)
 and-true true b h = (refl, h)
@@ -124,33 +128,17 @@ fits-in z g e =
       column-pitch = leb-true _ _ (s .1);
     }
 
+-- the grid that was read in an opcode's own bytes
+module _ (ps : List ℕ) (g : Grid) (h : 32 ≤ length ps) (e : (n : ℕ) → 32 ≤ n → g ≡ gridOf (part ps 0 n)) where
+  pub own-grid : g ≡ gridOf ps
+  own-grid = e (length ps) h ∙ ap gridOf (take-length ps)
+
+  pub own-fits : (z : Size) (b t : Bool) → b ≡ fitsOf z g → b ≡ t → fitsOf z (gridOf ps) ≡ t
+  own-fits z b t f k = ap (fitsOf z) (sym own-grid) ∙ sym f ∙ k
+
 -- the numbers of an opcode's own bytes, as they stand in the file
 pub long-part : (f : List ℕ) (at n k : ℕ) → k + 4 ≤ n → longOf f (at + k) ≡ longOf (part f at n) k
 long-part f at n k h = ap (numberOf Big) (sym (part-part f at n k 4 h))
-
-module _ (f : List ℕ) (at len : ℕ) where
-  refused-one : (w p : ℕ) → (w ≡ 4) ⊎ (w ≡ 8) → p + w ≤ len → refusedAt w f (at + p) ≡ refusedAt w (part f at len) p
-  unfolding pick
-  refused-one w p k h = ⊎-elim four eight k
-    where
-      four : w ≡ 4 → refusedAt w f (at + p) ≡ refusedAt w (part f at len) p
-      four e =
-          let n : eqb w 8 ≡ false = ne-eqb w 8 (λ m. omega arith) in
-          rw n (ap (λ (bs : List ℕ). refusedReal (realOf binary32 (numberOf Big bs))) (sym (part-part f at len p 4 (omega arith))))
-
-      eight : w ≡ 8 → refusedAt w f (at + p) ≡ refusedAt w (part f at len) p
-      eight e =
-          let n : eqb w 8 ≡ true = eq-eqb w 8 e in
-          rw n (ap (λ (bs : List ℕ). refusedReal (realOf binary64 (numberOf Big bs))) (sym (part-part f at len p 8 (omega arith))))
-
-  pub refused-part : (w n p : ℕ) → (0 < n → (w ≡ 4) ⊎ (w ≡ 8)) → p + w * n ≤ len → refusedIn w f (at + p) n ≡ refusedIn w (part f at len) p n
-  unfolding refusedIn
-  refused-part w zero p k h = refl
-  refused-part w (suc n) p k h =
-      let e : p + w + w * n ≤ len = omega (arith, mul-suc w n) in
-      let l : p + w ≤ len = omega arith in
-      let q : at + p + w ≡ at + (p + w) = omega arith in
-      rw (refused-one w p (k (omega arith)) l, q, refused-part w n (p + w) (λ _. k (omega arith)) e)
 
 -- what a form has behind the LONG: numbers of 4 or 8 bytes, inside its bytes
 pub record Form-in (m : Form) : Type 0 where

@@ -4,15 +4,14 @@ use mathlib.Core.Bool.{Bool, _&&_, _||_}
 use mathlib.Core.List.{List}
 use lib.Dec.{leb, eqb}
 use lib.IntN.{pos}
-use lib.Ieee.{Float, binary32, binary64, ofInt, ofBits, toUnsigned, lt, le, add, sub, mul, div}
+use lib.Ieee.{Float, binary64, ofInt, ofBits, toUnsigned, lt, le, add, sub, mul, div}
 use Rattle.reading.specs.Bytes.{part}
 use Rattle.reading.specs.Number.{numberOf}
 use Rattle.reading.specs.Reading.{pick}
-use Rattle.reading.specs.Real.{realOf}
 use Rattle.reading.specs.declared.number.Order.the-variants.{Big}
 use Rattle.levels.specs.Clip.{plusZero, one}
 use Rattle.opcodes.specs.Grid.{longOf}
-use Rattle.opcodes.specs.Step.{half, valueOf}
+use Rattle.opcodes.specs.Step.{half, floatIn, doubleIn}
 use Rattle.opcodes.specs.declared.grid.Size.{Size}
 use Rattle.opcodes.specs.declared.gain_map.Axis.{Axis}
 
@@ -59,12 +58,6 @@ gainOf m z r c j =
 
 -- ---- the parameters: "After the common eight numbers stand MapPointsV, MapPointsH (LONG, 1 to 64), MapSpacingV, MapSpacingH,
 -- MapOriginV, MapOriginH (DOUBLE), MapPlanes (LONG, at least 1) and the gains (FLOAT; row, column, plane)."
-abbrev pub doubleIn : List ℕ → ℕ → Float
-doubleIn ps p = valueOf (realOf binary64 (numberOf Big (part ps p 8)))
-
-abbrev pub floatIn : List ℕ → ℕ → Float
-floatIn ps p = valueOf (realOf binary32 (numberOf Big (part ps p 4)))
-
 abbrev pub axisOf : List ℕ → ℕ → ℕ → ℕ → Axis
 axisOf ps points spacing origin = record { points = longOf ps points; spacing = doubleIn ps spacing; origin = doubleIn ps origin }
 

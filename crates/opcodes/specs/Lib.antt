@@ -1,7 +1,7 @@
 pub mod Grid
 pub mod Step
 pub mod GainMap
-pub mod Spot
+pub mod Bracket
 pub mod Opcode
 pub mod Frame
 pub mod OpcodeList

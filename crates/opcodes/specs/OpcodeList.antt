@@ -16,7 +16,7 @@ use Rattle.levels.specs.Run.{runOf}
 use Rattle.levels.specs.Table.{tableOf}
 use Rattle.directory.specs.Out.{Out, Out.refused, Out.is, bind}
 use Rattle.opcodes.specs.Grid.{longOf, linesOf, gridOf, fitsOf}
-use Rattle.opcodes.specs.Step.{valueOf, coefficientsOf}
+use Rattle.opcodes.specs.Step.{floatIn, coefficientsOf}
 use Rattle.opcodes.specs.GainMap.{gainMapOf, gainMapLegal, gainsIn}
 use Rattle.opcodes.specs.Opcode.{row, column, Kind, table, polynomial, delta, scale, gain, Opcode, skipped, kept}
 use Rattle.opcodes.specs.declared.grid.Size.{Size}
@@ -109,7 +109,7 @@ faultOf z id ps = pick (eqb id 9) (gainMapFault z ps) (plainFault z id ps)
 
 -- n FLOATs
 abbrev pub floatsOf : List ℕ → ℕ → ℕ → List Float
-floatsOf f at n = runOf (λ (p : ℕ). valueOf (realOf binary32 (numberOf Big (part f p 4)))) 4 at n
+floatsOf f at n = runOf (floatIn f) 4 at n
 
 unfoldable pub kindOf : Size → ℕ → List ℕ → Kind
 kindOf z id ps =

@@ -4,7 +4,7 @@ use mathlib.Core.Bool.{true, false}
 use mathlib.Core.List.{List, [], _∷_}
 use lib.IntN.{pos, negsuc}
 use lib.ListN.{length, getD}
-use lib.Ieee.{Float, fin, binary64, add, mul, toUnsigned}
+use lib.Ieee.{Float, fin, binary32, binary64, add, mul, toUnsigned}
 use Rattle.reading.specs.Bytes.{part}
 use Rattle.reading.specs.Number.{numberOf}
 use Rattle.reading.specs.Real.{realOf}
@@ -69,13 +69,20 @@ StepIn f (Scale s) = Unit {0}
 StepIn f (Polynomial a0 a1 a2 a3 a4 a5 a6 a7 a8) = Unit {0}
 StepIn f (Table at) = TableIn f at
 
--- the n DOUBLEs from a place on
+-- an accepted FLOAT or DOUBLE at a place
 abbrev pub valueOf : Real → Float
 valueOf real.Refused = plusZero
 valueOf (real.Value x) = x
 
+abbrev pub floatIn : List ℕ → ℕ → Float
+floatIn f p = valueOf (realOf binary32 (numberOf Big (part f p 4)))
+
+abbrev pub doubleIn : List ℕ → ℕ → Float
+doubleIn f p = valueOf (realOf binary64 (numberOf Big (part f p 8)))
+
+-- the n DOUBLEs from a place on
 abbrev pub coefficientsOf : List ℕ → ℕ → ℕ → List Float
-coefficientsOf f at n = runOf (λ (p : ℕ). valueOf (realOf binary64 (numberOf Big (part f p 8)))) 8 at n
+coefficientsOf f at n = runOf (doubleIn f) 8 at n
 
 -- the step of up to nine coefficients: -0.0 stands above the highest
 unfoldable pub polynomialOf : List Float → Step

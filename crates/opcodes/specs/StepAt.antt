@@ -5,15 +5,11 @@ use mathlib.Core.Path.{_≡_}
 use mathlib.Core.Logic.{_⊎_}
 use mathlib.Core.Bool.{Bool, _&&_, _||_}
 use lib.Dec.{leb, eqb}
-use lib.Ieee.{Float, binary32}
+use lib.Ieee.{Float}
 use lib.ListN.{length}
-use Rattle.reading.specs.Bytes.{part}
-use Rattle.reading.specs.Number.{numberOf}
 use Rattle.reading.specs.Reading.{pick}
-use Rattle.reading.specs.Real.{realOf}
-use Rattle.reading.specs.declared.number.Order.the-variants.{Big}
 use Rattle.opcodes.specs.Grid.{longOf}
-use Rattle.opcodes.specs.Step.{valueOf, coefficientsOf, polynomialOf}
+use Rattle.opcodes.specs.Step.{floatIn, coefficientsOf, polynomialOf}
 use Rattle.opcodes.specs.declared.step.Step.{Step}
 use Rattle.opcodes.specs.declared.step.Step.the-variants.{Add, Scale, Table}
 
@@ -23,7 +19,7 @@ plainId n = eqb n 7 || (eqb n 8 || (leb 10 n && leb n 13))
 
 -- the k-th of the FLOATs behind the LONG
 abbrev pub floatAt : List ℕ → ℕ → ℕ → Float
-floatAt f at k = valueOf (realOf binary32 (numberOf Big (part f (at + 36 + 4 * k) 4)))
+floatAt f at k = floatIn f (at + 36 + 4 * k)
 
 unfoldable pub stepOf : List ℕ → ℕ → ℕ → ℕ → ℕ → Step
 stepOf f at id i j =

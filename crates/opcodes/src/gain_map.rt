@@ -5,8 +5,8 @@ ghost use lib.ListN.{length};
 ghost use lib.Ieee.{binary64, nanBits, isNan};
 ghost use mathlib.Core.Bool.{false};
 ghost use Rattle.opcodes.specs.Grid.{longOf};
-ghost use Rattle.opcodes.specs.GainMap.{floatOf, placeOf, betweenOf, gainOf, doubleIn, floatIn, axisOf, downOf, acrossOf, planesIn, gainMapOf, aboveAt, axisLegal, gainMapLegal, gainsIn};
-ghost use Rattle.opcodes.specs.Spot.{Axis-in, GainMap-in, pointOf, takenOf, Spot-at, Spot-of, Spot-in, nextOf, cellOf, cellGain};
+ghost use Rattle.opcodes.specs.GainMap.{floatOf, placeOf, betweenOf, gainOf, axisOf, downOf, acrossOf, planesIn, gainMapOf, aboveAt, axisLegal, gainMapLegal, gainsIn};
+ghost use Rattle.opcodes.specs.Bracket.{Axis-in, GainMap-in, pointOf, takenOf, Bracket-at, Bracket-of, Bracket-in, nextOf, cornersOf, cornersGain};
 use crate::grid;
 use crate::grid::Size;
 use crate::step;
@@ -22,13 +22,13 @@ pub struct Axis {
 }
 
 // At a point, or between a point and the next one, with the part of the way.
-pub enum Spot {
+pub enum Bracket {
     At(usize),
     Between(usize, f64),
 }
 
-// The gains at a point and the next one across, of a map row and the next one down; both points as places.
-pub struct Cell {
+// The gains at a point and the next one across, of a map row and the next one down; the two points as places.
+pub struct Corners {
     pub point: usize,
     pub from: f64,
     pub to: f64,
@@ -132,60 +132,60 @@ pub fn place(axis: Axis, size: usize, n: usize) -> f64
     ((n as f64 + 0.5) / size as f64 - axis.origin) / axis.spacing
 }
 
-// The spot of a place among more than one point.
-fn spot_at(points: usize, p: f64) -> Spot
+// The bracket of a place among more than one point.
+fn bracket_at(points: usize, p: f64) -> Bracket
     requires { ⌜ (1 < points) × (points ≤ 64) × (isNan p ≡ false) ⌝ }
-    ensures { λ r. ⌜ Spot-at points p r × Spot-in points r ⌝ }
+    ensures { λ r. ⌜ Bracket-at points p r × Bracket-in points r ⌝ }
 {
     if p <= 0.0 {
-        return Spot::At(0);
+        return Bracket::At(0);
     }
     let last = points - 1;
     if last as f64 <= p {
-        return Spot::At(last);
+        return Bracket::At(last);
     }
     let k = std::num::truncating_f64_to_u64(p) as usize;
-    Spot::Between(k, p - k as f64)
+    Bracket::Between(k, p - k as f64)
 }
 
-// The spot of the n-th of `size` rows or columns.
-pub fn located(axis: Axis, size: usize, n: usize) -> Spot
+// The bracket of the n-th of `size` rows or columns.
+pub fn located(axis: Axis, size: usize, n: usize) -> Bracket
     requires { ⌜ Axis-in axis × (n < size) × (size ≤ 16384) ⌝ }
-    ensures { λ r. ⌜ Spot-of axis size n r × Spot-in (axis .points) r ⌝ }
+    ensures { λ r. ⌜ Bracket-of axis size n r × Bracket-in (axis .points) r ⌝ }
 {
     let points = axis.points;
     if points == 1 {
-        return Spot::At(0);
+        return Bracket::At(0);
     }
-    spot_at(points, place(axis, size, n))
+    bracket_at(points, place(axis, size, n))
 }
 
-// The same, looked for first between the points of a cell: the next column mostly lies there too.
-pub fn located_near(axis: Axis, size: usize, n: usize, cell: Cell) -> Spot
+// The same, looked for first between two points that are at hand: the next column mostly lies there too.
+pub fn located_near(axis: Axis, size: usize, n: usize, corners: Corners) -> Bracket
     requires { ⌜ Axis-in axis × (n < size) × (size ≤ 16384) ⌝ }
-    requires { ⌜ (cell .from ≡ floatOf (cell .point)) × (cell .to ≡ floatOf (nextOf (axis .points) (cell .point))) × (cell .point < axis .points) ⌝ }
-    ensures { λ r. ⌜ Spot-of axis size n r × Spot-in (axis .points) r ⌝ }
+    requires { ⌜ (corners .from ≡ floatOf (corners .point)) × (corners .to ≡ floatOf (nextOf (axis .points) (corners .point))) × (corners .point < axis .points) ⌝ }
+    ensures { λ r. ⌜ Bracket-of axis size n r × Bracket-in (axis .points) r ⌝ }
 {
     let points = axis.points;
     if points == 1 {
-        return Spot::At(0);
+        return Bracket::At(0);
     }
     let p = place(axis, size, n);
-    let from = cell.from;
+    let from = corners.from;
     if from < p {
-        if p < cell.to {
-            return Spot::Between(cell.point, p - from);
+        if p < corners.to {
+            return Bracket::Between(corners.point, p - from);
         }
     }
-    spot_at(points, p)
+    bracket_at(points, p)
 }
 
-pub fn point(spot: Spot) -> usize
-    ensures { λ r. ⌜ r ≡ pointOf spot ⌝ }
+pub fn point(bracket: Bracket) -> usize
+    ensures { λ r. ⌜ r ≡ pointOf bracket ⌝ }
 {
-    match spot {
-        Spot::At(k) => k,
-        Spot::Between(k, _) => k,
+    match bracket {
+        Bracket::At(k) => k,
+        Bracket::Between(k, _) => k,
     }
 }
 
@@ -195,22 +195,22 @@ fn between(f: f64, a: f64, b: f64) -> f64
     (1.0 - f) * a + f * b
 }
 
-// What is taken of the gains at a spot's point and at the next one.
-fn taken(spot: Spot, a: f64, b: f64) -> f64
-    ensures { λ r. ⌜ r ≡ takenOf spot a b ⌝ }
+// What is taken of the gains at a bracket's point and at the next one.
+fn taken(bracket: Bracket, a: f64, b: f64) -> f64
+    ensures { λ r. ⌜ r ≡ takenOf bracket a b ⌝ }
 {
-    match spot {
-        Spot::At(_) => a,
-        Spot::Between(_, f) => between(f, a, b),
+    match bracket {
+        Bracket::At(_) => a,
+        Bracket::Between(_, f) => between(f, a, b),
     }
 }
 
-// The gain of a cell: across first and then down.
-pub fn cell_gain(cell: Cell, down: Spot, across: Spot) -> f64
-    ensures { λ r. ⌜ r ≡ cellGain cell down across ⌝ }
+// The gain between the corners: across first and then down.
+pub fn corners_gain(corners: Corners, down: Bracket, across: Bracket) -> f64
+    ensures { λ r. ⌜ r ≡ cornersGain corners down across ⌝ }
 {
-    let upper = taken(across, cell.upper_left, cell.upper_right);
-    let lower = taken(across, cell.lower_left, cell.lower_right);
+    let upper = taken(across, corners.upper_left, corners.upper_right);
+    let lower = taken(across, corners.lower_left, corners.lower_right);
     taken(down, upper, lower)
 }
 
@@ -231,15 +231,15 @@ fn gain(ps: &[u8], i: usize, k: usize, q: usize) -> f64
     step::value(real::float_at(ps, 76 + 4 * ((i * columns + k) * planes + q)))
 }
 
-// The four gains around map column k, at a row whose spot is `down`.
-pub fn cell_at(ps: &[u8], down: Spot, q: usize, k: usize) -> Cell
-    requires { ⌜ GainMap-in (now ps) × Spot-in (longOf (now ps) 32) down × (q < planesIn (now ps)) × (k < longOf (now ps) 36) ⌝ }
-    ensures { λ r. ⌜ r ≡ cellOf (gainMapOf (now (ps .entry))) down q k ⌝ }
+// The four gains around map column k, at a row whose bracket is `down`.
+pub fn corners_at(ps: &[u8], down: Bracket, q: usize, k: usize) -> Corners
+    requires { ⌜ GainMap-in (now ps) × Bracket-in (longOf (now ps) 32) down × (q < planesIn (now ps)) × (k < longOf (now ps) 36) ⌝ }
+    ensures { λ r. ⌜ r ≡ cornersOf (gainMapOf (now (ps .entry))) down q k ⌝ }
 {
     let i = point(down);
     let lower = next(grid::field(ps, 32), i);
     let right = next(grid::field(ps, 36), k);
-    Cell {
+    Corners {
         point: k,
         from: k as f64,
         to: right as f64,
@@ -250,16 +250,16 @@ pub fn cell_at(ps: &[u8], down: Spot, q: usize, k: usize) -> Cell
     }
 }
 
-// The same, where a cell of this row is at hand.
-pub fn cell_from(ps: &[u8], cell: Cell, down: Spot, q: usize, k: usize) -> Cell
-    requires { ⌜ GainMap-in (now ps) × Spot-in (longOf (now ps) 32) down × (q < planesIn (now ps)) × (k < longOf (now ps) 36) ⌝ }
-    requires { ⌜ cell ≡ cellOf (gainMapOf (now ps)) down q (cell .point) ⌝ }
-    ensures { λ r. ⌜ r ≡ cellOf (gainMapOf (now (ps .entry))) down q k ⌝ }
+// The same, where corners of this row are at hand.
+pub fn corners_near(ps: &[u8], corners: Corners, down: Bracket, q: usize, k: usize) -> Corners
+    requires { ⌜ GainMap-in (now ps) × Bracket-in (longOf (now ps) 32) down × (q < planesIn (now ps)) × (k < longOf (now ps) 36) ⌝ }
+    requires { ⌜ corners ≡ cornersOf (gainMapOf (now ps)) down q (corners .point) ⌝ }
+    ensures { λ r. ⌜ r ≡ cornersOf (gainMapOf (now (ps .entry))) down q k ⌝ }
 {
-    if cell.point == k {
-        return cell;
+    if corners.point == k {
+        return corners;
     }
-    cell_at(ps, down, q, k)
+    corners_at(ps, down, q, k)
 }
 
 // The map plane of an opcode's j-th plane: the j-th, or the last.
@@ -278,6 +278,6 @@ pub fn gain_at(ps: &[u8], size: Size, row: usize, column: usize, j: usize) -> f6
 {
     let down = located(down_axis(ps), size.rows, row);
     let across = located(across_axis(ps), size.columns, column);
-    let cell = cell_at(ps, down, plane_for(ps, j), point(across));
-    cell_gain(cell, down, across)
+    let corners = corners_at(ps, down, plane_for(ps, j), point(across));
+    corners_gain(corners, down, across)
 }

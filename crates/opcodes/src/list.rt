@@ -6,7 +6,7 @@ ghost use Prim.Native.Nat.{_+_, _*_, _≤_, _<_};
 ghost use lib.Dec.{eqb, leb};
 ghost use lib.ListN.{length};
 ghost use Rattle.reading.specs.Bytes.{part};
-ghost use Rattle.reading.specs.Reading.{run};
+ghost use Rattle.reading.specs.Reading.{pick, run};
 ghost use Rattle.opcodes.specs.OpcodeList.{headerOf, listedId, classOf, tableForm, polynomialForm, linesForm, formOf, refusedReal, refusedAt, refusedIn, exactOf, plainFault, gainMapFault, faultOf, opcodeReading, listFrom, listReading, none, countedOne, countedOn, testedOut};
 use crate::gain_map;
 use crate::grid;
@@ -200,24 +200,26 @@ fn exact(form: Form, length: usize) -> bool
     }
 }
 
-// The refusal of an opcode's parameters, or 0, where it is no GainMap.
-fn plain_fault(file: &[u8], size: Size, at: usize, bytes: usize, id: usize) -> usize
-    requires { ⌜ (at + bytes ≤ length (now file)) × (size .rows ≤ 16384) × (size .columns ≤ 16384) ⌝ }
-    ensures { λ r. ⌜ r ≡ plainFault size id (part (now (file .entry)) at bytes) ⌝ }
+// 12 where one of the numbers is refused.
+fn numbers_fault(wrong: bool) -> usize
+    ensures { λ r. ⌜ r ≡ pick wrong 12 0 ⌝ }
 {
-    if bytes < 36 {
+    if wrong { 12 } else { 0 }
+}
+
+// The refusal of an opcode's own bytes, or 0, where it is no GainMap.
+fn plain_fault(ps: &[u8], size: Size, id: usize) -> usize
+    requires { ⌜ (size .rows ≤ 16384) × (size .columns ≤ 16384) ⌝ }
+    ensures { λ r. ⌜ r ≡ plainFault size id (now (ps .entry)) ⌝ }
+{
+    if ps.len() < 36 {
         return 10;
     }
-    let g = grid::grid_at(file, at);
+    let g = grid::grid_at(ps, 0);
     if grid::fits(size, g) {
-        let n = grid::field(file, at + 32);
-        let m = form_for(g, id, n);
-        if exact(m, bytes) {
-            return if refused_in(file, m.width, at + 36, m.numbers) {
-                12
-            } else {
-                0
-            };
+        let m = form_for(g, id, grid::field(ps, 32));
+        if exact(m, ps.len()) {
+            return numbers_fault(refused_in(ps, m.width, 36, m.numbers));
         }
     }
     10
@@ -234,7 +236,7 @@ fn gain_map_refused(ps: &[u8], n: usize) -> bool
     refused_in(ps, 4, 76, n)
 }
 
-// The refusal of a GainMap's parameters, or 0.
+// The refusal of a GainMap's own bytes, or 0.
 fn gain_map_fault(ps: &[u8], size: Size) -> usize
     ensures { λ r. ⌜ r ≡ gainMapFault size (now (ps .entry)) ⌝ }
 {
@@ -246,22 +248,31 @@ fn gain_map_fault(ps: &[u8], size: Size) -> usize
         if gain_map::legal(ps) {
             let n = gain_map::count(ps);
             if ps.len() == 76 + 4 * n {
-                return if gain_map_refused(ps, n) { 12 } else { 0 };
+                return numbers_fault(gain_map_refused(ps, n));
             }
         }
     }
     10
 }
 
-// The refusal of an opcode's parameters, or 0.
+// The refusal of an opcode's own bytes, or 0.
+fn own_fault(ps: &[u8], size: Size, id: usize) -> usize
+    requires { ⌜ (size .rows ≤ 16384) × (size .columns ≤ 16384) ⌝ }
+    ensures { λ r. ⌜ r ≡ faultOf size id (now (ps .entry)) ⌝ }
+{
+    if id == 9 {
+        gain_map_fault(ps, size)
+    } else {
+        plain_fault(ps, size, id)
+    }
+}
+
+// The same, of the bytes at a place.
 fn fault(file: &[u8], size: Size, at: usize, bytes: usize, id: usize) -> usize
     requires { ⌜ (at + bytes ≤ length (now file)) × (size .rows ≤ 16384) × (size .columns ≤ 16384) ⌝ }
     ensures { λ r. ⌜ r ≡ faultOf size id (part (now (file .entry)) at bytes) ⌝ }
 {
-    if id == 9 {
-        return gain_map_fault(&file[at..at + bytes], size);
-    }
-    plain_fault(file, size, at, bytes, id)
+    own_fault(&file[at..at + bytes], size, id)
 }
 
 // The i-th opcode, whose header stands at a place, counted.

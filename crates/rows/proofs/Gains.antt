@@ -17,14 +17,14 @@ use Rattle.reading.proofs.Reading.{pick-yes, pick-no}
 use Rattle.levels.specs.Clip.{clipOf}
 use Rattle.opcodes.specs.Grid.{everyOf, linesOf, onOf, gridOf, Fits-in}
 use Rattle.opcodes.specs.GainMap.{downOf, planesIn, gainMapOf, gainOf}
-use Rattle.opcodes.specs.Spot.{GainMap-in, Spot-of, gainIn}
+use Rattle.opcodes.specs.Bracket.{GainMap-in, Bracket-of, gainIn}
 use Rattle.opcodes.specs.Opcode.{opcodeAt, actOf}
 use Rattle.opcodes.specs.Step.{resultOf, appliedOf}
 use Rattle.opcodes.specs.OpcodeList.{gainMapFault, kindOf}
 use Rattle.opcodes.specs.declared.grid.Size.{Size}
 use Rattle.opcodes.specs.declared.grid.Grid.{Grid}
 use Rattle.opcodes.specs.declared.list.Header.{Header}
-use Rattle.opcodes.specs.declared.gain_map.Spot.{Spot}
+use Rattle.opcodes.specs.declared.gain_map.Bracket.{Bracket}
 use Rattle.opcodes.specs.declared.step.Step.the-variants.{Scale}
 use Rattle.rows.specs.declared.gain_map.Columns.{Columns}
 use Rattle.opcodes.proofs.OpcodeLists.{and-true}
@@ -89,7 +89,7 @@ module _ (z : Size) (ps : List ℕ) where
         ap (λ (y : Float). clipOf (mul binary64 x y)) h ∙ gained (rw (← e) t)
 
   -- ---- over a part of a row
-  module _ (r l n : ℕ) (down : Spot) (row : Spot-of (downOf ps) (z .rows) r down) (xs : List Float) where
+  module _ (r l n : ℕ) (down : Bracket) (row : Bracket-of (downOf ps) (z .rows) r down) (xs : List Float) where
     abbrev after : Grid → List Float
     after g = planesOf (gainLine ps z g down) (g .left) (g .right) (g .«column_pitch») l n (g .plane) (g .plane + g .planes) xs
 

@@ -5,7 +5,7 @@ ghost use lib.ListN.{length};
 ghost use lib.Ieee.{Float};
 ghost use Rattle.opcodes.specs.Grid.{longOf, Fits-in};
 ghost use Rattle.opcodes.specs.GainMap.{acrossOf, planesIn};
-ghost use Rattle.opcodes.specs.Spot.{GainMap-in, Spot-in};
+ghost use Rattle.opcodes.specs.Bracket.{GainMap-in, Bracket-in};
 ghost use Rattle.opcodes.specs.Opcode.{opcodeAt};
 ghost use Rattle.opcodes.specs.OpcodeList.{gainMapFault};
 ghost use Rattle.rows.specs.Sweep.{sweptOf, planesOf, overPart};
@@ -14,7 +14,7 @@ ghost use Rattle.rows.specs.Part.{Sized-in, gainedOf};
 use crate::sweep;
 use opcodes::gain_map;
 use opcodes::gain_map::Axis;
-use opcodes::gain_map::Spot;
+use opcodes::gain_map::Bracket;
 use opcodes::grid;
 use opcodes::grid::Grid;
 use opcodes::grid::Size;
@@ -31,18 +31,18 @@ pub struct Columns {
     pub step: usize,
 }
 
-// These columns on map plane q, in a row whose spot is `down`; the active area is `width` columns wide.
+// These columns on map plane q, in a row whose bracket is `down`; the active area is `width` columns wide.
 fn sweep_gain(
     ps: &[u8],
     across: Axis,
     width: usize,
-    down: Spot,
+    down: Bracket,
     q: usize,
     columns: Columns,
     out: &mut [f64],
 )
     requires { ⌜ Columns-in columns width (length (now out)) × (width ≤ 16384) ⌝ }
-    requires { ⌜ GainMap-in (now ps) × (across ≡ acrossOf (now ps)) × Spot-in (longOf (now ps) 32) down × (q < planesIn (now ps)) ⌝ }
+    requires { ⌜ GainMap-in (now ps) × (across ≡ acrossOf (now ps)) × Bracket-in (longOf (now ps) 32) down × (q < planesIn (now ps)) ⌝ }
     ensures { λ _. ⌜ now (out .exit) ≡ sweptOf (columns .first) (columns .end) (columns .step) (λ (k : ℕ) (x : Float). timesGain (now (ps .entry)) down q width (columnAt columns k) x) (now (out .entry)) ⌝ }
 {
     let left = columns.left;
@@ -51,22 +51,22 @@ fn sweep_gain(
     let first = columns.first;
     let end = columns.end;
     let step = columns.step;
-    let mut cell = gain_map::cell_at(ps, down, q, 0);
+    let mut corners = gain_map::corners_at(ps, down, q, 0);
     let mut c = left + skip * pitch;
     let mut i = first;
     while i < end {
-        let spot = gain_map::located_near(across, width, c, cell);
-        cell = gain_map::cell_from(ps, cell, down, q, gain_map::point(spot));
-        out[i] = step::clip(out[i] * gain_map::cell_gain(cell, down, spot));
+        let bracket = gain_map::located_near(across, width, c, corners);
+        corners = gain_map::corners_near(ps, corners, down, q, gain_map::point(bracket));
+        out[i] = step::clip(out[i] * gain_map::corners_gain(corners, down, bracket));
         c += pitch;
         i += step;
     }
 }
 
-// A grid's columns in the part from column l on, plane after plane, in a row whose spot is `down`.
-fn gain_planes(ps: &[u8], size: Size, grid: Grid, down: Spot, l: usize, out: &mut [f64])
+// A grid's columns in the part from column l on, plane after plane, in a row whose bracket is `down`.
+fn gain_planes(ps: &[u8], size: Size, grid: Grid, down: Bracket, l: usize, out: &mut [f64])
     requires { ⌜ Sized-in size × Fits-in size grid × (grid .«column_pitch» < 0x1_0000_0000) × (l < 0x1_0000_0000) ⌝ }
-    requires { ⌜ GainMap-in (now ps) × Spot-in (longOf (now ps) 32) down ⌝ }
+    requires { ⌜ GainMap-in (now ps) × Bracket-in (longOf (now ps) 32) down ⌝ }
     ensures { λ _. ⌜ now (out .exit) ≡ planesOf (gainLine (now (ps .entry)) size grid down) (grid .left) (grid .right) (grid .«column_pitch») l (size .samples) (grid .plane) (grid .plane + grid .planes) (now (out .entry)) ⌝ }
 {
     let left = grid.left;

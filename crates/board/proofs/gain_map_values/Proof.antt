@@ -4,20 +4,20 @@ use native.Mathlib.Omega.{arith}
 use Prim.Native.Nat.{ℕ}
 use lib.Ieee.{Float, ofBits}
 use Rattle.opcodes.specs.GainMap.{gainMapOf, gainOf}
-use Rattle.opcodes.specs.Spot.{cellOf}
+use Rattle.opcodes.specs.Bracket.{cornersOf}
 use Rattle.opcodes.specs.Step.{appliedOf}
-use Rattle.opcodes.specs.declared.gain_map.Cell.{Cell}
-use Rattle.opcodes.specs.declared.gain_map.Spot.the-variants.{At}
+use Rattle.opcodes.specs.declared.gain_map.Corners.{Corners}
+use Rattle.opcodes.specs.declared.gain_map.Bracket.the-variants.{At}
 use Rattle.opcodes.specs.declared.step.Step.the-variants.{Scale}
 use Rattle.board.specs.Board.{bits, quarter, shading, four-by-four}
-use Rattle.board.proofs.Shading.{shading-in, corners, corner-numbers, gainThere, gained-numbers, values-hold}
+use Rattle.board.proofs.Shading.{shading-in, four-gains, gain-numbers, gainThere, gained-numbers, values-hold}
 use borrow.Author.Needs.{needs}
 use Rattle.board.proofs.gain_map_values.Statement.{statement}
 use Rattle.board.proofs.gain_map_values.Tie as tie
 
--- the cell and the gain, of the bytes that were made
-found : {ps : List ℕ} {cell : Cell} → cell ≡ cellOf (gainMapOf ps) (At 0) 0 0 → ps ≡ shading → cell ≡ corners
-found e p = e ∙ ap (λ (bs : List ℕ). cellOf (gainMapOf bs) (At 0) 0 0) p
+-- the corners and the gain, of the bytes that were made
+found : {ps : List ℕ} {corners : Corners} → corners ≡ cornersOf (gainMapOf ps) (At 0) 0 0 → ps ≡ shading → corners ≡ four-gains
+found e p = e ∙ ap (λ (bs : List ℕ). cornersOf (gainMapOf bs) (At 0) 0 0) p
 
 gained : {ps : List ℕ} {g : Float} → g ≡ gainOf (gainMapOf ps) four-by-four 1 2 0 → ps ≡ shading → g ≡ gainThere
 gained e p = e ∙ ap (λ (bs : List ℕ). gainOf (gainMapOf bs) four-by-four 1 2 0) p
@@ -28,11 +28,11 @@ applied e g p = e ∙ rw (g, p)
 gain-map-bytes-requires : tie.Need-gain-map-bytes-requires
 gain-map-bytes-requires c κs = search needs
 
-slice-aggregate-cell-at : tie.Need-slice-aggregate-cell-at
-slice-aggregate-cell-at c = search needs
+slice-aggregate-corners-at : tie.Need-slice-aggregate-corners-at
+slice-aggregate-corners-at c = search needs
 
-cell-at-requires : tie.Need-cell-at-requires
-cell-at-requires c κs =
+corners-at-requires : tie.Need-corners-at-requires
+corners-at-requires c κs =
     let m = shading-in in
     rw (c .before .gain-map-bytes .ensures) (m, omega (arith, m .down .some), omega (arith, m .planes), omega (arith, m .across .some))
 
@@ -49,16 +49,16 @@ apply-requires : tie.Need-apply-requires
 apply-requires c κs = search needs
 
 bits-of-requires : tie.Need-bits-of-requires
-bits-of-requires c κs = rw (found (c .before .before .before .before .cell-at .ensures) (c .before .before .before .before .before .before .gain-map-bytes .ensures)) (corner-numbers .0)
+bits-of-requires c κs = rw (found (c .before .before .before .before .corners-at .ensures) (c .before .before .before .before .before .before .gain-map-bytes .ensures)) (gain-numbers .0)
 
 bits-of-requires-2 : tie.Need-bits-of-requires-2
-bits-of-requires-2 c κs = rw (found (c .before .before .before .before .before .cell-at .ensures) (c .before .before .before .before .before .before .before .gain-map-bytes .ensures)) (corner-numbers .1)
+bits-of-requires-2 c κs = rw (found (c .before .before .before .before .before .corners-at .ensures) (c .before .before .before .before .before .before .before .gain-map-bytes .ensures)) (gain-numbers .1)
 
 bits-of-requires-3 : tie.Need-bits-of-requires-3
-bits-of-requires-3 c κs = rw (found (c .before .before .before .before .before .before .cell-at .ensures) (c .before .before .before .before .before .before .before .before .gain-map-bytes .ensures)) (corner-numbers .2)
+bits-of-requires-3 c κs = rw (found (c .before .before .before .before .before .before .corners-at .ensures) (c .before .before .before .before .before .before .before .before .gain-map-bytes .ensures)) (gain-numbers .2)
 
 bits-of-requires-4 : tie.Need-bits-of-requires-4
-bits-of-requires-4 c κs = rw (found (c .before .before .before .before .before .before .before .cell-at .ensures) (c .before .before .before .before .before .before .before .before .before .gain-map-bytes .ensures)) (corner-numbers .3)
+bits-of-requires-4 c κs = rw (found (c .before .before .before .before .before .before .before .corners-at .ensures) (c .before .before .before .before .before .before .before .before .before .gain-map-bytes .ensures)) (gain-numbers .3)
 
 bits-of-requires-5 : tie.Need-bits-of-requires-5
 bits-of-requires-5 c κs = rw (gained (c .before .before .before .before .before .before .gain-at .ensures) (c .before .before .before .before .before .before .before .before .before .before .gain-map-bytes .ensures)) (gained-numbers .0)
@@ -75,12 +75,12 @@ unfolding ofBits
 returns c =
     let a = c .before .before .before .before .before .before in
     let p = a .before .before .before .before .before .before .gain-map-bytes .ensures in
-    let e = found (a .before .before .before .before .cell-at .ensures) p in
+    let e = found (a .before .before .before .before .corners-at .ensures) p in
     let g = gained (a .before .before .gain-at .ensures) p in
-    let e1 = c .before .before .before .before .before .bits-of .ensures ∙ ap (λ (x : Cell). bits (x .«upper_left»)) e in
-    let e2 = c .before .before .before .before .bits-of2 .ensures ∙ ap (λ (x : Cell). bits (x .«upper_right»)) e in
-    let e3 = c .before .before .before .bits-of3 .ensures ∙ ap (λ (x : Cell). bits (x .«lower_left»)) e in
-    let e4 = c .before .before .bits-of4 .ensures ∙ ap (λ (x : Cell). bits (x .«lower_right»)) e in
+    let e1 = c .before .before .before .before .before .bits-of .ensures ∙ ap (λ (x : Corners). bits (x .«upper_left»)) e in
+    let e2 = c .before .before .before .before .bits-of2 .ensures ∙ ap (λ (x : Corners). bits (x .«upper_right»)) e in
+    let e3 = c .before .before .before .bits-of3 .ensures ∙ ap (λ (x : Corners). bits (x .«lower_left»)) e in
+    let e4 = c .before .before .bits-of4 .ensures ∙ ap (λ (x : Corners). bits (x .«lower_right»)) e in
     rw (e1, e2, e3, e4, c .before .bits-of5 .ensures ∙ ap bits g, c .bits-of6 .ensures ∙ ap bits (applied (a .apply .ensures) g p)) values-hold
 
 pub gain-map-values-spec : {M : Type 1} → statement M
@@ -88,8 +88,8 @@ gain-map-values-spec =
     tie.close
     (tie.spec
     gain-map-bytes-requires
-    slice-aggregate-cell-at
-    cell-at-requires
+    slice-aggregate-corners-at
+    corners-at-requires
     slice-aggregate-gain-at
     gain-at-requires
     slice-aggregate-apply

@@ -4,9 +4,9 @@ use Prim.Native.Nat.{ℕ}
 use denote.Ref.{now}
 use Rattle.opcodes.specs.Grid.{longOf}
 use Rattle.opcodes.specs.GainMap.{gainMapOf}
-use Rattle.opcodes.specs.Spot.{Axis-in, Spot-of, Spot-in}
+use Rattle.opcodes.specs.Bracket.{Axis-in, Bracket-of, Bracket-in}
 use Rattle.opcodes.specs.declared.gain_map.Axis.{Axis}
-use Rattle.opcodes.proofs.GainMaps.{point-below, cell-found, gain-in}
+use Rattle.opcodes.proofs.GainMaps.{point-below, corners-found, gain-in}
 use borrow.Author.Needs.{needs}
 use Rattle.opcodes.proofs.gain_map.gain_at.Statement.{statement}
 use Rattle.opcodes.proofs.gain_map.gain_at.Tie as tie
@@ -33,18 +33,18 @@ plane-for-requires c κs = c .before .before .before .before .before .pre .0
 point-requires : tie.Need-point-requires
 point-requires c κs = search needs
 
-cell-at-requires : tie.Need-cell-at-requires
-cell-at-requires c κs =
+corners-at-requires : tie.Need-corners-at-requires
+corners-at-requires c κs =
     let t = c .before .before in
     let d = t .before .before in
     let h = d .before .before .before .pre in
-    let across = subst (λ (a : Axis). Spot-in (a .points) (t .located2 .result)) (t .before .across-axis .ensures) (t .located2 .ensures .1) in
+    let across = subst (λ (a : Axis). Bracket-in (a .points) (t .located2 .result)) (t .before .across-axis .ensures) (t .located2 .ensures .1) in
     let k = point-below (longOf (now (d .before .before .before .args .ps)) 36) (t .located2 .result) across in
-    let down = subst (λ (a : Axis). Spot-in (a .points) (d .located .result)) (d .before .down-axis .ensures) (d .located .ensures .1) in
+    let down = subst (λ (a : Axis). Bracket-in (a .points) (d .located .result)) (d .before .down-axis .ensures) (d .located .ensures .1) in
     (h .0, down, c .before .plane-for .ensures .1, omega (arith, k, c .point .ensures))
 
-cell-gain-requires : tie.Need-cell-gain-requires
-cell-gain-requires c κs = search needs
+corners-gain-requires : tie.Need-corners-gain-requires
+corners-gain-requires c κs = search needs
 
 returns : tie.Need-returns
 unfolding gainMapOf
@@ -58,13 +58,13 @@ returns c =
     let across = t .located2 in
     let e = t .before .across-axis .ensures in
     let f = d .before .down-axis .ensures in
-    let here = subst (λ (x : Axis). Spot-of x (a .size .columns) (a .column) (across .result)) e (across .ensures .0) in
-    let row = subst (λ (x : Axis). Spot-of x (a .size .rows) (a .row) (down .result)) f (down .ensures .0) in
-    let rows = subst (λ (x : Axis). Spot-in (x .points) (down .result)) f (down .ensures .1) in
-    let columns = subst (λ (x : Axis). Spot-in (x .points) (across .result)) e (across .ensures .1) in
+    let here = subst (λ (x : Axis). Bracket-of x (a .size .columns) (a .column) (across .result)) e (across .ensures .0) in
+    let row = subst (λ (x : Axis). Bracket-of x (a .size .rows) (a .row) (down .result)) f (down .ensures .0) in
+    let rows = subst (λ (x : Axis). Bracket-in (x .points) (down .result)) f (down .ensures .1) in
+    let columns = subst (λ (x : Axis). Bracket-in (x .points) (across .result)) e (across .ensures .1) in
     let q = p .plane-for in
-    cell-found m (down .result) (across .result) (q .result) (a .size .columns) (a .column) here (c .before .cell-at .result) _ _ (c .before .cell-at .ensures)
-    (c .before .before .point .ensures) (c .cell-gain .ensures) rows columns
+    corners-found m (down .result) (across .result) (q .result) (a .size .columns) (a .column) here (c .before .corners-at .result) _ _ (c .before .corners-at .ensures)
+    (c .before .before .point .ensures) (c .corners-gain .ensures) rows columns
     ∙ gain-in m (a .size) (a .row) (a .column) (a .j) (down .result) (q .result) row (q .ensures .0)
 
 pub gain-at-spec : {M : Type 1} → statement M
@@ -77,6 +77,6 @@ gain-at-spec =
     located-requires-2
     plane-for-requires
     point-requires
-    cell-at-requires
-    cell-gain-requires
+    corners-at-requires
+    corners-gain-requires
     returns)

@@ -1,7 +1,7 @@
 use mathlib.Core.Path.{subst}
 use native.Mathlib.Omega.{arith}
 use lib.Ieee.{Float}
-use Rattle.opcodes.specs.Spot.{Spot-at}
+use Rattle.opcodes.specs.Bracket.{Bracket-at}
 use Rattle.opcodes.proofs.Places.{axis-number}
 use Rattle.opcodes.proofs.GainMaps.{along-one}
 use Rattle.opcodes.proofs.gain_map.located.Statement.{statement}
@@ -13,8 +13,8 @@ returns c = (λ g. along-one _ _ g (c .if1 .taken), omega (arith, c .before .pre
 place-requires : tie.Need-place-requires
 place-requires c κs = (c .before .pre .1, c .before .pre .2)
 
-spot-at-requires : tie.Need-spot-at-requires
-spot-at-requires c κs =
+bracket-at-requires : tie.Need-bracket-at-requires
+bracket-at-requires c κs =
     let s = c .before .before in
     let h = s .pre in
     let more = c .before .if1 .left in
@@ -23,7 +23,7 @@ spot-at-requires c κs =
 returns-2 : tie.Need-returns-2
 returns-2 c =
     let a = c .before .before .before .args in
-    (subst (λ (p : Float). Spot-at (a .axis .points) p (c .spot-at .result)) (c .before .place .ensures) (c .spot-at .ensures .0), c .spot-at .ensures .1)
+    (subst (λ (p : Float). Bracket-at (a .axis .points) p (c .bracket-at .result)) (c .before .place .ensures) (c .bracket-at .ensures .0), c .bracket-at .ensures .1)
 
 pub located-spec : {M : Type 1} → statement M
-located-spec = tie.close (tie.spec returns place-requires spot-at-requires returns-2)
+located-spec = tie.close (tie.spec returns place-requires bracket-at-requires returns-2)

@@ -3,10 +3,10 @@ use mathlib.Core.Bool.{true}
 use native.Mathlib.Omega.{arith}
 use lib.Ieee.{Float, binary64, sub, lt}
 use Rattle.opcodes.specs.GainMap.{placeOf}
-use Rattle.opcodes.specs.Spot.{Spot-at}
-use Rattle.opcodes.specs.declared.gain_map.Spot.the-variants.{Between}
+use Rattle.opcodes.specs.Bracket.{Bracket-at}
+use Rattle.opcodes.specs.declared.gain_map.Bracket.the-variants.{Between}
 use Rattle.opcodes.proofs.Places.{axis-number}
-use Rattle.opcodes.proofs.GainMaps.{along-one, spot-near}
+use Rattle.opcodes.proofs.GainMaps.{along-one, bracket-near}
 use Rattle.opcodes.proofs.gain_map.located_near.Statement.{statement}
 use Rattle.opcodes.proofs.gain_map.located_near.Tie as tie
 
@@ -24,11 +24,11 @@ returns-2 c =
     let p = c .before .before .before .place in
     let low = ap (λ (x : Float). lt x (p .result)) (sym (h .0)) ∙ c .before .before .if2 .taken in
     let high = ap (lt (p .result)) (sym (h .1)) ∙ c .if3 .taken in
-    let near = spot-near (a .axis .points) (a .cell .point) (p .result) (h .2) (s .pre .0 .0 .most) low high in
+    let near = bracket-near (a .axis .points) (a .corners .point) (p .result) (h .2) (s .pre .0 .0 .most) low high in
     (rw (h .0, ← (p .ensures)) (near .0), near .1)
 
-spot-at-requires : tie.Need-spot-at-requires
-spot-at-requires c κs =
+bracket-at-requires : tie.Need-bracket-at-requires
+bracket-at-requires c κs =
     let s = c .before .before .before in
     let a = s .args in
     let h = s .pre .0 in
@@ -39,7 +39,7 @@ returns-3 : tie.Need-returns-3
 returns-3 c =
     let a = c .before .before .before .before .args in
     let e = c .before .before .place .ensures in
-    (subst (λ (p : Float). Spot-at (a .axis .points) p (c .spot-at .result)) e (c .spot-at .ensures .0), c .spot-at .ensures .1)
+    (subst (λ (p : Float). Bracket-at (a .axis .points) p (c .bracket-at .result)) e (c .bracket-at .ensures .0), c .bracket-at .ensures .1)
 
 pub located-near-spec : {M : Type 1} → statement M
-located-near-spec = tie.close (tie.spec returns place-requires returns-2 spot-at-requires returns-3)
+located-near-spec = tie.close (tie.spec returns place-requires returns-2 bracket-at-requires returns-3)

@@ -1,47 +1,30 @@
-use mathlib.Core.Path.{_≡_, refl, sym, ap, _∙_, subst}
+use mathlib.Core.Path.{ap, _∙_}
 use denote.Ref.{now}
 use Rattle.reading.proofs.Bytes.{cut}
-use Rattle.opcodes.specs.OpcodeList.{gainMapFault}
-use Rattle.opcodes.proofs.GainMaps.{fault-map, fault-plain}
+use Rattle.opcodes.specs.OpcodeList.{faultOf}
 use borrow.Author.Needs.{needs}
 use Rattle.opcodes.proofs.list.fault.Statement.{statement}
 use Rattle.opcodes.proofs.list.fault.Tie as tie
 
-add-gain-map-fault : tie.Need-add-gain-map-fault
-add-gain-map-fault c = search needs
+add-own-fault : tie.Need-add-own-fault
+add-own-fault c = search needs
 
-sub-gain-map-fault : tie.Need-sub-gain-map-fault
-sub-gain-map-fault c = search needs
+sub-own-fault : tie.Need-sub-own-fault
+sub-own-fault c = search needs
 
-part-gain-map-fault-start : tie.Need-part-gain-map-fault-start
-part-gain-map-fault-start c = search needs
+part-own-fault-start : tie.Need-part-own-fault-start
+part-own-fault-start c = search needs
 
-part-gain-map-fault-end : tie.Need-part-gain-map-fault-end
-part-gain-map-fault-end c = search needs
+part-own-fault-end : tie.Need-part-own-fault-end
+part-own-fault-end c = search needs
 
-gain-map-fault-requires : tie.Need-gain-map-fault-requires
-gain-map-fault-requires c κs = search needs
+own-fault-requires : tie.Need-own-fault-requires
+own-fault-requires c κs = search needs
 
 returns : tie.Need-returns
 returns c =
-    let a = c .before .before .before .before .args in
-    c .gain-map-fault .ensures ∙ ap (gainMapFault (a .size)) (cut (now (a .file)) (a .at) (a .bytes)) ∙ fault-map (a .size) (a .id) _ (c .before .before .if1 .taken)
-
-plain-fault-requires : tie.Need-plain-fault-requires
-plain-fault-requires c κs = search needs
-
-returns-2 : tie.Need-returns-2
-returns-2 c = c .plain-fault .ensures ∙ fault-plain (c .before .before .before .args .size) (c .before .before .before .args .id) _ (c .before .if1 .left)
+    let a = c .before .before .before .args in
+    c .own-fault .ensures ∙ ap (faultOf (a .size) (a .id)) (cut (now (a .file)) (a .at) (a .bytes))
 
 pub fault-spec : {M : Type 1} → statement M
-fault-spec =
-    tie.close
-    (tie.spec
-    add-gain-map-fault
-    sub-gain-map-fault
-    part-gain-map-fault-start
-    part-gain-map-fault-end
-    gain-map-fault-requires
-    returns
-    plain-fault-requires
-    returns-2)
+fault-spec = tie.close (tie.spec add-own-fault sub-own-fault part-own-fault-start part-own-fault-end own-fault-requires returns)

@@ -1,14 +1,17 @@
-use mathlib.Core.Path.{_≡_, refl, sym, ap, _∙_, subst}
+use mathlib.Core.Path.{_≡_, sym, _∙_}
 use mathlib.Core.Bool.{true, false}
+use native.Mathlib.Omega.{arith}
+use Prim.Native.Nat.{_≤_}
 use denote.Ref.{now}
-use Rattle.reading.specs.Reading.{pick}
-use Rattle.opcodes.proofs.GainMaps.{legal-in, map-short, map-grid, map-illegal, map-other, map-read, map-fits}
+use lib.ListN.{length}
+use Rattle.opcodes.proofs.OpcodeLists.{own-fits}
+use Rattle.opcodes.proofs.GainMaps.{legal-in, map-short, map-grid, map-illegal, map-other, map-read}
 use borrow.Author.Needs.{needs}
 use Rattle.opcodes.proofs.list.gain_map_fault.Statement.{statement}
 use Rattle.opcodes.proofs.list.gain_map_fault.Tie as tie
 
 returns : tie.Need-returns
-returns c = map-short (c .before .before .args .size) (now (c .before .before .args .ps)) (c .if1 .taken)
+returns c = let a = c .before .before .args in map-short (a .size) (now (a .ps)) (c .if1 .taken)
 
 grid-at-requires : tie.Need-grid-at-requires
 grid-at-requires c κs = search needs
@@ -33,63 +36,52 @@ add-if4 c = search needs
 gain-map-refused-requires : tie.Need-gain-map-refused-requires
 gain-map-refused-requires c κs = search needs
 
+numbers-fault-requires : tie.Need-numbers-fault-requires
+numbers-fault-requires c κs = search needs
+
 returns-2 : tie.Need-returns-2
-unfolding pick
 returns-2 c =
-    let z = c .before .before .before .before .before .before .before .before .before .before .before .args .size in
-    let ps = now (c .before .before .before .before .before .before .before .before .before .before .before .args .ps) in
-    let h = c .before .before .before .before .before .before .before .before .before .if1 .left in
-    let g = c .before .before .before .before .before .before .before .before .grid-at in
-    let t = sym (c .before .before .before .before .before .before .before .fits2 .ensures) ∙ c .before .before .before .before .before .before .if2 .taken in
-    let a = map-fits z ps (g .result) (g .ensures .0) h true t in
-    let b = sym (c .before .before .before .before .before .legal .ensures) ∙ c .before .before .before .before .if3 .taken in
-    let n = c .before .before .before .count in
-    let r = sym (c .before .gain-map-refused .ensures) ∙ c .if5 .taken in
-    map-read z ps h a b (n .result) (n .ensures .0) (c .before .before .if4 .taken) true r
+    let d = c .before .before .before in
+    let g = d .before .before .before .before .before .grid-at in
+    let h = d .before .before .before .before .before .before .if1 .left in
+    let a = d .before .before .before .before .before .before .before .before .args in
+    let ps = now (a .ps) in
+    let few : 32 ≤ length ps = omega (arith, h) in
+    let fit = own-fits ps (g .result) few (g .ensures .0) (a .size) _ true (d .before .before .before .before .fits2 .ensures) (d .before .before .before .if2 .taken) in
+    let l = sym (d .before .before .legal .ensures) ∙ d .before .if3 .taken in
+    let n = d .count in
+    c .numbers-fault .ensures ∙ map-read (a .size) ps h fit l (n .result) (n .ensures .0) (c .before .before .if4 .taken) _ (c .before .gain-map-refused .ensures)
 
 returns-3 : tie.Need-returns-3
-unfolding pick
 returns-3 c =
-    let z = c .before .before .before .before .before .before .before .before .before .before .before .args .size in
-    let ps = now (c .before .before .before .before .before .before .before .before .before .before .before .args .ps) in
-    let h = c .before .before .before .before .before .before .before .before .before .if1 .left in
-    let g = c .before .before .before .before .before .before .before .before .grid-at in
-    let t = sym (c .before .before .before .before .before .before .before .fits2 .ensures) ∙ c .before .before .before .before .before .before .if2 .taken in
-    let a = map-fits z ps (g .result) (g .ensures .0) h true t in
-    let b = sym (c .before .before .before .before .before .legal .ensures) ∙ c .before .before .before .before .if3 .taken in
-    let n = c .before .before .before .count in
-    let r = sym (c .before .gain-map-refused .ensures) ∙ c .if5 .left in
-    map-read z ps h a b (n .result) (n .ensures .0) (c .before .before .if4 .taken) false r
+    let d = c .before in
+    let g = d .before .before .before .before .before .grid-at in
+    let h = d .before .before .before .before .before .before .if1 .left in
+    let a = d .before .before .before .before .before .before .before .before .args in
+    let ps = now (a .ps) in
+    let few : 32 ≤ length ps = omega (arith, h) in
+    let fit = own-fits ps (g .result) few (g .ensures .0) (a .size) _ true (d .before .before .before .before .fits2 .ensures) (d .before .before .before .if2 .taken) in
+    let l = sym (d .before .before .legal .ensures) ∙ d .before .if3 .taken in
+    map-other (a .size) ps h fit l (d .count .result) (d .count .ensures .0) (c .if4 .left)
 
 returns-4 : tie.Need-returns-4
 returns-4 c =
-    let z = c .before .before .before .before .before .before .before .before .before .args .size in
-    let ps = now (c .before .before .before .before .before .before .before .before .before .args .ps) in
-    let h = c .before .before .before .before .before .before .before .if1 .left in
-    let g = c .before .before .before .before .before .before .grid-at in
-    let t = sym (c .before .before .before .before .before .fits2 .ensures) ∙ c .before .before .before .before .if2 .taken in
-    let a = map-fits z ps (g .result) (g .ensures .0) h true t in
-    let b = sym (c .before .before .before .legal .ensures) ∙ c .before .before .if3 .taken in
-    map-other z ps h a b (c .before .count .result) (c .before .count .ensures .0) (c .if4 .left)
+    let g = c .before .before .before .before .grid-at in
+    let h = c .before .before .before .before .before .if1 .left in
+    let a = c .before .before .before .before .before .before .before .args in
+    let ps = now (a .ps) in
+    let few : 32 ≤ length ps = omega (arith, h) in
+    let fit = own-fits ps (g .result) few (g .ensures .0) (a .size) _ true (c .before .before .before .fits2 .ensures) (c .before .before .if2 .taken) in
+    map-illegal (a .size) ps h fit (sym (c .before .legal .ensures) ∙ c .if3 .left)
 
 returns-5 : tie.Need-returns-5
 returns-5 c =
-    let z = c .before .before .before .before .before .before .before .args .size in
-    let ps = now (c .before .before .before .before .before .before .before .args .ps) in
-    let h = c .before .before .before .before .before .if1 .left in
-    let g = c .before .before .before .before .grid-at in
-    let t = sym (c .before .before .before .fits2 .ensures) ∙ c .before .before .if2 .taken in
-    let a = map-fits z ps (g .result) (g .ensures .0) h true t in
-    map-illegal z ps h a (sym (c .before .legal .ensures) ∙ c .if3 .left)
-
-returns-6 : tie.Need-returns-6
-returns-6 c =
-    let z = c .before .before .before .before .before .args .size in
-    let ps = now (c .before .before .before .before .before .args .ps) in
-    let h = c .before .before .before .if1 .left in
     let g = c .before .before .grid-at in
-    let t = sym (c .before .fits2 .ensures) ∙ c .if2 .left in
-    map-grid z ps h (map-fits z ps (g .result) (g .ensures .0) h false t)
+    let h = c .before .before .before .if1 .left in
+    let a = c .before .before .before .before .before .args in
+    let ps = now (a .ps) in
+    let few : 32 ≤ length ps = omega (arith, h) in
+    map-grid (a .size) ps h (own-fits ps (g .result) few (g .ensures .0) (a .size) _ false (c .before .fits2 .ensures) (c .if2 .left))
 
 pub gain-map-fault-spec : {M : Type 1} → statement M
 gain-map-fault-spec =
@@ -103,8 +95,8 @@ gain-map-fault-spec =
     mul-if4
     add-if4
     gain-map-refused-requires
+    numbers-fault-requires
     returns-2
     returns-3
     returns-4
-    returns-5
-    returns-6)
+    returns-5)

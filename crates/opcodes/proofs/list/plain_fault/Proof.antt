@@ -1,143 +1,111 @@
-use mathlib.Core.Path.{_≡_, refl, sym, _∙_}
+use mathlib.Core.Path.{_≡_, sym, _∙_}
 use mathlib.Core.Bool.{true, false}
-use Prim.Native.Nat.{_+_, _*_, _≤_}
 use native.Mathlib.Omega.{arith}
+use Prim.Native.Nat.{ℕ, _≤_}
 use denote.Ref.{now}
 use lib.ListN.{length}
-use Rattle.reading.specs.Bytes.{part}
-use Rattle.reading.proofs.Bytes.{length-part}
-use Rattle.opcodes.specs.Grid.{gridOf, fitsOf}
-use Rattle.opcodes.specs.OpcodeList.{countOf, formOf, exactOf}
-use Rattle.opcodes.proofs.OpcodeLists.{long-part, fault-short, fault-grid, fault-form, fault-numbers, fits-in, Form-in, form-in, exact-bytes, refused-part}
-use Rattle.reading.specs.Reading.{pick}
+use Rattle.opcodes.specs.OpcodeList.{formOf}
+use Rattle.opcodes.specs.declared.grid.Grid.{Grid}
+use Rattle.opcodes.specs.declared.list.Form.{Form}
+use Rattle.opcodes.proofs.OpcodeLists.{fault-short, fault-grid, fault-inexact, fault-numbers, fits-in, own-grid, own-fits}
+use Rattle.opcodes.proofs.OpcodeLists.{Form-in, form-in, exact-bytes}
+use borrow.Author.Needs.{needs}
 use Rattle.opcodes.proofs.list.plain_fault.Statement.{statement}
 use Rattle.opcodes.proofs.list.plain_fault.Tie as tie
 
 returns : tie.Need-returns
-returns c =
-    let f = now (c .before .before .args .file) in
-    let at = c .before .before .args .at in
-    let n = c .before .before .args .bytes in
-    let ps = part f at n in
-    let len : length ps ≡ n = length-part f at n (c .before .before .pre .0) in
-    fault-short (c .before .before .args .size) (c .before .before .args .id) ps (rw len (c .if1 .taken))
+returns c = let a = c .before .before .args in fault-short (a .size) (a .id) (now (a .ps)) (c .if1 .taken)
 
 grid-at-requires : tie.Need-grid-at-requires
-grid-at-requires c κs = omega (arith, c .if1 .left, c .before .before .pre .0)
+grid-at-requires c κs = search needs
 
 fits-requires : tie.Need-fits-requires
-fits-requires c κs = (c .grid-at .ensures .1 .0, c .grid-at .ensures .1 .1)
-
-add-field : tie.Need-add-field
-add-field c = omega (arith, c .before .before .before .if1 .left, c .before .before .before .before .before .pre .0)
+fits-requires c κs = search needs
 
 field-requires : tie.Need-field-requires
-field-requires c κs = omega (arith, c .before .before .before .if1 .left, c .before .before .before .before .before .pre .0)
+field-requires c κs = search needs
 
 form-for-requires : tie.Need-form-for-requires
 form-for-requires c κs =
     let fit = fits-in _ _ (sym (c .before .before .fits2 .ensures) ∙ c .before .if2 .taken) in
-    let p = c .before .before .before .before .before .before .pre in
+    let z = c .before .before .before .before .before .before .pre in
     let r = c .before .before .before .grid-at .ensures .1 in (
-      (omega (arith, fit .some-rows), omega (arith, fit .rows, p .1), fit .row-pitch, r .2),
+      (omega (arith, fit .some-rows), omega (arith, fit .rows, z .0), fit .row-pitch, r .2),
       (
-        (omega (arith, fit .some-columns), omega (arith, fit .columns, p .2), fit .column-pitch, r .3),
+        (omega (arith, fit .some-columns), omega (arith, fit .columns, z .1), fit .column-pitch, r .3),
         c .field .ensures .1,
       ),
     )
 
 exact-requires : tie.Need-exact-requires
-exact-requires c κs = let q : Form-in (c .form-for .result) = rw (c .form-for .ensures) (form-in (c .before .before .before .before .grid-at .result) (c .before .before .before .before .before .before .before .args .id) (c .before .field .result) (c .before .field .ensures .1)) in q .small
-
-add-refused-in : tie.Need-add-refused-in
-add-refused-in c = omega (arith, c .before .before .before .before .before .before .before .if1 .left, c .before .before .before .before .before .before .before .before .before .pre .0)
+exact-requires c κs =
+    let n = c .before .field in
+    let q : Form-in (c .form-for .result) = rw (c .form-for .ensures) (form-in (c .before .before .before .before .grid-at .result) (c .before .before .before .before .before .before .before .args .id) (n .result) (n .ensures .1)) in
+    q .small
 
 refused-in-requires : tie.Need-refused-in-requires
 refused-in-requires c κs =
-    let f = now (c .before .before .before .before .before .before .before .before .before .args .file) in
-    let at = c .before .before .before .before .before .before .before .before .before .args .at in
-    let n = c .before .before .before .before .before .before .before .before .before .args .bytes in
-    let ps = part f at n in
-    let len : length ps ≡ n = length-part f at n (c .before .before .before .before .before .before .before .before .before .pre .0) in
-    let some : 36 ≤ n = c .before .before .before .before .before .before .before .if1 .left in
-    let h : 36 ≤ length ps = rw len some in
-    let g : c .before .before .before .before .before .before .grid-at .result ≡ gridOf ps = c .before .before .before .before .before .before .grid-at .ensures .0 n (omega arith) in
-    let fit : fitsOf (c .before .before .before .before .before .before .before .before .before .args .size) (gridOf ps) ≡ true = rw (← g) (sym (c .before .before .before .before .before .fits2 .ensures) ∙ c .before .before .before .before .if2 .taken) in
-    let e : c .before .before .before .field .result ≡ countOf ps = c .before .before .before .field .ensures .0 ∙ long-part f at n 32 (omega arith) in
-    let m : c .before .before .form-for .result ≡ formOf (gridOf ps) (c .before .before .before .before .before .before .before .before .before .args .id) (countOf ps) = c .before .before .form-for .ensures ∙ rw (g, e) refl in
-    let x : exactOf (c .before .before .form-for .result) n ≡ true = sym (c .before .exact .ensures) ∙ c .if3 .taken in
-    let b : n ≡ 36 + c .before .before .form-for .result .bytes = exact-bytes (c .before .before .form-for .result) n x in
-    let q : Form-in (c .before .before .form-for .result) = rw (c .before .before .form-for .ensures) (form-in (c .before .before .before .before .before .before .grid-at .result) (c .before .before .before .before .before .before .before .before .before .args .id) (c .before .before .before .field .result) (c .before .before .before .field .ensures .1)) in
-    (omega (arith, q .inside, c .before .before .before .before .before .before .before .before .before .pre .0), q .wide)
+    let m = c .before .before .form-for in
+    let n = c .before .before .before .field in
+    let q : Form-in (m .result) = rw (m .ensures) (form-in (c .before .before .before .before .before .before .grid-at .result) (c .before .before .before .before .before .before .before .before .before .args .id) (n .result) (n .ensures .1)) in
+    let b = exact-bytes (m .result) _ (sym (c .before .exact .ensures) ∙ c .if3 .taken) in
+    (omega (arith, b, q .inside), q .wide)
+
+numbers-fault-requires : tie.Need-numbers-fault-requires
+numbers-fault-requires c κs = search needs
+
+-- the form that was found is that of the grid and the LONG
+form-same : (id : ℕ) (g g′ : Grid) (n n′ : ℕ) (m : Form) → g ≡ g′ → n ≡ n′ → m ≡ formOf g id n → m ≡ formOf g′ id n′
+form-same id g g′ n n′ m a b e = e ∙ rw (a, b)
 
 returns-2 : tie.Need-returns-2
-unfolding pick
 returns-2 c =
-    let f = now (c .before .before .before .before .before .before .before .before .before .before .before .args .file) in
-    let at = c .before .before .before .before .before .before .before .before .before .before .before .args .at in
-    let n = c .before .before .before .before .before .before .before .before .before .before .before .args .bytes in
-    let ps = part f at n in
-    let len : length ps ≡ n = length-part f at n (c .before .before .before .before .before .before .before .before .before .before .before .pre .0) in
-    let some : 36 ≤ n = c .before .before .before .before .before .before .before .before .before .if1 .left in
-    let h : 36 ≤ length ps = rw len some in
-    let g : c .before .before .before .before .before .before .before .before .grid-at .result ≡ gridOf ps = c .before .before .before .before .before .before .before .before .grid-at .ensures .0 n (omega arith) in
-    let fit : fitsOf (c .before .before .before .before .before .before .before .before .before .before .before .args .size) (gridOf ps) ≡ true = rw (← g) (sym (c .before .before .before .before .before .before .before .fits2 .ensures) ∙ c .before .before .before .before .before .before .if2 .taken) in
-    let e : c .before .before .before .before .before .field .result ≡ countOf ps = c .before .before .before .before .before .field .ensures .0 ∙ long-part f at n 32 (omega arith) in
-    let m : c .before .before .before .before .form-for .result ≡ formOf (gridOf ps) (c .before .before .before .before .before .before .before .before .before .before .before .args .id) (countOf ps) = c .before .before .before .before .form-for .ensures ∙ rw (g, e) refl in
-    let x : exactOf (c .before .before .before .before .form-for .result) n ≡ true = sym (c .before .before .before .exact .ensures) ∙ c .before .before .if3 .taken in
-    let b : n ≡ 36 + c .before .before .before .before .form-for .result .bytes = exact-bytes (c .before .before .before .before .form-for .result) n x in
-    let q : Form-in (c .before .before .before .before .form-for .result) = rw (c .before .before .before .before .form-for .ensures) (form-in (c .before .before .before .before .before .before .before .before .grid-at .result) (c .before .before .before .before .before .before .before .before .before .before .before .args .id) (c .before .before .before .before .before .field .result) (c .before .before .before .before .before .field .ensures .1)) in
-    let s : c .before .before .before .before .form-for .result .width * c .before .before .before .before .form-for .result .numbers + 36 ≤ n = omega (arith, b, q .inside) in
-    let t = refused-part f at n (c .before .before .before .before .form-for .result .width) (c .before .before .before .before .form-for .result .numbers) 36 (q .wide) (omega (arith, s)) in
-    fault-numbers (c .before .before .before .before .before .before .before .before .before .before .before .args .size) (c .before .before .before .before .before .before .before .before .before .before .before .args .id) ps h fit (rw (← m, len) x) true (rw (← m) (sym t ∙ sym (c .before .refused-in .ensures) ∙ c .if4 .taken))
+    let d = c .before .before .before .before in
+    let s = d .before .before .before .before .before .before .before in
+    let a = s .args in
+    let ps = now (a .ps) in
+    let g = d .before .before .before .before .grid-at in
+    let h = d .before .before .before .before .before .if1 .left in
+    let few : 32 ≤ length ps = omega (arith, h) in
+    let fit = own-fits ps (g .result) few (g .ensures .0) (a .size) _ true (d .before .before .before .fits2 .ensures) (d .before .before .if2 .taken) in
+    let m = form-same (a .id) _ _ _ _ _ (own-grid ps (g .result) few (g .ensures .0)) (d .before .field .ensures .0) (d .form-for .ensures) in
+    let x = sym (c .before .before .before .exact .ensures) ∙ c .before .before .if3 .taken in
+    c .numbers-fault .ensures ∙ fault-numbers (a .size) (a .id) ps h fit (d .form-for .result) m x _ (c .before .refused-in .ensures)
 
 returns-3 : tie.Need-returns-3
-unfolding pick
 returns-3 c =
-    let f = now (c .before .before .before .before .before .before .before .before .before .before .before .args .file) in
-    let at = c .before .before .before .before .before .before .before .before .before .before .before .args .at in
-    let n = c .before .before .before .before .before .before .before .before .before .before .before .args .bytes in
-    let ps = part f at n in
-    let len : length ps ≡ n = length-part f at n (c .before .before .before .before .before .before .before .before .before .before .before .pre .0) in
-    let some : 36 ≤ n = c .before .before .before .before .before .before .before .before .before .if1 .left in
-    let h : 36 ≤ length ps = rw len some in
-    let g : c .before .before .before .before .before .before .before .before .grid-at .result ≡ gridOf ps = c .before .before .before .before .before .before .before .before .grid-at .ensures .0 n (omega arith) in
-    let fit : fitsOf (c .before .before .before .before .before .before .before .before .before .before .before .args .size) (gridOf ps) ≡ true = rw (← g) (sym (c .before .before .before .before .before .before .before .fits2 .ensures) ∙ c .before .before .before .before .before .before .if2 .taken) in
-    let e : c .before .before .before .before .before .field .result ≡ countOf ps = c .before .before .before .before .before .field .ensures .0 ∙ long-part f at n 32 (omega arith) in
-    let m : c .before .before .before .before .form-for .result ≡ formOf (gridOf ps) (c .before .before .before .before .before .before .before .before .before .before .before .args .id) (countOf ps) = c .before .before .before .before .form-for .ensures ∙ rw (g, e) refl in
-    let x : exactOf (c .before .before .before .before .form-for .result) n ≡ true = sym (c .before .before .before .exact .ensures) ∙ c .before .before .if3 .taken in
-    let b : n ≡ 36 + c .before .before .before .before .form-for .result .bytes = exact-bytes (c .before .before .before .before .form-for .result) n x in
-    let q : Form-in (c .before .before .before .before .form-for .result) = rw (c .before .before .before .before .form-for .ensures) (form-in (c .before .before .before .before .before .before .before .before .grid-at .result) (c .before .before .before .before .before .before .before .before .before .before .before .args .id) (c .before .before .before .before .before .field .result) (c .before .before .before .before .before .field .ensures .1)) in
-    let s : c .before .before .before .before .form-for .result .width * c .before .before .before .before .form-for .result .numbers + 36 ≤ n = omega (arith, b, q .inside) in
-    let t = refused-part f at n (c .before .before .before .before .form-for .result .width) (c .before .before .before .before .form-for .result .numbers) 36 (q .wide) (omega (arith, s)) in
-    fault-numbers (c .before .before .before .before .before .before .before .before .before .before .before .args .size) (c .before .before .before .before .before .before .before .before .before .before .before .args .id) ps h fit (rw (← m, len) x) false (rw (← m) (sym t ∙ sym (c .before .refused-in .ensures) ∙ c .if4 .left))
+    let d = c .before .before in
+    let s = d .before .before .before .before .before .before .before in
+    let a = s .args in
+    let ps = now (a .ps) in
+    let g = d .before .before .before .before .grid-at in
+    let h = d .before .before .before .before .before .if1 .left in
+    let few : 32 ≤ length ps = omega (arith, h) in
+    let fit = own-fits ps (g .result) few (g .ensures .0) (a .size) _ true (d .before .before .before .fits2 .ensures) (d .before .before .if2 .taken) in
+    let m = form-same (a .id) _ _ _ _ _ (own-grid ps (g .result) few (g .ensures .0)) (d .before .field .ensures .0) (d .form-for .ensures) in
+    fault-inexact (a .size) (a .id) ps h fit (d .form-for .result) m (sym (c .before .exact .ensures) ∙ c .if3 .left)
 
 returns-4 : tie.Need-returns-4
 returns-4 c =
-    let f = now (c .before .before .before .before .before .before .before .before .before .args .file) in
-    let at = c .before .before .before .before .before .before .before .before .before .args .at in
-    let n = c .before .before .before .before .before .before .before .before .before .args .bytes in
-    let ps = part f at n in
-    let len : length ps ≡ n = length-part f at n (c .before .before .before .before .before .before .before .before .before .pre .0) in
-    let some : 36 ≤ n = c .before .before .before .before .before .before .before .if1 .left in
-    let h : 36 ≤ length ps = rw len some in
-    let g : c .before .before .before .before .before .before .grid-at .result ≡ gridOf ps = c .before .before .before .before .before .before .grid-at .ensures .0 n (omega arith) in
-    let fit : fitsOf (c .before .before .before .before .before .before .before .before .before .args .size) (gridOf ps) ≡ true = rw (← g) (sym (c .before .before .before .before .before .fits2 .ensures) ∙ c .before .before .before .before .if2 .taken) in
-    let e : c .before .before .before .field .result ≡ countOf ps = c .before .before .before .field .ensures .0 ∙ long-part f at n 32 (omega arith) in
-    let m : c .before .before .form-for .result ≡ formOf (gridOf ps) (c .before .before .before .before .before .before .before .before .before .args .id) (countOf ps) = c .before .before .form-for .ensures ∙ rw (g, e) refl in
-    fault-form (c .before .before .before .before .before .before .before .before .before .args .size) (c .before .before .before .before .before .before .before .before .before .args .id) ps h fit (rw (← m, len) (sym (c .before .exact .ensures) ∙ c .if3 .left))
-
-returns-5 : tie.Need-returns-5
-returns-5 c =
-    let f = now (c .before .before .before .before .before .args .file) in
-    let at = c .before .before .before .before .before .args .at in
-    let n = c .before .before .before .before .before .args .bytes in
-    let ps = part f at n in
-    let len : length ps ≡ n = length-part f at n (c .before .before .before .before .before .pre .0) in
-    let some : 36 ≤ n = c .before .before .before .if1 .left in
-    let h : 36 ≤ length ps = rw len some in
-    let g : c .before .before .grid-at .result ≡ gridOf ps = c .before .before .grid-at .ensures .0 n (omega arith) in
-    fault-grid (c .before .before .before .before .before .args .size) (c .before .before .before .before .before .args .id) ps h (rw (← g) (sym (c .before .fits2 .ensures) ∙ c .if2 .left))
+    let a = c .before .before .before .before .before .args in
+    let ps = now (a .ps) in
+    let g = c .before .before .grid-at in
+    let h = c .before .before .before .if1 .left in
+    let few : 32 ≤ length ps = omega (arith, h) in
+    fault-grid (a .size) (a .id) ps h (own-fits ps (g .result) few (g .ensures .0) (a .size) _ false (c .before .fits2 .ensures) (c .if2 .left))
 
 pub plain-fault-spec : {M : Type 1} → statement M
-plain-fault-spec = tie.close (tie.spec returns grid-at-requires fits-requires add-field field-requires form-for-requires exact-requires add-refused-in refused-in-requires returns-2 returns-3 returns-4 returns-5)
+plain-fault-spec =
+    tie.close
+    (tie.spec
+    returns
+    grid-at-requires
+    fits-requires
+    field-requires
+    form-for-requires
+    exact-requires
+    refused-in-requires
+    numbers-fault-requires
+    returns-2
+    returns-3
+    returns-4)

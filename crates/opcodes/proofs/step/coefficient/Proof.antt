@@ -1,22 +1,13 @@
 use mathlib.Core.Path.{sym, ap, _∙_}
-use mathlib.Core.List.{List}
-use Prim.Native.Nat.{ℕ}
 use native.Mathlib.Omega.{arith}
 use denote.Ref.{now}
 use lib.ListN.{List·getD-eq-default}
-use lib.Ieee.{Float, binary64, ofBits, neg}
-use Rattle.reading.specs.Bytes.{part}
-use Rattle.reading.specs.Number.{numberOf}
-use Rattle.reading.specs.Real.{realOf}
-use Rattle.reading.specs.declared.number.Order.the-variants.{Big}
+use lib.Ieee.{ofBits, neg}
 use Rattle.levels.proofs.Runs.{run-at, length-run}
-use Rattle.opcodes.specs.Step.{valueOf, minusZero, coefficientsOf}
+use Rattle.opcodes.specs.Step.{valueOf, doubleIn, minusZero, coefficientsOf}
 use borrow.Author.Needs.{needs}
 use Rattle.opcodes.proofs.step.coefficient.Statement.{statement}
 use Rattle.opcodes.proofs.step.coefficient.Tie as tie
-
-abbrev number : List ℕ → ℕ → Float
-number f p = valueOf (realOf binary64 (numberOf Big (part f p 8)))
 
 mul-double-at : tie.Need-mul-double-at
 mul-double-at c = omega (arith, c .before .before .pre .0)
@@ -35,14 +26,14 @@ unfolding neg
 returns c =
     let a = c .before .before .before .before .args in
     let t = c .before .before .if1 .taken in
-    c .value .ensures ∙ ap valueOf (c .before .double-at .ensures) ∙ sym (run-at (number (now (a .file))) 8 (a .at) (a .n) (a .k) minusZero t)
+    c .value .ensures ∙ ap valueOf (c .before .double-at .ensures) ∙ sym (run-at (doubleIn (now (a .file))) 8 (a .at) (a .n) (a .k) minusZero t)
 
 returns-2 : tie.Need-returns-2
 unfolding ofBits neg
 returns-2 c =
     let a = c .before .before .args in
     let f = now (a .file) in
-    sym (List·getD-eq-default (coefficientsOf f (a .at) (a .n)) minusZero (rw (length-run (number f) 8 (a .at) (a .n)) (c .if1 .left)))
+    sym (List·getD-eq-default (coefficientsOf f (a .at) (a .n)) minusZero (rw (length-run (doubleIn f) 8 (a .at) (a .n)) (c .if1 .left)))
 
 pub coefficient-spec : {M : Type 1} → statement M
 coefficient-spec = tie.close (tie.spec mul-double-at add-double-at double-at-requires value-requires returns returns-2)

@@ -7,7 +7,7 @@ use lib.Ieee.{Float}
 use lib.ListN.{length}
 use denote.Ref.{now}
 use Rattle.opcodes.specs.GainMap.{planesIn}
-use Rattle.opcodes.specs.declared.gain_map.Spot.{Spot}
+use Rattle.opcodes.specs.declared.gain_map.Bracket.{Bracket}
 use Rattle.rows.specs.Sweep.{sweptOf, planesOf}
 use Rattle.rows.specs.GainMap.{timesGain, gainLine}
 use Rattle.rows.proofs.Gains.{column-below}
@@ -15,7 +15,7 @@ use Rattle.rows.proofs.Hits.{planes-start, planes-next, end-short, hits
 use Rattle.rows.proofs.gain_map.gain_planes.Statement.{statement}
 use Rattle.rows.proofs.gain_map.gain_planes.Tie as tie
 
-abbrev along : List ℕ → Spot → ℕ → ℕ → ℕ → ℕ → ℕ → ℕ → Float → Float
+abbrev along : List ℕ → Bracket → ℕ → ℕ → ℕ → ℕ → ℕ → ℕ → Float → Float
 along ps down plane width left pitch p j x = timesGain ps down (min (p - plane) (planesIn ps - 1)) width (left + j * pitch) x
 
 abbrev Inv-loop : tie.InvT-loop

@@ -1,7 +1,7 @@
 use mathlib.Core.Path.{sym, ap, _∙_, subst}
 use native.Mathlib.Omega.{arith}
 use denote.Ref.{now}
-use Rattle.opcodes.specs.Spot.{Axis-in, Spot-of, Spot-in}
+use Rattle.opcodes.specs.Bracket.{Axis-in, Bracket-of, Bracket-in}
 use Rattle.opcodes.specs.declared.gain_map.Axis.{Axis}
 use Rattle.rows.proofs.Sweeps.{every-told}
 use Rattle.rows.proofs.Gains.{own-grid, row-on, row-off, map-in, enough, grid-in}
@@ -41,7 +41,7 @@ gain-planes-requires c κs =
     let a = s .args in
     let n = c .before .before .before .before .before .grid-at in
     let d = c .before .located in
-    let among = subst (λ (x : Axis). Spot-in (x .points) (d .result)) (c .before .before .down-axis .ensures) (d .ensures .1) in
+    let among = subst (λ (x : Axis). Bracket-in (x .points) (d .result)) (c .before .before .down-axis .ensures) (d .ensures .1) in
     let g = grid-in (a .size) (now (a .ps)) (s .pre .0) (n .result) (n .ensures .0) in
     ((s .pre .1, g, n .ensures .1 .3, s .pre .2), (map-in (a .size) (now (a .ps)) (s .pre .0), among))
 
@@ -56,7 +56,7 @@ returns c =
     let n = d .before .before .before .before .grid-at in
     let e = own-grid (a .size) (now (a .ps)) (s .pre .0) (n .result) (n .ensures .0) in
     let t = sym (d .before .before .before .every .ensures) ∙ d .before .before .if1 .taken in
-    let row = subst (λ (x : Axis). Spot-of x (a .size .rows) (a .row) (d .located .result)) (d .before .down-axis .ensures) (d .located .ensures .0) in
+    let row = subst (λ (x : Axis). Bracket-of x (a .size .rows) (a .row) (d .located .result)) (d .before .down-axis .ensures) (d .located .ensures .0) in
     c .before .before .gain-planes .ensures
     ∙ row-on (a .size) (now (a .ps)) (a .row) (a .l) (a .size .samples) (d .located .result) row (now (a .out)) (n .result) e t
 

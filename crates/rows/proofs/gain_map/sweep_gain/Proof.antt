@@ -10,9 +10,9 @@ use borrow.Author.Needs.{scaled-fits}
 use Rattle.levels.specs.Clip.{clipOf}
 use Rattle.opcodes.specs.Grid.{longOf}
 use Rattle.opcodes.specs.GainMap.{floatOf, gainMapOf}
-use Rattle.opcodes.specs.Spot.{Axis-in, Spot-of, Spot-in, nextOf, cellOf}
+use Rattle.opcodes.specs.Bracket.{Axis-in, Bracket-of, Bracket-in, nextOf, cornersOf}
 use Rattle.opcodes.specs.declared.gain_map.Axis.{Axis}
-use Rattle.opcodes.proofs.GainMaps.{point-below, cell-found, cell-point, cell-own, cell-sides}
+use Rattle.opcodes.proofs.GainMaps.{point-below, corners-found, corners-point, corners-own, corners-sides}
 use Rattle.rows.specs.GainMap.{columnAt, timesGain}
 use Rattle.rows.specs.declared.gain_map.Columns.{Columns}
 use Rattle.rows.proofs.Gains.{column-first, column-more}
@@ -21,19 +21,19 @@ use borrow.Author.Needs.{needs}
 use Rattle.rows.proofs.gain_map.sweep_gain.Statement.{statement}
 use Rattle.rows.proofs.gain_map.sweep_gain.Tie as tie
 
-abbrev spots : ℕ → ℕ → ℕ → ℕ → ℕ → ℕ → Columns
-spots left pitch skip first end step = record { left = left; pitch = pitch; skip = skip; first = first; end = end; step = step }
+abbrev columns-of : ℕ → ℕ → ℕ → ℕ → ℕ → ℕ → Columns
+columns-of left pitch skip first end step = record { left = left; pitch = pitch; skip = skip; first = first; end = end; step = step }
 
 abbrev Inv-loop : tie.InvT-loop
-Inv-loop ps across width down q out₀ left pitch skip first end step cell₀ c₀ i₀ out cell c i =
-    Swept first end step (λ k x. timesGain ps down q width (columnAt (spots left pitch skip first end step) k) x) i out₀ out
-    × (c ≡ columnAt (spots left pitch skip first end step) i) × (cell ≡ cellOf (gainMapOf ps) down q (cell .point)) × (cell .point < longOf ps 36)
+Inv-loop ps across width down q out₀ left pitch skip first end step corners₀ c₀ i₀ out corners c i =
+    Swept first end step (λ k x. timesGain ps down q width (columnAt (columns-of left pitch skip first end step) k) x) i out₀ out
+    × (c ≡ columnAt (columns-of left pitch skip first end step) i) × (corners ≡ cornersOf (gainMapOf ps) down q (corners .point)) × (corners .point < longOf ps 36)
 
 abbrev μ-loop : tie.MeasureT-loop
-μ-loop ps across width down q out₀ left pitch skip first end step cell₀ c₀ i₀ out cell c i = end - i
+μ-loop ps across width down q out₀ left pitch skip first end step corners₀ c₀ i₀ out corners c i = end - i
 
-cell-at-requires : tie.Need-cell-at-requires Inv-loop μ-loop
-cell-at-requires c κs =
+corners-at-requires : tie.Need-corners-at-requires Inv-loop μ-loop
+corners-at-requires c κs =
     let h = c .before .before .pre .1 in
     (h .0, h .2, h .3, omega (arith, h .0 .across .some))
 
@@ -48,9 +48,9 @@ loop-holds c =
     let s = c .before .before .before in
     let a = s .args in
     let m = gainMapOf (now (a .ps)) in
-    let e = c .cell-at .ensures in
-    let o = cell-point m (a .down) (a .q) 0 _ e in
-    (swept-start _ _ _ _ _, column-first (a .columns), cell-own m (a .down) (a .q) 0 _ e, omega (arith, o, s .pre .1 .0 .across .some))
+    let e = c .corners-at .ensures in
+    let o = corners-point m (a .down) (a .q) 0 _ e in
+    (swept-start _ _ _ _ _, column-first (a .columns), corners-own m (a .down) (a .q) 0 _ e, omega (arith, o, s .pre .1 .0 .across .some))
 
 -- the column of a sample is one of the active area
 located-near-requires : tie.Need-located-near-requires Inv-loop μ-loop
@@ -61,20 +61,20 @@ located-near-requires c κs =
     let h = s .pre .1 in
     let v = c .before .loop in
     let t = every-tell _ _ _ (v .i) (v .inv .0 .from) (c .loop-test .taken) (v .inv .0 .point) in
-    let d = cell-sides (gainMapOf (now (a .ps))) (a .down) (a .q) (v .cell .point) (v .cell) (v .inv .2) in (
+    let d = corners-sides (gainMapOf (now (a .ps))) (a .down) (a .q) (v .corners .point) (v .corners) (v .inv .2) in (
       (subst Axis-in (sym (h .1)) (h .0 .across), omega (arith, v .inv .1, s .pre .0 .0 .inside (v .i) t), s .pre .0 .1),
-      subst (λ (x : Axis). (v .cell .from ≡ floatOf (v .cell .point)) × (v .cell .to ≡ floatOf (nextOf (x .points) (v .cell .point))) × (v .cell .point < x .points)) (sym (h .1)) (d .0, d .1, v .inv .3),
+      subst (λ (x : Axis). (v .corners .from ≡ floatOf (v .corners .point)) × (v .corners .to ≡ floatOf (nextOf (x .points) (v .corners .point))) × (v .corners .point < x .points)) (sym (h .1)) (d .0, d .1, v .inv .3),
     )
 
 point-requires : tie.Need-point-requires Inv-loop μ-loop
 point-requires c κs = search needs
 
-cell-from-requires : tie.Need-cell-from-requires Inv-loop μ-loop
-cell-from-requires c κs =
+corners-near-requires : tie.Need-corners-near-requires Inv-loop μ-loop
+corners-near-requires c κs =
     let s = c .before .before .before .before .before .before .before in
     let h = s .pre .1 in
     let t = c .before .located-near in
-    let k = point-below _ (t .result) (subst (λ (a : Axis). Spot-in (a .points) (t .result)) (h .1) (t .ensures .1)) in
+    let k = point-below _ (t .result) (subst (λ (a : Axis). Bracket-in (a .points) (t .result)) (h .1) (t .ensures .1)) in
     ((h .0, h .2, h .3, omega (arith, k, c .point .ensures)), c .before .before .before .loop .inv .2)
 
 mul-clip : tie.Need-mul-clip Inv-loop μ-loop
@@ -90,8 +90,8 @@ slice-read-clip c =
     let s = d .before .before .before .before .before .before .before .before in
     omega (arith, d .before .before .before .before .loop .inv .0 .same, d .before .before .before .loop-test .taken, s .pre .0 .0 .end)
 
-cell-gain-requires : tie.Need-cell-gain-requires Inv-loop μ-loop
-cell-gain-requires c κs = search needs
+corners-gain-requires : tie.Need-corners-gain-requires Inv-loop μ-loop
+corners-gain-requires c κs = search needs
 
 clip-requires : tie.Need-clip-requires Inv-loop μ-loop
 clip-requires c κs = search needs
@@ -143,21 +143,21 @@ loop-again c =
     let h = s .pre .1 in
     let v = d .before .before .before .before .loop in
     let t = d .before .before .before .loop-test .taken in
-    let spot = d .before .before .located-near in
+    let bracket = d .before .before .located-near in
     let m = gainMapOf (now (a .ps)) in
-    let here = subst (λ (x : Axis). Spot-of x (a .width) (v .c) (spot .result)) (h .1) (spot .ensures .0) in
-    let among = subst (λ (x : Axis). Spot-in (x .points) (spot .result)) (h .1) (spot .ensures .1) in
-    let gain = cell-found m (a .down) (spot .result) (a .q) (a .width) (v .c) here (d .cell-from .result) _ _ (d .cell-from .ensures) (d .before .point .ensures)
-    (c .before .cell-gain .ensures) (h .2) among in
+    let here = subst (λ (x : Axis). Bracket-of x (a .width) (v .c) (bracket .result)) (h .1) (bracket .ensures .0) in
+    let among = subst (λ (x : Axis). Bracket-in (x .points) (bracket .result)) (h .1) (bracket .ensures .1) in
+    let gain = corners-found m (a .down) (bracket .result) (a .q) (a .width) (v .c) here (d .corners-near .result) _ _ (d .corners-near .ensures) (d .before .point .ensures)
+    (c .before .corners-gain .ensures) (h .2) among in
     let x = getD (v .out) (v .i) nan in
     let e : c .clip .result ≡ timesGain (now (a .ps)) (a .down) (a .q) (a .width) (columnAt (a .columns) (v .i)) x =
     c .clip .ensures ∙ ap (λ (y : Float). clipOf (mul binary64 x y)) gain ∙ ap (λ (n : ℕ). timesGain (now (a .ps)) (a .down) (a .q) (a .width) n x) (v .inv .1) in
     let p = s .pre .0 .0 in
-    let o = cell-point m (a .down) (a .q) _ _ (d .cell-from .ensures) in
-    let k = point-below (longOf (now (a .ps)) 36) (spot .result) among in (
+    let o = corners-point m (a .down) (a .q) _ _ (d .corners-near .ensures) in
+    let k = point-below (longOf (now (a .ps)) 36) (bracket .result) among in (
       rw e (swept-step _ _ _ _ (v .i) (now (a .out)) (v .out) (p .some) t (p .end) (v .inv .0)),
       column-more (a .columns) (v .i) (v .c) (p .some) (v .inv .0 .from) (v .inv .1),
-      cell-own m (a .down) (a .q) _ _ (d .cell-from .ensures),
+      corners-own m (a .down) (a .q) _ _ (d .corners-near .ensures),
       omega (arith, o, k, d .before .point .ensures),
     )
 
@@ -175,16 +175,16 @@ sweep-gain-spec =
     (tie.spec
     Inv-loop
     μ-loop
-    cell-at-requires
+    corners-at-requires
     mul-c
     add-c
     loop-holds
     located-near-requires
     point-requires
-    cell-from-requires
+    corners-near-requires
     mul-clip
     slice-read-clip
-    cell-gain-requires
+    corners-gain-requires
     clip-requires
     mul-out
     slice-write-out

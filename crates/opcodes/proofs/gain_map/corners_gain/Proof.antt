@@ -1,9 +1,9 @@
 use mathlib.Core.Path.{_≡_, ap, _∙_}
 use lib.Ieee.{Float}
-use Rattle.opcodes.specs.Spot.{takenOf}
+use Rattle.opcodes.specs.Bracket.{takenOf}
 use borrow.Author.Needs.{needs}
-use Rattle.opcodes.proofs.gain_map.cell_gain.Statement.{statement}
-use Rattle.opcodes.proofs.gain_map.cell_gain.Tie as tie
+use Rattle.opcodes.proofs.gain_map.corners_gain.Statement.{statement}
+use Rattle.opcodes.proofs.gain_map.corners_gain.Tie as tie
 
 taken-requires : tie.Need-taken-requires
 taken-requires c κs = search needs
@@ -20,5 +20,5 @@ returns c =
     let lower = c .before .taken2 in
     c .taken3 .ensures ∙ ap (λ (a : Float). takenOf down a (lower .result)) (c .before .before .taken .ensures) ∙ ap (takenOf down _) (lower .ensures)
 
-pub cell-gain-spec : {M : Type 1} → statement M
-cell-gain-spec = tie.close (tie.spec taken-requires taken-requires-2 taken-requires-3 returns)
+pub corners-gain-spec : {M : Type 1} → statement M
+corners-gain-spec = tie.close (tie.spec taken-requires taken-requires-2 taken-requires-3 returns)

@@ -4,12 +4,12 @@ use Prim.Native.Nat.{ℕ, _<_}
 use denote.Ref.{now}
 use Rattle.opcodes.specs.Grid.{longOf}
 use Rattle.opcodes.specs.GainMap.{gainMapOf}
-use Rattle.opcodes.specs.Spot.{nextOf}
+use Rattle.opcodes.specs.Bracket.{nextOf}
 use Rattle.opcodes.proofs.Places.{float-exact}
-use Rattle.opcodes.proofs.GainMaps.{point-below, cell-read}
+use Rattle.opcodes.proofs.GainMaps.{point-below, corners-read}
 use borrow.Author.Needs.{needs}
-use Rattle.opcodes.proofs.gain_map.cell_at.Statement.{statement}
-use Rattle.opcodes.proofs.gain_map.cell_at.Tie as tie
+use Rattle.opcodes.proofs.gain_map.corners_at.Statement.{statement}
+use Rattle.opcodes.proofs.gain_map.corners_at.Tie as tie
 
 point-requires : tie.Need-point-requires
 point-requires c κs = search needs
@@ -17,7 +17,7 @@ point-requires c κs = search needs
 field-requires : tie.Need-field-requires
 field-requires c κs = search needs
 
--- the spot's point is one of the map's rows
+-- the bracket's point is one of the map's rows
 next-requires : tie.Need-next-requires
 next-requires c κs =
     let s = c .before .before .before in
@@ -82,11 +82,11 @@ returns c =
     let i = t .before .before .point in
     let l = t .next .ensures .0 ∙ ap (λ (n : ℕ). nextOf n (i .result)) (t .before .field .ensures .0) in
     let r = u .next2 .ensures .0 ∙ ap (λ (n : ℕ). nextOf n (s .args .k)) (u .before .field2 .ensures .0) in
-    cell-read m (s .args .down) (s .args .q) (s .args .k) _ _ _ _ _ _ _ (i .ensures) l r (c .before .before .before .gain .ensures) (c .before .before .gain2 .ensures)
+    corners-read m (s .args .down) (s .args .q) (s .args .k) _ _ _ _ _ _ _ (i .ensures) l r (c .before .before .before .gain .ensures) (c .before .before .gain2 .ensures)
     (c .before .gain3 .ensures) (c .gain4 .ensures)
 
-pub cell-at-spec : {M : Type 1} → statement M
-cell-at-spec =
+pub corners-at-spec : {M : Type 1} → statement M
+corners-at-spec =
     tie.close
     (tie.spec
     point-requires

@@ -1,4 +1,4 @@
--- How the code finds a gain: the spot of a row or a column among the points, and the four gains around a sample.
+-- How the code finds a gain: the point or the two points that a row or a column lies at or between, and the four gains around a sample.
 use Prim.Native.Nat.{ℕ, _+_, _*_, _≤_, _<_}
 use mathlib.Core.Path.{_≡_}
 use mathlib.Core.List.{List}
@@ -10,9 +10,9 @@ use lib.ListN.{length}
 use Rattle.reading.specs.Reading.{pick}
 use Rattle.opcodes.specs.GainMap.{GainMap, floatOf, placeOf, betweenOf, alongOf, downOf, acrossOf, planesIn, gainsIn}
 use Rattle.opcodes.specs.declared.gain_map.Axis.{Axis}
-use Rattle.opcodes.specs.declared.gain_map.Cell.{Cell}
-use Rattle.opcodes.specs.declared.gain_map.Spot.{Spot}
-use Rattle.opcodes.specs.declared.gain_map.Spot.the-variants.{At, Between}
+use Rattle.opcodes.specs.declared.gain_map.Corners.{Corners}
+use Rattle.opcodes.specs.declared.gain_map.Bracket.{Bracket}
+use Rattle.opcodes.specs.declared.gain_map.Bracket.the-variants.{At, Between}
 
 -- ---- what holds of an accepted map
 pub record Axis-in (a : Axis) : Type 0 where
@@ -27,42 +27,42 @@ pub record GainMap-in (ps : List ℕ) : Type 0 where
   pub planes : 1 ≤ planesIn ps
   pub inside : 76 + 4 * gainsIn ps ≤ length ps
 
--- ---- a spot: its point, and what is taken of the gains there and at the next point
-abbrev pub pointOf : Spot → ℕ
+-- ---- a bracket: its point, and what is taken of the gains there and at the next point
+abbrev pub pointOf : Bracket → ℕ
 pointOf (At k) = k
 pointOf (Between k f) = k
 
-abbrev pub takenOf : Spot → Float → Float → Float
+abbrev pub takenOf : Bracket → Float → Float → Float
 takenOf (At k) a b = a
 takenOf (Between k f) a b = betweenOf f a b
 
--- it is the spot of a place among so many points
-abbrev pub Spot-at : ℕ → Float → Spot → Type 0
-Spot-at points p s = (g : ℕ → Float) → takenOf s (g (pointOf s)) (g (pointOf s + 1)) ≡ alongOf points p g
+-- it is the bracket of a place among so many points
+abbrev pub Bracket-at : ℕ → Float → Bracket → Type 0
+Bracket-at points p s = (g : ℕ → Float) → takenOf s (g (pointOf s)) (g (pointOf s + 1)) ≡ alongOf points p g
 
 -- it is that of the n-th of `size` rows or columns
-abbrev pub Spot-of : Axis → ℕ → ℕ → Spot → Type 0
-Spot-of a size n s = Spot-at (a .points) (placeOf a size n) s
+abbrev pub Bracket-of : Axis → ℕ → ℕ → Bracket → Type 0
+Bracket-of a size n s = Bracket-at (a .points) (placeOf a size n) s
 
 -- it lies among so many points
-abbrev pub Spot-in : ℕ → Spot → Type 0
-Spot-in points (At k) = k < points
-Spot-in points (Between k f) = k + 1 < points
+abbrev pub Bracket-in : ℕ → Bracket → Type 0
+Bracket-in points (At k) = k < points
+Bracket-in points (Between k f) = k + 1 < points
 
 -- the next point, or the last one again
 abbrev pub nextOf : ℕ → ℕ → ℕ
 nextOf points k = pick (ltb (k + 1) points) (k + 1) k
 
--- ---- the gain in column c of so many, at a row whose spot is `down`, on map plane q
-unfoldable pub gainIn : GainMap → Spot → ℕ → ℕ → ℕ → Float
+-- ---- the gain in column c of so many, at a row whose bracket is `down`, on map plane q
+unfoldable pub gainIn : GainMap → Bracket → ℕ → ℕ → ℕ → Float
 gainIn m down q columns c = takenOf down (inRow (pointOf down)) (inRow (pointOf down + 1))
   where
     inRow : ℕ → Float
     inRow i = alongOf (m .across .points) (placeOf (m .across) columns c) (λ (k : ℕ). m .gains i k q)
 
--- map column k and the next as places, and the four gains there: of the map rows of a spot
-unfoldable pub cellOf : GainMap → Spot → ℕ → ℕ → Cell
-cellOf m down q k =
+-- map column k and the next as places, and the four gains there: of the map rows of a bracket
+unfoldable pub cornersOf : GainMap → Bracket → ℕ → ℕ → Corners
+cornersOf m down q k =
     record {
       point = k;
       from = floatOf k;
@@ -74,5 +74,5 @@ cellOf m down q k =
     }
 
 -- and the gain from them
-abbrev pub cellGain : Cell → Spot → Spot → Float
-cellGain c down across = takenOf down (takenOf across (c .«upper_left») (c .«upper_right»)) (takenOf across (c .«lower_left») (c .«lower_right»))
+abbrev pub cornersGain : Corners → Bracket → Bracket → Float
+cornersGain c down across = takenOf down (takenOf across (c .«upper_left») (c .«upper_right»)) (takenOf across (c .«lower_left») (c .«lower_right»))

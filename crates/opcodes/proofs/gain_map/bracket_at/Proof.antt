@@ -5,8 +5,8 @@ use lib.Ieee.{binary64, ofBits, sub}
 use Rattle.opcodes.specs.GainMap.{floatOf, betweenOf}
 use Rattle.opcodes.proofs.Places.{float-exact, whole-below, word-below}
 use Rattle.opcodes.proofs.GainMaps.{along-first, along-last, along-between}
-use Rattle.opcodes.proofs.gain_map.spot_at.Statement.{statement}
-use Rattle.opcodes.proofs.gain_map.spot_at.Tie as tie
+use Rattle.opcodes.proofs.gain_map.bracket_at.Statement.{statement}
+use Rattle.opcodes.proofs.gain_map.bracket_at.Tie as tie
 
 returns : tie.Need-returns
 unfolding ofBits
@@ -57,8 +57,8 @@ returns-3 c =
       omega (arith, w, e),
     )
 
-pub spot-at-spec : {M : Type 1} → statement M
-spot-at-spec =
+pub bracket-at-spec : {M : Type 1} → statement M
+bracket-at-spec =
     tie.close
     (tie.spec
     returns
