@@ -6,7 +6,7 @@ use mathlib.Core.List.{List}
 use Prim.Native.Nat.{ℕ, suc, _+_, _*_, _-_, _/_, _≤_, _<_}
 use native.Mathlib.Nat.{le-div-iff-mul-le, div-mul-le-self, add-mul, one-mul}
 use native.Mathlib.Omega.{arith}
-use lib.Dec.{eqb, leb}
+use lib.Dec.{eqb, leb, ltb}
 use lib.Ieee.{Float, binary32, binary64, add, mul}
 use lib.ListN.{length, getD}
 use borrow.Author.Tests.{le-leb, eq-eqb, ne-eqb, leb-true, leb-false, ltb-true, eqb-true, eqb-false}
@@ -21,7 +21,7 @@ use Rattle.levels.specs.Run.{runOf}
 use Rattle.levels.specs.Table.{tableOf}
 use Rattle.levels.proofs.Runs.{run-at, run-same, within}
 use Rattle.levels.proofs.Unit.{unit}
-use Rattle.opcodes.specs.Grid.{longOf, linesOf, gridOf, onOf, fitsOf, Fits-in}
+use Rattle.opcodes.specs.Grid.{longOf, everyOf, linesOf, gridOf, onOf, fitsOf, Fits-in}
 use Rattle.opcodes.specs.Step.{hornerOf, mappedOf, resultOf, appliedOf, valueOf, coefficientsOf, polynomialOf}
 use Rattle.opcodes.specs.Opcode.{row, column, actOf, lineOf}
 use Rattle.opcodes.specs.OpcodeList.{listedId, countOf, rowsOf, columnsOf, tableForm, polynomialForm, linesForm, formOf, exactOf, plainFault, floatsOf, kindOf}
@@ -161,24 +161,34 @@ accepted z id ps e = go (leb 36 (length ps)) (fitsOf z (gridOf ps)) (exactOf (fo
     go true true true h k l = record { some = leb-true 36 (length ps) h; grid = fits-in z (gridOf ps) k; exact = l }
 
 -- a sample on the grid
-pub record On (g : Grid) (r c : ℕ) : Type 0 where
+pub record On (g : Grid) (r c p : ℕ) : Type 0 where
+  pub row : everyOf (g .top) (g .bottom) (g .«row_pitch») r ≡ true
+  pub column : everyOf (g .left) (g .right) (g .«column_pitch») c ≡ true
   pub top : g .top ≤ r
   pub bottom : r < g .bottom
   pub left : g .left ≤ c
   pub right : c < g .right
+  pub plane : g .plane ≤ p
 
-pub on-in : (g : Grid) (r c p : ℕ) → onOf g r c p ≡ true → On g r c
+pub on-in : (g : Grid) (r c p : ℕ) → onOf g r c p ≡ true → On g r c p
 unfolding onOf
 on-in g r c p e =
-    let a = and-true _ _ e in
-    let b = and-true _ _ (a .1) in
+    let row = everyOf (g .top) (g .bottom) (g .«row_pitch») r in
+    let column = everyOf (g .left) (g .right) (g .«column_pitch») c in
+    let plane = leb (g .plane) p in
+    let below = ltb p (g .plane + g .planes) in
+    let a = and-true row (column && (plane && below)) e in
+    let b = and-true column (plane && below) (a .1) in
     let r′ = and-true _ _ (a .0) in
     let c′ = and-true _ _ (b .0) in
     record {
+      row = a .0;
+      column = b .0;
       top = leb-true _ _ (r′ .0);
       bottom = ltb-true _ _ (and-true _ _ (r′ .1) .0);
       left = leb-true _ _ (c′ .0);
       right = ltb-true _ _ (and-true _ _ (c′ .1) .0);
+      plane = leb-true (g .plane) p (and-true plane below (b .1) .0);
     }
 
 -- ---- the step acts as the opcode does

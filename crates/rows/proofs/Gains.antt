@@ -1,16 +1,14 @@
 -- A GainMap over a part of a row, and at one sample.
 -- Assumes nothing.
 use mathlib.Core.Path.{_≡_, refl, sym, ap, _∙_, subst}
-use mathlib.Core.Bool.{Bool, true, false, _&&_}
+use mathlib.Core.Bool.{Bool, true, false}
 use mathlib.Core.List.{List}
 use Prim.Native.Nat.{ℕ, _+_, _-_, _*_, _/_, _%_, _≤_, _<_, min}
 use native.Mathlib.Nat.{le-div-iff-mul-le, add-mul, one-mul}
 use native.Mathlib.Omega.{arith}
-use borrow.Author.Tests.{leb-true, eq-eqb, ne-eqb}
-use lib.Dec.{leb, ltb}
+use borrow.Author.Tests.{eq-eqb, ne-eqb}
 use lib.Ieee.{Float, nan, binary64, mul}
 use lib.ListN.{length, getD}
-use lib.Seq.{take-length}
 use Rattle.reading.specs.Bytes.{part}
 use Rattle.reading.specs.Reading.{pick}
 use Rattle.reading.proofs.Reading.{pick-yes, pick-no}
@@ -27,8 +25,8 @@ use Rattle.opcodes.specs.declared.list.Header.{Header}
 use Rattle.opcodes.specs.declared.gain_map.Bracket.{Bracket}
 use Rattle.opcodes.specs.declared.step.Step.the-variants.{Scale}
 use Rattle.rows.specs.declared.gain_map.Columns.{Columns}
-use Rattle.opcodes.proofs.OpcodeLists.{and-true}
-use Rattle.opcodes.proofs.StepLaws.{plain-listed}
+use Rattle.opcodes.proofs.OpcodeLists.{own-grid}
+use Rattle.opcodes.proofs.StepLaws.{On, on-in, plain-listed}
 use Rattle.opcodes.proofs.GainMaps.{gain-in, map-accepted, fault-map, fault-plain}
 use Rattle.rows.specs.Sweep.{planesOf, overPart}
 use Rattle.rows.specs.GainMap.{columnAt, gainLine}
@@ -57,17 +55,6 @@ module _ (s : Columns) where
 module _ (z : Size) (ps : List ℕ) where
   abbrev own : Grid
   own = gridOf ps
-
-  pub on-parts : (g : Grid) (r c p : ℕ) → onOf g r c p ≡ true → (everyOf (g .left) (g .right) (g .«column_pitch») c ≡ true) × (g .plane ≤ p)
-  unfolding onOf
-  on-parts g r c p e =
-      let row = everyOf (g .top) (g .bottom) (g .«row_pitch») r in
-      let column = everyOf (g .left) (g .right) (g .«column_pitch») c in
-      let plane = leb (g .plane) p in
-      let below = ltb p (g .plane + g .planes) in
-      let a = and-true row (column && (plane && below)) e in
-      let b = and-true column (plane && below) (a .1) in
-      (b .0, leb-true (g .plane) p (and-true plane below (b .1) .0))
 
   -- ---- at one sample
   module _ (r c p : ℕ) (x : Float) where
@@ -108,7 +95,7 @@ module _ (z : Size) (ps : List ℕ) where
     same : (c p : ℕ) (x : Float) (b : Bool) → onOf own r c p ≡ b →
         pick b (gainLine ps z own down p ((c - own .left) / own .«column_pitch») x) x ≡ opcodeAt (gainedOf z ps) r c p x
     same c p x true t =
-        simp pick-yes (ap (λ (y : Float). clipOf (mul binary64 x y)) (line-is c (p - own .plane) (on-parts own r c p t .0)) ∙ gained r c p x t)
+        simp pick-yes (ap (λ (y : Float). clipOf (mul binary64 x y)) (line-is c (p - own .plane) (on-in own r c p t .column)) ∙ gained r c p x t)
     same c p x false t = simp pick-no (gone r c p x t)
 
     row-here : everyOf (own .top) (own .bottom) (own .«row_pitch») r ≡ true → after own ≡ overPart (gainedOf z ps) r l n xs
@@ -135,11 +122,11 @@ module _ (z : Size) (ps : List ℕ) where
     enough = omega (arith, map-in .inside)
 
     module _ (g : Grid) (e : (n : ℕ) → 32 ≤ n → g ≡ gridOf (part ps 0 n)) where
-      pub own-grid : g ≡ own
-      own-grid = e (length ps) (omega (arith, enough)) ∙ ap gridOf (take-length ps)
+      pub map-grid : g ≡ own
+      map-grid = own-grid ps g (omega (arith, enough)) e
 
       pub grid-in : Fits-in z g
-      grid-in = subst (Fits-in z) (sym own-grid) (map-accepted z ps ok .grid)
+      grid-in = subst (Fits-in z) (sym map-grid) (map-accepted z ps ok .grid)
 
 -- ---- an opcode of the list by its id
 module _ (f : List ℕ) (z : Size) (at : ℕ) (h : Header) (k : Kept-in f z at h) where

@@ -2,7 +2,7 @@ use mathlib.Core.Path.{sym, _∙_}
 use native.Mathlib.Omega.{arith}
 use denote.Ref.{now}
 use Rattle.opcodes.proofs.StepLaws.{on-in}
-use Rattle.rows.proofs.Gains.{own-grid, on-parts, at-on, at-off, map-in, enough, grid-in}
+use Rattle.rows.proofs.Gains.{map-grid, at-on, at-off, map-in, enough, grid-in}
 use borrow.Author.Needs.{needs}
 use Rattle.rows.proofs.gain_map.gain_at.Statement.{statement}
 use Rattle.rows.proofs.gain_map.gain_at.Tie as tie
@@ -22,7 +22,7 @@ sub-gain-at : tie.Need-sub-gain-at
 sub-gain-at c =
     let a = c .before .before .before .before .before .args in
     let t = sym (c .before .before .on .ensures) ∙ c .before .if1 .taken in
-    on-parts (a .size) (now (a .ps)) (c .before .before .before .grid-at .result) (a .row) (a .column) (a .plane) t .1
+    on-in (c .before .before .before .grid-at .result) (a .row) (a .column) (a .plane) t .plane
 
 gain-at-requires : tie.Need-gain-at-requires
 gain-at-requires c κs =
@@ -48,7 +48,7 @@ returns c =
     let s = c .before .before .before .before .before .before .before in
     let a = s .args in
     let n = c .before .before .before .before .before .grid-at in
-    let e = own-grid (a .size) (now (a .ps)) (s .pre .0) (n .result) (n .ensures .0) in
+    let e = map-grid (a .size) (now (a .ps)) (s .pre .0) (n .result) (n .ensures .0) in
     let t = sym (c .before .before .before .before .on .ensures) ∙ c .before .before .before .if1 .taken in
     let v = c .before .gain-at in
     c .apply .ensures ∙ at-on (a .size) (now (a .ps)) (a .row) (a .column) (a .plane) (a .x) (n .result) e t (v .result) (v .ensures)
@@ -58,7 +58,7 @@ returns-2 c =
     let s = c .before .before .before .before in
     let a = s .args in
     let n = c .before .before .grid-at in
-    let e = own-grid (a .size) (now (a .ps)) (s .pre .0) (n .result) (n .ensures .0) in
+    let e = map-grid (a .size) (now (a .ps)) (s .pre .0) (n .result) (n .ensures .0) in
     at-off (a .size) (now (a .ps)) (a .row) (a .column) (a .plane) (a .x) (n .result) e (sym (c .before .on .ensures) ∙ c .if1 .left)
 
 pub gain-at-spec : {M : Type 1} → statement M

@@ -4,7 +4,7 @@ use denote.Ref.{now}
 use Rattle.opcodes.specs.Bracket.{Axis-in, Bracket-of, Bracket-in}
 use Rattle.opcodes.specs.declared.gain_map.Axis.{Axis}
 use Rattle.rows.proofs.Sweeps.{every-told}
-use Rattle.rows.proofs.Gains.{own-grid, row-on, row-off, map-in, enough, grid-in}
+use Rattle.rows.proofs.Gains.{map-grid, row-on, row-off, map-in, enough, grid-in}
 use borrow.Author.Needs.{needs}
 use Rattle.rows.proofs.gain_map.gain_row.Statement.{statement}
 use Rattle.rows.proofs.gain_map.gain_row.Tie as tie
@@ -54,7 +54,7 @@ returns c =
     let s = d .before .before .before .before .before .before .before in
     let a = s .args in
     let n = d .before .before .before .before .grid-at in
-    let e = own-grid (a .size) (now (a .ps)) (s .pre .0) (n .result) (n .ensures .0) in
+    let e = map-grid (a .size) (now (a .ps)) (s .pre .0) (n .result) (n .ensures .0) in
     let t = sym (d .before .before .before .every .ensures) ∙ d .before .before .if1 .taken in
     let row = subst (λ (x : Axis). Bracket-of x (a .size .rows) (a .row) (d .located .result)) (d .before .down-axis .ensures) (d .located .ensures .0) in
     c .before .before .gain-planes .ensures
@@ -65,7 +65,7 @@ returns-2 c =
     let s = c .before .before .before .before .before in
     let a = s .args in
     let n = c .before .before .grid-at in
-    let e = own-grid (a .size) (now (a .ps)) (s .pre .0) (n .result) (n .ensures .0) in
+    let e = map-grid (a .size) (now (a .ps)) (s .pre .0) (n .result) (n .ensures .0) in
     row-off (a .size) (now (a .ps)) (a .row) (a .l) (a .size .samples) (now (a .out)) (n .result) e (sym (c .before .every .ensures) ∙ c .if1 .left)
 
 pub gain-row-spec : {M : Type 1} → statement M
