@@ -1,18 +1,16 @@
 -- A GainMap's brackets, corners and rules by the code's tests.
 -- Assumes nothing.
-use mathlib.Core.Path.{_≡_, refl, sym, ap, _∙_, subst}
-use mathlib.Core.Bool.{Bool, true, false, not, cond, _&&_, _||_, true≢false}
+use mathlib.Core.Path.{_≡_, refl, sym, ap, _∙_}
+use mathlib.Core.Bool.{Bool, true, false, not, _&&_, _||_, true≢false}
 use mathlib.Core.List.{List}
 use Prim.Native.Nat.{ℕ, suc, _+_, _*_, _-_, _≤_, _<_, min}
 use native.Mathlib.Nat.{mul-le-mul-left, mul-le-mul-right, suc-mul}
 use native.Mathlib.Omega.{arith}
-use borrow.Author.Tests.{le-leb, lt-leb, lt-ltb, le-ltb, ltb-true, leb-true, leb-false, eqb-true, eqb-false, eq-eqb, ne-eqb}
+use borrow.Author.Tests.{le-leb, lt-leb, lt-ltb, le-ltb, ltb-true, leb-true, leb-false, eqb-true, eq-eqb, ne-eqb}
 use lib.Dec.{T, leb, ltb, eqb}
 use lib.ListN.{length}
-use lib.Seq.{take-length}
-use lib.Ieee.{Float, nan, inf, fin, binary64, lt, le, sub, toUnsigned, ofBits, nanBits, isNan}
+use lib.Ieee.{Float, nan, inf, fin, binary64, lt, le, sub, ofBits, nanBits, isNan}
 use lib.Ieee.Bits.{nanBits-is}
-use lib.Ieee.Scale.{finite}
 use lib.Ieee.Positive.{positive}
 use Rattle.reading.specs.Bytes.{part}
 use Rattle.reading.specs.Number.{numberOf}
@@ -26,8 +24,6 @@ use Rattle.opcodes.specs.GainMap.{gainMapOf, gainsIn, aboveAt, axisLegal
 use Rattle.opcodes.specs.Bracket.{GainMap-in, pointOf, takenOf, Bracket-at, Bracket-of, Bracket-in, nextOf, gainIn, cornersOf, cornersGain}
 use Rattle.opcodes.specs.OpcodeList.{refusedAt, refusedIn, plainFault, gainMapFault, faultOf}
 use Rattle.opcodes.specs.declared.grid.Size.{Size}
-use Rattle.opcodes.specs.declared.grid.Grid.{Grid}
-use Rattle.opcodes.specs.declared.gain_map.Axis.{Axis}
 use Rattle.opcodes.specs.declared.gain_map.Corners.{Corners}
 use Rattle.opcodes.specs.declared.gain_map.Bracket.{Bracket}
 use Rattle.opcodes.specs.declared.gain_map.Bracket.the-variants.{At, Between}
@@ -139,7 +135,8 @@ module _ (m : GainMap) (down across : Bracket) (q columns c : ℕ) (here : Brack
       ∙ taken-next (m .down .points) down (along i) along d
 
   -- of corners that were read
-  pub corners-found : (corners : Corners) (k : ℕ) (g : Float) → corners ≡ cornersOf m down q k → k ≡ pointOf across → g ≡ cornersGain corners down across →
+  pub corners-found : (corners : Corners) (k : ℕ) (g : Float) →
+      corners ≡ cornersOf m down q k → k ≡ pointOf across → g ≡ cornersGain corners down across →
       Bracket-in (m .down .points) down → Bracket-in (m .across .points) across → g ≡ gainIn m down q columns c
   corners-found corners k g e f h d a =
       h ∙ ap (λ (x : Corners). cornersGain x down across) e ∙ ap (λ (n : ℕ). cornersGain (cornersOf m down q n) down across) f ∙ corners-in d a
@@ -343,13 +340,15 @@ module _ (z : Size) (ps : List ℕ) where
       no : (n : ℕ) → n ≡ gainMapFault z ps → 0 < n → ⊥
       no n h k = let q : n ≡ 0 = h ∙ e in omega arith
 
-      go : (a b c d r : Bool) → leb 76 (length ps) ≡ a → fitsOf z (gridOf ps) ≡ b → gainMapLegal ps ≡ c → eqb (length ps) bytes ≡ d → wrong ≡ r →
-          Map-accepted
+      go : (a b c d r : Bool) → leb 76 (length ps) ≡ a → fitsOf z (gridOf ps) ≡ b → gainMapLegal ps ≡ c → eqb (length ps) bytes ≡ d →
+          wrong ≡ r → Map-accepted
       go false b c d r h k l m w = absurd (no 10 (map-short (leb-false 76 (length ps) h)) (omega arith))
       go true false c d r h k l m w = absurd (no 10 (map-grid (leb-true 76 (length ps) h) k) (omega arith))
       go true true false d r h k l m w = absurd (no 10 (map-illegal (leb-true 76 (length ps) h) k l) (omega arith))
       go true true true false r h k l m w = absurd (no 10 (map-inexact (leb-true 76 (length ps) h) k l m) (omega arith))
-      go true true true true true h k l m w = absurd (no 12 (sym (ap (λ (r : Bool). pick r 12 0) w) ∙ map-numbers (leb-true 76 (length ps) h) k l m) (omega arith))
+      go true true true true true h k l m w =
+          let e = map-numbers (leb-true 76 (length ps) h) k l m in
+          absurd (no 12 (sym (ap (λ (r : Bool). pick r 12 0) w) ∙ e) (omega arith))
       go true true true true false h k l m w =
           record { grid = fits-in z (gridOf ps) k; map = numbers-in (legal-in ps l) w (eqb-true (length ps) bytes m) }
 

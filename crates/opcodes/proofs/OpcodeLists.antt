@@ -99,7 +99,8 @@ module _ (z : Size) (id : ℕ) (ps : List ℕ) where
         pub fault-inexact : exactOf m (length ps) ≡ false → 10 ≡ plainFault z id ps
         fault-inexact b = fault-form (rw (← f) b)
 
-        pub fault-numbers : exactOf m (length ps) ≡ true → (r : Bool) → r ≡ refusedIn (m .width) ps 36 (m .numbers) → pick r 12 0 ≡ plainFault z id ps
+        pub fault-numbers : exactOf m (length ps) ≡ true → (r : Bool) → r ≡ refusedIn (m .width) ps 36 (m .numbers) →
+            pick r 12 0 ≡ plainFault z id ps
         unfolding plainFault pick
         fault-numbers b r e = rw (le-leb 36 (length ps) h, a, ← f, b, e)
 

@@ -129,7 +129,8 @@ value-number (inf s) n v = refl
 value-number (fin s m e) n v = refl
 
 -- of a finite origin, and a spacing that is finite and above 0
-place-number : (a : Axis) (size n : ℕ) → T (finite (a .origin)) → T (positive (a .spacing)) → n < size → size ≤ 65536 → isNan (placeOf a size n) ≡ false
+place-number : (a : Axis) (size n : ℕ) → T (finite (a .origin)) → T (positive (a .spacing)) → n < size → size ≤ 65536 →
+    isNan (placeOf a size n) ≡ false
 unfolding placeOf
 place-number a size n o s h few =
     let near : n ≤ 65536 = omega arith in
@@ -138,7 +139,8 @@ place-number a size n o s h few =
     div-number _ (a .spacing) (sub-number _ (a .origin) part o) s
 
 -- so for every row or column, where an axis has more than one point
-pub axis-number : (a : Axis) (size n : ℕ) (p : Float) → Axis-in a → (a .points ≡ 1 → ⊥) → n < size → size ≤ 16384 → p ≡ placeOf a size n → isNan p ≡ false
+pub axis-number : (a : Axis) (size n : ℕ) (p : Float) → Axis-in a → (a .points ≡ 1 → ⊥) → n < size → size ≤ 16384 →
+    p ≡ placeOf a size n → isNan p ≡ false
 axis-number a size n p i h l m e =
     let more : 1 < a .points = omega (arith, i .some) in
     ap isNan e ∙ place-number a size n (i .origin) (i .spacing more) l (omega arith)

@@ -26,7 +26,7 @@ use Rattle.opcodes.specs.declared.gain_map.Bracket.{Bracket}
 use Rattle.opcodes.specs.declared.step.Step.the-variants.{Scale}
 use Rattle.rows.specs.declared.gain_map.Columns.{Columns}
 use Rattle.opcodes.proofs.OpcodeLists.{own-grid}
-use Rattle.opcodes.proofs.StepLaws.{On, on-in, plain-listed}
+use Rattle.opcodes.proofs.StepLaws.{on-in, plain-listed}
 use Rattle.opcodes.proofs.GainMaps.{gain-in, map-accepted, fault-map, fault-plain}
 use Rattle.rows.specs.Sweep.{planesOf, overPart}
 use Rattle.rows.specs.GainMap.{columnAt, gainLine}

@@ -22,7 +22,8 @@ found e p = e ∙ ap (λ (bs : List ℕ). cornersOf (gainMapOf bs) (At 0) 0 0) p
 gained : {ps : List ℕ} {g : Float} → g ≡ gainOf (gainMapOf ps) four-by-four 1 2 0 → ps ≡ shading → g ≡ gainThere
 gained e p = e ∙ ap (λ (bs : List ℕ). gainOf (gainMapOf bs) four-by-four 1 2 0) p
 
-applied : {ps : List ℕ} {g x : Float} → x ≡ appliedOf (Scale g) ps quarter → g ≡ gainThere → ps ≡ shading → x ≡ appliedOf (Scale gainThere) shading quarter
+applied : {ps : List ℕ} {g x : Float} → x ≡ appliedOf (Scale g) ps quarter → g ≡ gainThere → ps ≡ shading →
+    x ≡ appliedOf (Scale gainThere) shading quarter
 applied e g p = e ∙ rw (g, p)
 
 gain-map-bytes-requires : tie.Need-gain-map-bytes-requires
@@ -49,19 +50,29 @@ apply-requires : tie.Need-apply-requires
 apply-requires c κs = search needs
 
 bits-of-requires : tie.Need-bits-of-requires
-bits-of-requires c κs = rw (found (c .before .before .before .before .corners-at .ensures) (c .before .before .before .before .before .before .gain-map-bytes .ensures)) (gain-numbers .0)
+bits-of-requires c κs =
+    let d = c .before .before .before .before in
+    rw (found (d .corners-at .ensures) (d .before .before .gain-map-bytes .ensures)) (gain-numbers .0)
 
 bits-of-requires-2 : tie.Need-bits-of-requires-2
-bits-of-requires-2 c κs = rw (found (c .before .before .before .before .before .corners-at .ensures) (c .before .before .before .before .before .before .before .gain-map-bytes .ensures)) (gain-numbers .1)
+bits-of-requires-2 c κs =
+    let d = c .before .before .before .before .before in
+    rw (found (d .corners-at .ensures) (d .before .before .gain-map-bytes .ensures)) (gain-numbers .1)
 
 bits-of-requires-3 : tie.Need-bits-of-requires-3
-bits-of-requires-3 c κs = rw (found (c .before .before .before .before .before .before .corners-at .ensures) (c .before .before .before .before .before .before .before .before .gain-map-bytes .ensures)) (gain-numbers .2)
+bits-of-requires-3 c κs =
+    let d = c .before .before .before .before .before .before in
+    rw (found (d .corners-at .ensures) (d .before .before .gain-map-bytes .ensures)) (gain-numbers .2)
 
 bits-of-requires-4 : tie.Need-bits-of-requires-4
-bits-of-requires-4 c κs = rw (found (c .before .before .before .before .before .before .before .corners-at .ensures) (c .before .before .before .before .before .before .before .before .before .gain-map-bytes .ensures)) (gain-numbers .3)
+bits-of-requires-4 c κs =
+    let d = c .before .before .before .before .before .before .before in
+    rw (found (d .corners-at .ensures) (d .before .before .gain-map-bytes .ensures)) (gain-numbers .3)
 
 bits-of-requires-5 : tie.Need-bits-of-requires-5
-bits-of-requires-5 c κs = rw (gained (c .before .before .before .before .before .before .gain-at .ensures) (c .before .before .before .before .before .before .before .before .before .before .gain-map-bytes .ensures)) (gained-numbers .0)
+bits-of-requires-5 c κs =
+    let d = c .before .before .before .before .before .before in
+    rw (gained (d .gain-at .ensures) (d .before .before .before .before .gain-map-bytes .ensures)) (gained-numbers .0)
 
 bits-of-requires-6 : tie.Need-bits-of-requires-6
 unfolding ofBits

@@ -1,8 +1,4 @@
 use mathlib.Core.Path.{ap, _∙_}
-use mathlib.Core.List.{List}
-use native.Mathlib.Omega.{arith}
-use Prim.Native.Nat.{ℕ}
-use lib.ListN.{length}
 use Rattle.opcodes.specs.GainMap.{placeOf, downOf, gainMapOf}
 use Rattle.opcodes.specs.declared.gain_map.Axis.{Axis}
 use borrow.Author.Needs.{needs}

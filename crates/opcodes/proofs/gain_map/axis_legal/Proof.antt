@@ -1,4 +1,4 @@
-use mathlib.Core.Path.{_≡_, refl, sym, ap, _∙_, subst}
+use mathlib.Core.Path.{_∙_}
 use Rattle.opcodes.proofs.GainMaps.{axis-none, axis-many, axis-one, axis-some}
 use borrow.Author.Needs.{needs}
 use Rattle.opcodes.proofs.gain_map.axis_legal.Statement.{statement}

@@ -1,6 +1,6 @@
 use mathlib.Core.Path.{_∙_, ap}
 use native.Mathlib.Omega.{arith}
-use Prim.Native.Nat.{ℕ, _+_, _-_, _<_}
+use Prim.Native.Nat.{ℕ, _+_, _-_}
 use lib.Ieee.{binary64, ofBits, sub}
 use Rattle.opcodes.specs.GainMap.{floatOf, betweenOf}
 use Rattle.opcodes.proofs.Places.{float-exact, whole-below, word-below}

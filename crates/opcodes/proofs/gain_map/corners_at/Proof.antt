@@ -1,8 +1,7 @@
-use mathlib.Core.Path.{_≡_, sym, ap, _∙_, subst}
+use mathlib.Core.Path.{ap, _∙_}
 use native.Mathlib.Omega.{arith}
-use Prim.Native.Nat.{ℕ, _<_}
+use Prim.Native.Nat.{ℕ}
 use denote.Ref.{now}
-use Rattle.opcodes.specs.Grid.{longOf}
 use Rattle.opcodes.specs.GainMap.{gainMapOf}
 use Rattle.opcodes.specs.Bracket.{nextOf}
 use Rattle.opcodes.proofs.Places.{float-exact}
@@ -82,8 +81,8 @@ returns c =
     let i = t .before .before .point in
     let l = t .next .ensures .0 ∙ ap (λ (n : ℕ). nextOf n (i .result)) (t .before .field .ensures .0) in
     let r = u .next2 .ensures .0 ∙ ap (λ (n : ℕ). nextOf n (s .args .k)) (u .before .field2 .ensures .0) in
-    corners-read m (s .args .down) (s .args .q) (s .args .k) _ _ _ _ _ _ _ (i .ensures) l r (c .before .before .before .gain .ensures) (c .before .before .gain2 .ensures)
-    (c .before .gain3 .ensures) (c .gain4 .ensures)
+    corners-read m (s .args .down) (s .args .q) (s .args .k) _ _ _ _ _ _ _ (i .ensures) l r
+    (c .before .before .before .gain .ensures) (c .before .before .gain2 .ensures) (c .before .gain3 .ensures) (c .gain4 .ensures)
 
 pub corners-at-spec : {M : Type 1} → statement M
 corners-at-spec =

@@ -1,8 +1,7 @@
-use mathlib.Core.Path.{_≡_, ap, _∙_}
+use mathlib.Core.Path.{ap, _∙_}
 use denote.Ref.{now}
 use Rattle.opcodes.specs.GainMap.{gainMapOf}
 use Rattle.opcodes.specs.Bracket.{cornersOf}
-use borrow.Author.Needs.{needs}
 use Rattle.opcodes.proofs.gain_map.corners_near.Statement.{statement}
 use Rattle.opcodes.proofs.gain_map.corners_near.Tie as tie
 

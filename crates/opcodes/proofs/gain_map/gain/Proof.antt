@@ -1,10 +1,6 @@
-use mathlib.Core.Path.{_≡_, ap, _∙_}
+use mathlib.Core.Path.{ap, _∙_}
 use native.Mathlib.Omega.{arith}
-use Prim.Native.Nat.{ℕ, _+_, _*_, _≤_}
 use denote.Ref.{now}
-use lib.ListN.{length}
-use Rattle.opcodes.specs.Grid.{longOf}
-use Rattle.opcodes.specs.GainMap.{planesIn}
 use Rattle.opcodes.specs.Step.{valueOf}
 use Rattle.opcodes.proofs.GainMaps.{gain-room, gain-read}
 use borrow.Author.Needs.{needs}

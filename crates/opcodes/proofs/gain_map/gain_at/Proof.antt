@@ -1,6 +1,5 @@
-use mathlib.Core.Path.{_≡_, sym, ap, _∙_, subst}
+use mathlib.Core.Path.{sym, _∙_, subst}
 use native.Mathlib.Omega.{arith}
-use Prim.Native.Nat.{ℕ}
 use denote.Ref.{now}
 use Rattle.opcodes.specs.Grid.{longOf}
 use Rattle.opcodes.specs.GainMap.{gainMapOf}
@@ -63,7 +62,8 @@ returns c =
     let rows = subst (λ (x : Axis). Bracket-in (x .points) (down .result)) f (down .ensures .1) in
     let columns = subst (λ (x : Axis). Bracket-in (x .points) (across .result)) e (across .ensures .1) in
     let q = p .plane-for in
-    corners-found m (down .result) (across .result) (q .result) (a .size .columns) (a .column) here (c .before .corners-at .result) _ _ (c .before .corners-at .ensures)
+    let four = c .before .corners-at in
+    corners-found m (down .result) (across .result) (q .result) (a .size .columns) (a .column) here (four .result) _ _ (four .ensures)
     (c .before .before .point .ensures) (c .corners-gain .ensures) rows columns
     ∙ gain-in m (a .size) (a .row) (a .column) (a .j) (down .result) (q .result) row (q .ensures .0)
 

@@ -23,7 +23,8 @@ bracket-at-requires c κs =
 returns-2 : tie.Need-returns-2
 returns-2 c =
     let a = c .before .before .before .args in
-    (subst (λ (p : Float). Bracket-at (a .axis .points) p (c .bracket-at .result)) (c .before .place .ensures) (c .bracket-at .ensures .0), c .bracket-at .ensures .1)
+    let e = c .before .place .ensures in
+    (subst (λ (p : Float). Bracket-at (a .axis .points) p (c .bracket-at .result)) e (c .bracket-at .ensures .0), c .bracket-at .ensures .1)
 
 pub located-spec : {M : Type 1} → statement M
 located-spec = tie.close (tie.spec returns place-requires bracket-at-requires returns-2)

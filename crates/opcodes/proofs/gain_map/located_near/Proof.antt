@@ -1,10 +1,7 @@
-use mathlib.Core.Path.{_≡_, sym, ap, _∙_, subst}
-use mathlib.Core.Bool.{true}
+use mathlib.Core.Path.{sym, ap, _∙_, subst}
 use native.Mathlib.Omega.{arith}
-use lib.Ieee.{Float, binary64, sub, lt}
-use Rattle.opcodes.specs.GainMap.{placeOf}
+use lib.Ieee.{Float, lt}
 use Rattle.opcodes.specs.Bracket.{Bracket-at}
-use Rattle.opcodes.specs.declared.gain_map.Bracket.the-variants.{Between}
 use Rattle.opcodes.proofs.Places.{axis-number}
 use Rattle.opcodes.proofs.GainMaps.{along-one, bracket-near}
 use Rattle.opcodes.proofs.gain_map.located_near.Statement.{statement}

@@ -1,4 +1,4 @@
-use mathlib.Core.Path.{_≡_, sym, _∙_}
+use mathlib.Core.Path.{sym, _∙_}
 use mathlib.Core.Bool.{true, false}
 use native.Mathlib.Omega.{arith}
 use Prim.Native.Nat.{_≤_}
@@ -47,10 +47,12 @@ returns-2 c =
     let a = d .before .before .before .before .before .before .before .before .args in
     let ps = now (a .ps) in
     let few : 32 ≤ length ps = omega (arith, h) in
-    let fit = own-fits ps (g .result) few (g .ensures .0) (a .size) _ true (d .before .before .before .before .fits2 .ensures) (d .before .before .before .if2 .taken) in
+    let e = d .before .before .before .before .fits2 .ensures in
+    let fit = own-fits ps (g .result) few (g .ensures .0) (a .size) _ true e (d .before .before .before .if2 .taken) in
     let l = sym (d .before .before .legal .ensures) ∙ d .before .if3 .taken in
     let n = d .count in
-    c .numbers-fault .ensures ∙ map-read (a .size) ps h fit l (n .result) (n .ensures .0) (c .before .before .if4 .taken) _ (c .before .gain-map-refused .ensures)
+    let t = c .before .before .if4 .taken in
+    c .numbers-fault .ensures ∙ map-read (a .size) ps h fit l (n .result) (n .ensures .0) t _ (c .before .gain-map-refused .ensures)
 
 returns-3 : tie.Need-returns-3
 returns-3 c =
@@ -60,7 +62,8 @@ returns-3 c =
     let a = d .before .before .before .before .before .before .before .before .args in
     let ps = now (a .ps) in
     let few : 32 ≤ length ps = omega (arith, h) in
-    let fit = own-fits ps (g .result) few (g .ensures .0) (a .size) _ true (d .before .before .before .before .fits2 .ensures) (d .before .before .before .if2 .taken) in
+    let e = d .before .before .before .before .fits2 .ensures in
+    let fit = own-fits ps (g .result) few (g .ensures .0) (a .size) _ true e (d .before .before .before .if2 .taken) in
     let l = sym (d .before .before .legal .ensures) ∙ d .before .if3 .taken in
     map-other (a .size) ps h fit l (d .count .result) (d .count .ensures .0) (c .if4 .left)
 

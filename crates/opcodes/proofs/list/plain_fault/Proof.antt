@@ -40,14 +40,18 @@ form-for-requires c κs =
 exact-requires : tie.Need-exact-requires
 exact-requires c κs =
     let n = c .before .field in
-    let q : Form-in (c .form-for .result) = rw (c .form-for .ensures) (form-in (c .before .before .before .before .grid-at .result) (c .before .before .before .before .before .before .before .args .id) (n .result) (n .ensures .1)) in
+    let g = c .before .before .before .before .grid-at .result in
+    let id = c .before .before .before .before .before .before .before .args .id in
+    let q : Form-in (c .form-for .result) = rw (c .form-for .ensures) (form-in g id (n .result) (n .ensures .1)) in
     q .small
 
 refused-in-requires : tie.Need-refused-in-requires
 refused-in-requires c κs =
     let m = c .before .before .form-for in
     let n = c .before .before .before .field in
-    let q : Form-in (m .result) = rw (m .ensures) (form-in (c .before .before .before .before .before .before .grid-at .result) (c .before .before .before .before .before .before .before .before .before .args .id) (n .result) (n .ensures .1)) in
+    let g = c .before .before .before .before .before .before .grid-at .result in
+    let id = c .before .before .before .before .before .before .before .before .before .args .id in
+    let q : Form-in (m .result) = rw (m .ensures) (form-in g id (n .result) (n .ensures .1)) in
     let b = exact-bytes (m .result) _ (sym (c .before .exact .ensures) ∙ c .if3 .taken) in
     (omega (arith, b, q .inside), q .wide)
 

@@ -1,4 +1,4 @@
-use mathlib.Core.Path.{_≡_, refl, sym, ap, _∙_, subst}
+use mathlib.Core.Path.{_≡_, refl, ap, _∙_, subst}
 use mathlib.Core.List.{List}
 use Prim.Native.Nat.{ℕ, _+_, _-_, _*_, _/_, _≤_, _<_, min}
 use native.Mathlib.Nat.{mul-le-mul-left, mul-pos}
@@ -20,7 +20,8 @@ along ps down plane width left pitch p j x = timesGain ps down (min (p - plane) 
 
 abbrev Inv-loop : tie.InvT-loop
 Inv-loop ps down l out₀ left right pitch plane planes stop n width across skip first end p₀ out p =
-    (plane ≤ p) × (p ≤ stop) × (length out ≡ length out₀) × (out ≡ planesOf (along ps down plane width left pitch) left right pitch l n plane p out₀)
+    (plane ≤ p) × (p ≤ stop) × (length out ≡ length out₀)
+    × (out ≡ planesOf (along ps down plane width left pitch) left right pitch l n plane p out₀)
 
 abbrev μ-loop : tie.MeasureT-loop
 μ-loop ps down l out₀ left right pitch plane planes stop n width across skip first end p₀ out p = stop - p
@@ -126,7 +127,9 @@ loop-again c =
     let step = g .«column_pitch» * a .size .samples in
     let swept : ℕ → List Float = λ q.
     sweptOf (f .result + v .p) (e .result) step
-    (λ m x. timesGain (now (a .ps)) (a .down) q (a .size .columns) (g .left + (k .result + (m - (f .result + v .p)) / step) * g .«column_pitch») x) (v .out) in (
+    (λ m x.
+    let j = k .result + (m - (f .result + v .p)) / step in
+    timesGain (now (a .ps)) (a .down) q (a .size .columns) (g .left + j * g .«column_pitch») x) (v .out) in (
       omega (arith, v .inv .0),
       omega (arith, t),
       w .kept .1 .1 .1 .1 .1 .1 .0 ∙ v .inv .2,

@@ -1,5 +1,5 @@
 use mathlib.Core.Path.{_≡_, sym, ap, _∙_, subst}
-use Prim.Native.Nat.{ℕ, _+_, _-_, _*_, _/_, _≤_, _<_}
+use Prim.Native.Nat.{ℕ, _-_, _*_, _<_}
 use native.Mathlib.Omega.{arith}
 use denote.Ref.{now}
 use mir.Syntax.{w64}
@@ -12,6 +12,7 @@ use Rattle.opcodes.specs.Grid.{longOf}
 use Rattle.opcodes.specs.GainMap.{floatOf, gainMapOf}
 use Rattle.opcodes.specs.Bracket.{Axis-in, Bracket-of, Bracket-in, nextOf, cornersOf}
 use Rattle.opcodes.specs.declared.gain_map.Axis.{Axis}
+use Rattle.opcodes.specs.declared.gain_map.Corners.{Corners}
 use Rattle.opcodes.proofs.GainMaps.{point-below, corners-found, corners-point, corners-own, corners-sides}
 use Rattle.rows.specs.GainMap.{columnAt, timesGain}
 use Rattle.rows.specs.declared.gain_map.Columns.{Columns}
@@ -24,10 +25,15 @@ use Rattle.rows.proofs.gain_map.sweep_gain.Tie as tie
 abbrev columns-of : ℕ → ℕ → ℕ → ℕ → ℕ → ℕ → Columns
 columns-of left pitch skip first end step = record { left = left; pitch = pitch; skip = skip; first = first; end = end; step = step }
 
+-- corners at hand, among the points across
+abbrev Sides : Corners → Axis → Type 0
+Sides o x = (o .from ≡ floatOf (o .point)) × (o .to ≡ floatOf (nextOf (x .points) (o .point))) × (o .point < x .points)
+
 abbrev Inv-loop : tie.InvT-loop
 Inv-loop ps across width down q out₀ left pitch skip first end step corners₀ c₀ i₀ out corners c i =
     Swept first end step (λ k x. timesGain ps down q width (columnAt (columns-of left pitch skip first end step) k) x) i out₀ out
-    × (c ≡ columnAt (columns-of left pitch skip first end step) i) × (corners ≡ cornersOf (gainMapOf ps) down q (corners .point)) × (corners .point < longOf ps 36)
+    × (c ≡ columnAt (columns-of left pitch skip first end step) i) × (corners ≡ cornersOf (gainMapOf ps) down q (corners .point))
+    × (corners .point < longOf ps 36)
 
 abbrev μ-loop : tie.MeasureT-loop
 μ-loop ps across width down q out₀ left pitch skip first end step corners₀ c₀ i₀ out corners c i = end - i
@@ -63,7 +69,7 @@ located-near-requires c κs =
     let t = every-tell _ _ _ (v .i) (v .inv .0 .from) (c .loop-test .taken) (v .inv .0 .point) in
     let d = corners-sides (gainMapOf (now (a .ps))) (a .down) (a .q) (v .corners .point) (v .corners) (v .inv .2) in (
       (subst Axis-in (sym (h .1)) (h .0 .across), omega (arith, v .inv .1, s .pre .0 .0 .inside (v .i) t), s .pre .0 .1),
-      subst (λ (x : Axis). (v .corners .from ≡ floatOf (v .corners .point)) × (v .corners .to ≡ floatOf (nextOf (x .points) (v .corners .point))) × (v .corners .point < x .points)) (sym (h .1)) (d .0, d .1, v .inv .3),
+      subst (Sides (v .corners)) (sym (h .1)) (d .0, d .1, v .inv .3),
     )
 
 point-requires : tie.Need-point-requires Inv-loop μ-loop
@@ -147,11 +153,13 @@ loop-again c =
     let m = gainMapOf (now (a .ps)) in
     let here = subst (λ (x : Axis). Bracket-of x (a .width) (v .c) (bracket .result)) (h .1) (bracket .ensures .0) in
     let among = subst (λ (x : Axis). Bracket-in (x .points) (bracket .result)) (h .1) (bracket .ensures .1) in
-    let gain = corners-found m (a .down) (bracket .result) (a .q) (a .width) (v .c) here (d .corners-near .result) _ _ (d .corners-near .ensures) (d .before .point .ensures)
+    let four = d .corners-near in
+    let gain = corners-found m (a .down) (bracket .result) (a .q) (a .width) (v .c) here (four .result) _ _ (four .ensures) (d .before .point .ensures)
     (c .before .corners-gain .ensures) (h .2) among in
     let x = getD (v .out) (v .i) nan in
-    let e : c .clip .result ≡ timesGain (now (a .ps)) (a .down) (a .q) (a .width) (columnAt (a .columns) (v .i)) x =
-    c .clip .ensures ∙ ap (λ (y : Float). clipOf (mul binary64 x y)) gain ∙ ap (λ (n : ℕ). timesGain (now (a .ps)) (a .down) (a .q) (a .width) n x) (v .inv .1) in
+    let times : ℕ → Float = λ n. timesGain (now (a .ps)) (a .down) (a .q) (a .width) n x in
+    let e : c .clip .result ≡ times (columnAt (a .columns) (v .i)) =
+    c .clip .ensures ∙ ap (λ (y : Float). clipOf (mul binary64 x y)) gain ∙ ap times (v .inv .1) in
     let p = s .pre .0 .0 in
     let o = corners-point m (a .down) (a .q) _ _ (d .corners-near .ensures) in
     let k = point-below (longOf (now (a .ps)) 36) (bracket .result) among in (
