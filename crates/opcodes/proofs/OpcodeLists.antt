@@ -94,8 +94,11 @@ module _ (z : Size) (id : ℕ) (ps : List ℕ) where
       unfolding plainFault pick
       fault-form b = rw (le-leb 36 (length ps) h, a, b)
 
-      -- of a form that was found
-      module _ (m : Form) (f : m ≡ formOf (gridOf ps) id (countOf ps)) where
+      -- of a form that was found for the grid and the LONG
+      module _ (g : Grid) (i : g ≡ gridOf ps) (n : ℕ) (j : n ≡ countOf ps) (m : Form) (k : m ≡ formOf g id n) where
+        f : m ≡ formOf (gridOf ps) id (countOf ps)
+        f = k ∙ rw (i, j)
+
         pub fault-inexact : exactOf m (length ps) ≡ false → 10 ≡ plainFault z id ps
         fault-inexact b = fault-form (rw (← f) b)
 
@@ -129,13 +132,13 @@ fits-in z g e =
       column-pitch = leb-true _ _ (s .1);
     }
 
--- the grid that was read in an opcode's own bytes
-module _ (ps : List ℕ) (g : Grid) (h : 32 ≤ length ps) (e : (n : ℕ) → 32 ≤ n → g ≡ gridOf (part ps 0 n)) where
+-- the grid that was read in an opcode's own bytes, 32 of them and some more
+module _ (ps : List ℕ) (g : Grid) (more : ℕ) (h : 32 + more ≤ length ps) (e : (n : ℕ) → 32 ≤ n → g ≡ gridOf (part ps 0 n)) where
   pub own-grid : g ≡ gridOf ps
-  own-grid = e (length ps) h ∙ ap gridOf (take-length ps)
+  own-grid = e (length ps) (omega arith) ∙ ap gridOf (take-length ps)
 
-  pub own-fits : (z : Size) (b t : Bool) → b ≡ fitsOf z g → b ≡ t → fitsOf z (gridOf ps) ≡ t
-  own-fits z b t f k = ap (fitsOf z) (sym own-grid) ∙ sym f ∙ k
+  pub own-fits : (z : Size) (t : Bool) → fitsOf z g ≡ t → fitsOf z (gridOf ps) ≡ t
+  own-fits z t k = ap (fitsOf z) (sym own-grid) ∙ k
 
 -- the numbers of an opcode's own bytes, as they stand in the file
 pub long-part : (f : List ℕ) (at n k : ℕ) → k + 4 ≤ n → longOf f (at + k) ≡ longOf (part f at n) k

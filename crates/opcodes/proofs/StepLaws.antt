@@ -102,8 +102,8 @@ pub plain-other : (id : ℕ) → plainId id ≡ true → id ≡ 9 → ⊥
 plain-other id h e = true≢false (sym h ∙ ap plainId e)
 
 -- the last of the ids
-pub listed-last : (id : ℕ) → plainId id ≡ true → (id ≡ 7 → ⊥) → (id ≡ 8 → ⊥) → (id ≡ 10 → ⊥) → (id ≡ 11 → ⊥) → (id ≡ 12 → ⊥) →
-    id ≡ 13
+pub listed-last : (id : ℕ) → plainId id ≡ true → (id ≡ 7 → ⊥) → (id ≡ 8 → ⊥) → (id ≡ 10 → ⊥) → (id ≡ 11 → ⊥) →
+    (id ≡ 12 → ⊥) → id ≡ 13
 listed-last id h a b c d e = go (leb 10 id) (leb id 13) refl refl (rw (ne-eqb id 7 a, ne-eqb id 8 b) at h)
   where
     go : (p q : Bool) → leb 10 id ≡ p → leb id 13 ≡ q → (leb 10 id && leb id 13) ≡ true → id ≡ 13

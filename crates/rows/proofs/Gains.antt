@@ -123,7 +123,7 @@ module _ (z : Size) (ps : List ℕ) where
 
     module _ (g : Grid) (e : (n : ℕ) → 32 ≤ n → g ≡ gridOf (part ps 0 n)) where
       pub map-grid : g ≡ own
-      map-grid = own-grid ps g (omega (arith, enough)) e
+      map-grid = own-grid ps g 44 enough e
 
       pub grid-in : Fits-in z g
       grid-in = subst (Fits-in z) (sym map-grid) (map-accepted z ps ok .grid)

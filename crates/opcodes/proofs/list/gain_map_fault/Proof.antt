@@ -1,9 +1,6 @@
 use mathlib.Core.Path.{sym, _∙_}
 use mathlib.Core.Bool.{true, false}
-use native.Mathlib.Omega.{arith}
-use Prim.Native.Nat.{_≤_}
 use denote.Ref.{now}
-use lib.ListN.{length}
 use Rattle.opcodes.proofs.OpcodeLists.{own-fits}
 use Rattle.opcodes.proofs.GainMaps.{legal-in, map-short, map-grid, map-illegal, map-other, map-read}
 use borrow.Author.Needs.{needs}
@@ -42,49 +39,43 @@ numbers-fault-requires c κs = search needs
 returns-2 : tie.Need-returns-2
 returns-2 c =
     let d = c .before .before .before in
+    let t = sym (d .before .before .before .before .fits2 .ensures) ∙ d .before .before .before .if2 .taken in
     let g = d .before .before .before .before .before .grid-at in
     let h = d .before .before .before .before .before .before .if1 .left in
     let a = d .before .before .before .before .before .before .before .before .args in
-    let ps = now (a .ps) in
-    let few : 32 ≤ length ps = omega (arith, h) in
-    let e = d .before .before .before .before .fits2 .ensures in
-    let fit = own-fits ps (g .result) few (g .ensures .0) (a .size) _ true e (d .before .before .before .if2 .taken) in
+    let fit = own-fits (now (a .ps)) (g .result) 44 h (g .ensures .0) (a .size) true t in
     let l = sym (d .before .before .legal .ensures) ∙ d .before .if3 .taken in
     let n = d .count in
-    let t = c .before .before .if4 .taken in
-    c .numbers-fault .ensures ∙ map-read (a .size) ps h fit l (n .result) (n .ensures .0) t _ (c .before .gain-map-refused .ensures)
+    c .numbers-fault .ensures
+    ∙ map-read (a .size) (now (a .ps)) h fit l (n .result) (n .ensures .0) (c .before .before .if4 .taken) _ (c .before .gain-map-refused .ensures)
 
 returns-3 : tie.Need-returns-3
 returns-3 c =
     let d = c .before in
-    let g = d .before .before .before .before .before .grid-at in
-    let h = d .before .before .before .before .before .before .if1 .left in
-    let a = d .before .before .before .before .before .before .before .before .args in
-    let ps = now (a .ps) in
-    let few : 32 ≤ length ps = omega (arith, h) in
-    let e = d .before .before .before .before .fits2 .ensures in
-    let fit = own-fits ps (g .result) few (g .ensures .0) (a .size) _ true e (d .before .before .before .if2 .taken) in
     let l = sym (d .before .before .legal .ensures) ∙ d .before .if3 .taken in
-    map-other (a .size) ps h fit l (d .count .result) (d .count .ensures .0) (c .if4 .left)
+    let h = d .before .before .before .before .before .before .if1 .left in
+    let g = d .before .before .before .before .before .grid-at in
+    let t = sym (d .before .before .before .before .fits2 .ensures) ∙ d .before .before .before .if2 .taken in
+    let a = d .before .before .before .before .before .before .before .before .args in
+    let fit = own-fits (now (a .ps)) (g .result) 44 h (g .ensures .0) (a .size) true t in
+    map-other (a .size) (now (a .ps)) h fit l (d .count .result) (d .count .ensures .0) (c .if4 .left)
 
 returns-4 : tie.Need-returns-4
 returns-4 c =
+    let t = sym (c .before .before .before .fits2 .ensures) ∙ c .before .before .if2 .taken in
     let g = c .before .before .before .before .grid-at in
     let h = c .before .before .before .before .before .if1 .left in
     let a = c .before .before .before .before .before .before .before .args in
-    let ps = now (a .ps) in
-    let few : 32 ≤ length ps = omega (arith, h) in
-    let fit = own-fits ps (g .result) few (g .ensures .0) (a .size) _ true (c .before .before .before .fits2 .ensures) (c .before .before .if2 .taken) in
-    map-illegal (a .size) ps h fit (sym (c .before .legal .ensures) ∙ c .if3 .left)
+    let fit = own-fits (now (a .ps)) (g .result) 44 h (g .ensures .0) (a .size) true t in
+    map-illegal (a .size) (now (a .ps)) h fit (sym (c .before .legal .ensures) ∙ c .if3 .left)
 
 returns-5 : tie.Need-returns-5
 returns-5 c =
+    let a = c .before .before .before .before .before .args in
     let g = c .before .before .grid-at in
     let h = c .before .before .before .if1 .left in
-    let a = c .before .before .before .before .before .args in
-    let ps = now (a .ps) in
-    let few : 32 ≤ length ps = omega (arith, h) in
-    map-grid (a .size) ps h (own-fits ps (g .result) few (g .ensures .0) (a .size) _ false (c .before .fits2 .ensures) (c .if2 .left))
+    let t = sym (c .before .fits2 .ensures) ∙ c .if2 .left in
+    map-grid (a .size) (now (a .ps)) h (own-fits (now (a .ps)) (g .result) 44 h (g .ensures .0) (a .size) false t)
 
 pub gain-map-fault-spec : {M : Type 1} → statement M
 gain-map-fault-spec =

@@ -1,12 +1,7 @@
-use mathlib.Core.Path.{_≡_, sym, _∙_}
+use mathlib.Core.Path.{sym, _∙_}
 use mathlib.Core.Bool.{true, false}
 use native.Mathlib.Omega.{arith}
-use Prim.Native.Nat.{ℕ, _≤_}
 use denote.Ref.{now}
-use lib.ListN.{length}
-use Rattle.opcodes.specs.OpcodeList.{formOf}
-use Rattle.opcodes.specs.declared.grid.Grid.{Grid}
-use Rattle.opcodes.specs.declared.list.Form.{Form}
 use Rattle.opcodes.proofs.OpcodeLists.{fault-short, fault-grid, fault-inexact, fault-numbers, fits-in, own-grid, own-fits}
 use Rattle.opcodes.proofs.OpcodeLists.{Form-in, form-in, exact-bytes}
 use borrow.Author.Needs.{needs}
@@ -58,45 +53,39 @@ refused-in-requires c κs =
 numbers-fault-requires : tie.Need-numbers-fault-requires
 numbers-fault-requires c κs = search needs
 
--- the form that was found is that of the grid and the LONG
-form-same : (id : ℕ) (g g′ : Grid) (n n′ : ℕ) (m : Form) → g ≡ g′ → n ≡ n′ → m ≡ formOf g id n → m ≡ formOf g′ id n′
-form-same id g g′ n n′ m a b e = e ∙ rw (a, b)
-
 returns-2 : tie.Need-returns-2
 returns-2 c =
     let d = c .before .before .before .before in
-    let s = d .before .before .before .before .before .before .before in
-    let a = s .args in
-    let ps = now (a .ps) in
     let g = d .before .before .before .before .grid-at in
     let h = d .before .before .before .before .before .if1 .left in
-    let few : 32 ≤ length ps = omega (arith, h) in
-    let fit = own-fits ps (g .result) few (g .ensures .0) (a .size) _ true (d .before .before .before .fits2 .ensures) (d .before .before .if2 .taken) in
-    let m = form-same (a .id) _ _ _ _ _ (own-grid ps (g .result) few (g .ensures .0)) (d .before .field .ensures .0) (d .form-for .ensures) in
+    let a = d .before .before .before .before .before .before .before .args in
+    let own = own-grid (now (a .ps)) (g .result) 4 h (g .ensures .0) in
+    let t = sym (d .before .before .before .fits2 .ensures) ∙ d .before .before .if2 .taken in
+    let fit = own-fits (now (a .ps)) (g .result) 4 h (g .ensures .0) (a .size) true t in
     let x = sym (c .before .before .before .exact .ensures) ∙ c .before .before .if3 .taken in
-    c .numbers-fault .ensures ∙ fault-numbers (a .size) (a .id) ps h fit (d .form-for .result) m x _ (c .before .refused-in .ensures)
+    c .numbers-fault .ensures
+    ∙ fault-numbers (a .size) (a .id) (now (a .ps)) h fit (g .result) own _ (d .before .field .ensures .0) _ (d .form-for .ensures) x _
+    (c .before .refused-in .ensures)
 
 returns-3 : tie.Need-returns-3
 returns-3 c =
     let d = c .before .before in
-    let s = d .before .before .before .before .before .before .before in
-    let a = s .args in
-    let ps = now (a .ps) in
     let g = d .before .before .before .before .grid-at in
     let h = d .before .before .before .before .before .if1 .left in
-    let few : 32 ≤ length ps = omega (arith, h) in
-    let fit = own-fits ps (g .result) few (g .ensures .0) (a .size) _ true (d .before .before .before .fits2 .ensures) (d .before .before .if2 .taken) in
-    let m = form-same (a .id) _ _ _ _ _ (own-grid ps (g .result) few (g .ensures .0)) (d .before .field .ensures .0) (d .form-for .ensures) in
-    fault-inexact (a .size) (a .id) ps h fit (d .form-for .result) m (sym (c .before .exact .ensures) ∙ c .if3 .left)
+    let a = d .before .before .before .before .before .before .before .args in
+    let own = own-grid (now (a .ps)) (g .result) 4 h (g .ensures .0) in
+    let t = sym (d .before .before .before .fits2 .ensures) ∙ d .before .before .if2 .taken in
+    let fit = own-fits (now (a .ps)) (g .result) 4 h (g .ensures .0) (a .size) true t in
+    fault-inexact (a .size) (a .id) (now (a .ps)) h fit (g .result) own _ (d .before .field .ensures .0) _ (d .form-for .ensures)
+    (sym (c .before .exact .ensures) ∙ c .if3 .left)
 
 returns-4 : tie.Need-returns-4
 returns-4 c =
     let a = c .before .before .before .before .before .args in
-    let ps = now (a .ps) in
     let g = c .before .before .grid-at in
     let h = c .before .before .before .if1 .left in
-    let few : 32 ≤ length ps = omega (arith, h) in
-    fault-grid (a .size) (a .id) ps h (own-fits ps (g .result) few (g .ensures .0) (a .size) _ false (c .before .fits2 .ensures) (c .if2 .left))
+    let t = sym (c .before .fits2 .ensures) ∙ c .if2 .left in
+    fault-grid (a .size) (a .id) (now (a .ps)) h (own-fits (now (a .ps)) (g .result) 4 h (g .ensures .0) (a .size) false t)
 
 pub plain-fault-spec : {M : Type 1} → statement M
 plain-fault-spec =
