@@ -9,6 +9,7 @@ pub mod Listing
 pub mod Unread
 pub mod Swaps
 pub mod Places
+pub mod BracketLaws
 pub mod GainMaps
 pub mod StepLaws
 pub mod Clips

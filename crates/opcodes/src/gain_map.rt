@@ -38,10 +38,11 @@ pub struct Corners {
     pub lower_right: f64,
 }
 
+// Whether 8 bytes are a NaN's: the exponent's field is all ones, and the digits' field is not 0.
 fn nan_pattern(n: u64) -> bool
     ensures { λ r. ⌜ r ≡ nanBits binary64 n ⌝ }
 {
-    n % 9223372036854775808 / 4503599627370496 == 2047 && n % 4503599627370496 != 0
+    n % 0x8000_0000_0000_0000 / 0x10_0000_0000_0000 == 0x7FF && n % 0x10_0000_0000_0000 != 0
 }
 
 // Whether the DOUBLE at a place is above 0.
@@ -180,6 +181,7 @@ pub fn located_near(axis: Axis, size: usize, n: usize, corners: Corners) -> Brac
     bracket_at(points, p)
 }
 
+// The point that a bracket is at, or the first of its two.
 pub fn point(bracket: Bracket) -> usize
     ensures { λ r. ⌜ r ≡ pointOf bracket ⌝ }
 {
@@ -214,6 +216,7 @@ pub fn corners_gain(corners: Corners, down: Bracket, across: Bracket) -> f64
     taken(down, upper, lower)
 }
 
+// The next point, or the last one again.
 fn next(points: usize, k: usize) -> usize
     requires { ⌜ (k < points) × (points ≤ 64) ⌝ }
     ensures { λ r. ⌜ (r ≡ nextOf points k) × (r < points) ⌝ }

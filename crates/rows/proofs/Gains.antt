@@ -27,7 +27,8 @@ use Rattle.opcodes.specs.declared.step.Step.the-variants.{Scale}
 use Rattle.rows.specs.declared.gain_map.Columns.{Columns}
 use Rattle.opcodes.proofs.OpcodeLists.{own-grid}
 use Rattle.opcodes.proofs.StepLaws.{on-in, plain-listed}
-use Rattle.opcodes.proofs.GainMaps.{gain-in, map-accepted, fault-map, fault-plain}
+use Rattle.opcodes.proofs.BracketLaws.{gain-in}
+use Rattle.opcodes.proofs.GainMaps.{map-accepted, fault-map, fault-plain}
 use Rattle.rows.specs.Sweep.{planesOf, overPart}
 use Rattle.rows.specs.GainMap.{columnAt, gainLine}
 use Rattle.rows.specs.Part.{Kept-in, Plain-in, keptOf, gainedOf}

@@ -4,7 +4,7 @@ use Prim.Native.Nat.{ℕ, _+_, _-_}
 use lib.Ieee.{binary64, ofBits, sub}
 use Rattle.opcodes.specs.GainMap.{floatOf, betweenOf}
 use Rattle.opcodes.proofs.Places.{float-exact, whole-below, word-below}
-use Rattle.opcodes.proofs.GainMaps.{along-first, along-last, along-between}
+use Rattle.opcodes.proofs.BracketLaws.{along-first, along-last, along-between}
 use Rattle.opcodes.proofs.gain_map.bracket_at.Statement.{statement}
 use Rattle.opcodes.proofs.gain_map.bracket_at.Tie as tie
 

@@ -5,7 +5,7 @@ use denote.Ref.{now}
 use Rattle.opcodes.specs.GainMap.{gainMapOf}
 use Rattle.opcodes.specs.Bracket.{nextOf}
 use Rattle.opcodes.proofs.Places.{float-exact}
-use Rattle.opcodes.proofs.GainMaps.{point-below, corners-read}
+use Rattle.opcodes.proofs.BracketLaws.{point-below, corners-read}
 use borrow.Author.Needs.{needs}
 use Rattle.opcodes.proofs.gain_map.corners_at.Statement.{statement}
 use Rattle.opcodes.proofs.gain_map.corners_at.Tie as tie

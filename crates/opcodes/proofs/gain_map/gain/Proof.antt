@@ -4,7 +4,7 @@ use Prim.Native.Nat.{_+_, _*_, _≤_}
 use lib.ListN.{length}
 use denote.Ref.{now}
 use Rattle.opcodes.specs.Step.{valueOf}
-use Rattle.opcodes.proofs.GainMaps.{gain-room, gain-read}
+use Rattle.opcodes.proofs.BracketLaws.{gain-room, gain-read}
 use borrow.Author.Needs.{needs}
 use Rattle.opcodes.proofs.gain_map.gain.Statement.{statement}
 use Rattle.opcodes.proofs.gain_map.gain.Tie as tie

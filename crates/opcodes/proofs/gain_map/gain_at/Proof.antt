@@ -5,7 +5,7 @@ use Rattle.opcodes.specs.Grid.{longOf}
 use Rattle.opcodes.specs.GainMap.{gainMapOf}
 use Rattle.opcodes.specs.Bracket.{Axis-in, Bracket-of, Bracket-in}
 use Rattle.opcodes.specs.declared.gain_map.Axis.{Axis}
-use Rattle.opcodes.proofs.GainMaps.{point-below, corners-found, gain-in}
+use Rattle.opcodes.proofs.BracketLaws.{point-below, corners-found, gain-in}
 use borrow.Author.Needs.{needs}
 use Rattle.opcodes.proofs.gain_map.gain_at.Statement.{statement}
 use Rattle.opcodes.proofs.gain_map.gain_at.Tie as tie

@@ -1,4 +1,4 @@
-use Rattle.opcodes.proofs.GainMaps.{next-more, next-last}
+use Rattle.opcodes.proofs.BracketLaws.{next-more, next-last}
 use borrow.Author.Needs.{needs}
 use Rattle.opcodes.proofs.gain_map.next.Statement.{statement}
 use Rattle.opcodes.proofs.gain_map.next.Tie as tie

@@ -13,7 +13,7 @@ use Rattle.opcodes.specs.GainMap.{floatOf, gainMapOf}
 use Rattle.opcodes.specs.Bracket.{Axis-in, Bracket-of, Bracket-in, nextOf, cornersOf}
 use Rattle.opcodes.specs.declared.gain_map.Axis.{Axis}
 use Rattle.opcodes.specs.declared.gain_map.Corners.{Corners}
-use Rattle.opcodes.proofs.GainMaps.{point-below, corners-found, corners-point, corners-own, corners-sides}
+use Rattle.opcodes.proofs.BracketLaws.{point-below, corners-found, corners-point, corners-own, corners-sides}
 use Rattle.rows.specs.GainMap.{columnAt, timesGain}
 use Rattle.rows.specs.declared.gain_map.Columns.{Columns}
 use Rattle.rows.proofs.Gains.{column-first, column-more}
