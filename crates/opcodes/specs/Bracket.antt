@@ -73,6 +73,10 @@ cornersOf m down q k =
       «lower_right» = m .gains (nextOf (m .down .points) (pointOf down)) (nextOf (m .across .points) k) q;
     }
 
--- and the gain from them
+-- corners among the points of an axis
+abbrev pub Corners-in : Axis → Corners → Type 0
+Corners-in a o = (o .from ≡ floatOf (o .point)) × (o .to ≡ floatOf (nextOf (a .points) (o .point))) × (o .point < a .points)
+
+-- the gain from them
 abbrev pub cornersGain : Corners → Bracket → Bracket → Float
 cornersGain c down across = takenOf down (takenOf across (c .«upper_left») (c .«upper_right»)) (takenOf across (c .«lower_left») (c .«lower_right»))

@@ -5,8 +5,8 @@ ghost use lib.ListN.{length};
 ghost use lib.Ieee.{binary64, nanBits, isNan};
 ghost use mathlib.Core.Bool.{false};
 ghost use Rattle.opcodes.specs.Grid.{longOf};
-ghost use Rattle.opcodes.specs.GainMap.{floatOf, placeOf, betweenOf, gainOf, axisOf, downOf, acrossOf, planesIn, gainMapOf, aboveAt, axisLegal, gainMapLegal, gainsIn};
-ghost use Rattle.opcodes.specs.Bracket.{Axis-in, GainMap-in, pointOf, takenOf, Bracket-at, Bracket-of, Bracket-in, nextOf, cornersOf, cornersGain};
+ghost use Rattle.opcodes.specs.GainMap.{placeOf, betweenOf, gainOf, axisOf, downOf, acrossOf, planesIn, gainMapOf, aboveAt, axisLegal, gainMapLegal, gainsIn};
+ghost use Rattle.opcodes.specs.Bracket.{Axis-in, GainMap-in, pointOf, takenOf, Bracket-at, Bracket-of, Bracket-in, nextOf, cornersOf, Corners-in, cornersGain};
 use crate::grid;
 use crate::grid::Size;
 use crate::step;
@@ -164,7 +164,7 @@ pub fn located(axis: Axis, size: usize, n: usize) -> Bracket
 // The same, looked for first between two points that are at hand: the next column mostly lies there too.
 pub fn located_near(axis: Axis, size: usize, n: usize, corners: Corners) -> Bracket
     requires { ⌜ Axis-in axis × (n < size) × (size ≤ 16384) ⌝ }
-    requires { ⌜ (corners .from ≡ floatOf (corners .point)) × (corners .to ≡ floatOf (nextOf (axis .points) (corners .point))) × (corners .point < axis .points) ⌝ }
+    requires { ⌜ Corners-in axis corners ⌝ }
     ensures { λ r. ⌜ Bracket-of axis size n r × Bracket-in (axis .points) r ⌝ }
 {
     let points = axis.points;

@@ -9,10 +9,9 @@ use lib.ListN.{length, getD}
 use borrow.Author.Needs.{scaled-fits}
 use Rattle.levels.specs.Clip.{clipOf}
 use Rattle.opcodes.specs.Grid.{longOf}
-use Rattle.opcodes.specs.GainMap.{floatOf, gainMapOf}
-use Rattle.opcodes.specs.Bracket.{Axis-in, Bracket-of, Bracket-in, nextOf, cornersOf}
+use Rattle.opcodes.specs.GainMap.{gainMapOf}
+use Rattle.opcodes.specs.Bracket.{Axis-in, Bracket-of, Bracket-in, cornersOf, Corners-in}
 use Rattle.opcodes.specs.declared.gain_map.Axis.{Axis}
-use Rattle.opcodes.specs.declared.gain_map.Corners.{Corners}
 use Rattle.opcodes.proofs.BracketLaws.{point-below, corners-found, corners-point, corners-own, corners-sides}
 use Rattle.rows.specs.GainMap.{columnAt, timesGain}
 use Rattle.rows.specs.declared.gain_map.Columns.{Columns}
@@ -24,10 +23,6 @@ use Rattle.rows.proofs.gain_map.sweep_gain.Tie as tie
 
 abbrev columns-of : ℕ → ℕ → ℕ → ℕ → ℕ → ℕ → Columns
 columns-of left pitch skip first end step = record { left = left; pitch = pitch; skip = skip; first = first; end = end; step = step }
-
--- corners at hand, among the points across
-abbrev Sides : Corners → Axis → Type 0
-Sides o x = (o .from ≡ floatOf (o .point)) × (o .to ≡ floatOf (nextOf (x .points) (o .point))) × (o .point < x .points)
 
 abbrev Inv-loop : tie.InvT-loop
 Inv-loop ps across width down q out₀ left pitch skip first end step corners₀ c₀ i₀ out corners c i =
@@ -69,7 +64,7 @@ located-near-requires c κs =
     let t = every-tell _ _ _ (v .i) (v .inv .0 .from) (c .loop-test .taken) (v .inv .0 .point) in
     let d = corners-sides (gainMapOf (now (a .ps))) (a .down) (a .q) (v .corners .point) (v .corners) (v .inv .2) in (
       (subst Axis-in (sym (h .1)) (h .0 .across), omega (arith, v .inv .1, s .pre .0 .0 .inside (v .i) t), s .pre .0 .1),
-      subst (Sides (v .corners)) (sym (h .1)) (d .0, d .1, v .inv .3),
+      subst (λ (x : Axis). Corners-in x (v .corners)) (sym (h .1)) (d .0, d .1, v .inv .3),
     )
 
 point-requires : tie.Need-point-requires Inv-loop μ-loop
