@@ -1,7 +1,8 @@
-use mathlib.Core.Path.{sym, _∙_}
+use mathlib.Core.Path.{_≡_, sym, _∙_}
 use mathlib.Core.Bool.{true, false}
 use native.Mathlib.Omega.{arith}
 use denote.Ref.{now}
+use Rattle.opcodes.specs.Grid.{gridOf, fitsOf}
 use Rattle.opcodes.proofs.OpcodeLists.{fault-short, fault-grid, fault-inexact, fault-numbers, fits-in, own-grid, own-fits}
 use Rattle.opcodes.proofs.OpcodeLists.{Form-in, form-in, exact-bytes}
 use borrow.Author.Needs.{needs}
@@ -53,31 +54,41 @@ refused-in-requires c κs =
 numbers-fault-requires : tie.Need-numbers-fault-requires
 numbers-fault-requires c κs = search needs
 
+-- the grid that was read is the opcode's own, and lies in the frame
+own : (d : tie.After-form-for) →
+    let a = d .before .before .before .before .before .before .before .args in
+    d .before .before .before .before .grid-at .result ≡ gridOf (now (a .ps))
+own d =
+    let g = d .before .before .before .before .grid-at in
+    let a = d .before .before .before .before .before .before .before .args in
+    own-grid (now (a .ps)) (g .result) 4 (d .before .before .before .before .before .if1 .left) (g .ensures .0)
+
+fit : (d : tie.After-form-for) →
+    let a = d .before .before .before .before .before .before .before .args in
+    fitsOf (a .size) (gridOf (now (a .ps))) ≡ true
+fit d =
+    let t = sym (d .before .before .before .fits2 .ensures) ∙ d .before .before .if2 .taken in
+    let g = d .before .before .before .before .grid-at in
+    let a = d .before .before .before .before .before .before .before .args in
+    own-fits (now (a .ps)) (g .result) 4 (d .before .before .before .before .before .if1 .left) (g .ensures .0) (a .size) true t
+
 returns-2 : tie.Need-returns-2
 returns-2 c =
     let d = c .before .before .before .before in
-    let g = d .before .before .before .before .grid-at in
-    let h = d .before .before .before .before .before .if1 .left in
     let a = d .before .before .before .before .before .before .before .args in
-    let own = own-grid (now (a .ps)) (g .result) 4 h (g .ensures .0) in
-    let t = sym (d .before .before .before .fits2 .ensures) ∙ d .before .before .if2 .taken in
-    let fit = own-fits (now (a .ps)) (g .result) 4 h (g .ensures .0) (a .size) true t in
+    let h = d .before .before .before .before .before .if1 .left in
     let x = sym (c .before .before .before .exact .ensures) ∙ c .before .before .if3 .taken in
     c .numbers-fault .ensures
-    ∙ fault-numbers (a .size) (a .id) (now (a .ps)) h fit (g .result) own _ (d .before .field .ensures .0) _ (d .form-for .ensures) x _
+    ∙ fault-numbers (a .size) (a .id) (now (a .ps)) h (fit d) _ (own d) _ (d .before .field .ensures .0) _ (d .form-for .ensures) x _
     (c .before .refused-in .ensures)
 
 returns-3 : tie.Need-returns-3
 returns-3 c =
     let d = c .before .before in
-    let g = d .before .before .before .before .grid-at in
-    let h = d .before .before .before .before .before .if1 .left in
     let a = d .before .before .before .before .before .before .before .args in
-    let own = own-grid (now (a .ps)) (g .result) 4 h (g .ensures .0) in
-    let t = sym (d .before .before .before .fits2 .ensures) ∙ d .before .before .if2 .taken in
-    let fit = own-fits (now (a .ps)) (g .result) 4 h (g .ensures .0) (a .size) true t in
-    fault-inexact (a .size) (a .id) (now (a .ps)) h fit (g .result) own _ (d .before .field .ensures .0) _ (d .form-for .ensures)
-    (sym (c .before .exact .ensures) ∙ c .if3 .left)
+    let h = d .before .before .before .before .before .if1 .left in
+    let x = sym (c .before .exact .ensures) ∙ c .if3 .left in
+    fault-inexact (a .size) (a .id) (now (a .ps)) h (fit d) _ (own d) _ (d .before .field .ensures .0) _ (d .form-for .ensures) x
 
 returns-4 : tie.Need-returns-4
 returns-4 c =
