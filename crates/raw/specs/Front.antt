@@ -49,7 +49,7 @@ frontReading size =
 
 pub record Raw-in (f : List ℕ) (o : Order) (r : Raw) : Type 0 where
   pub tags : Tags-in f o (r .tags)
-  pub spans : Spans-in (r .spans)
+  pub spans : Spans-in (r .tags .frame .samples) (r .spans)
   pub spanned : is (r .spans) ≡ spannedOf (run f (levelsReading o (r .tags)))
 
 abbrev pub RawIn : List ℕ → Order → Read → Type 0

@@ -1,0 +1,294 @@
+-- Sums, differences, products and comparisons of f64, by the fractions that they equal; and a rounded fraction between two that the
+-- format holds.
+-- Assumes nothing.
+use mathlib.Core.Path.{_≡_, refl, sym, ap, _∙_, subst}
+use mathlib.Core.Logic.{_⊎_, inl, inr, ⊎-elim}
+use mathlib.Core.Bool.{Bool, true, false, not, _&&_, _||_, cond, Bool·beq, true≢false}
+use Prim.Native.Nat.{ℕ, zero, suc, _+_, _-_, _*_, _^_, _≤_, _<_}
+use native.Mathlib.Nat.{lt-of-lt-of-le, le-of-eq, le-of-lt, mul-comm, mul-assoc, mul-left-comm, mul-mul-mul-comm, add-mul, mul-sub, mul-one, mul-pos, zero-mul, zero-lt-suc}
+use native.Mathlib.Nat.{mul-le-mul-right, mul-lt-mul-of-pos-right}
+use native.Mathlib.Omega.{arith}
+use borrow.Author.Tests.{lt-ltb, le-ltb, ne-eqb}
+use lib.IntN.{ℤ, pos, negsuc, negℤ, natAbs, _+ℤ_, _-ℤ_}
+use lib.Dec.{T, ltb, eqb, eqb→eq, ltb→lt}
+use lib.Pow.{pow-pos, pow-mono}
+use lib.Ieee.{Float, nan, inf, fin, Format, binary64, prec, emax, low, up, down, odd, units, round, neg, sum, add, mul, sub, div, lt, le, ofInt}
+use lib.Ieee.Fits.{down-pos, and-l, round-is}
+use lib.Ieee.Exact.{HasValue, round-exact}
+use lib.Ieee.Order.{transfer, round-mono}
+use lib.Ieee.Scale.{round-same}
+use Rattle.reading.proofs.Wholes.{le-or-lt, negative, int-value}
+use Rattle.levels.specs.Level.{most}
+
+-- ---- the product
+mul-opened : (m : ℕ) (e : ℤ) (n : ℕ) (d : ℤ) → mul binary64 (fin false m e) (fin false n d) ≡ round binary64 false (m * up e * (n * up d)) (down e * down d)
+unfolding mul
+mul-opened m e n d = refl
+
+pub mul-values :
+    (x y : Float) (a c b d : ℕ) → 0 < c → 0 < d → HasValue x false a c → HasValue y false b d → mul binary64 x y ≡ round binary64 false (a * b) (c * d)
+mul-values nan y a c b d C D h k = absurd h
+mul-values (inf s) y a c b d C D h k = absurd h
+mul-values (fin true m e) y a c b d C D h k = absurd (true≢false (h .0))
+mul-values (fin false m e) nan a c b d C D h k = absurd k
+mul-values (fin false m e) (inf t) a c b d C D h k = absurd k
+mul-values (fin false m e) (fin true n g) a c b d C D h k = absurd (true≢false (k .0))
+mul-values (fin false m e) (fin false n g) a c b d C D h k =
+    let r : m * up e * c * (n * up g * d) ≡ a * down e * (b * down g) =
+    ap (λ (z : ℕ). z * (n * up g * d)) (h .1) ∙ ap (λ (z : ℕ). a * down e * z) (k .1) in
+    mul-opened m e n g
+    ∙ round-same binary64 false (m * up e * (n * up g)) (down e * down g) (a * b) (c * d) (mul-pos (down-pos e) (down-pos g)) (mul-pos C D)
+    (mul-mul-mul-comm (m * up e) (n * up g) c d ∙ r ∙ mul-mul-mul-comm a (down e) b (down g))
+
+-- ---- 65535.0 divided by a whole number
+div-opened : (n : ℕ) (d : ℤ) → div binary64 most (fin false n d) ≡ cond (eqb n 0) (inf false) (round binary64 false (65535 * 1 * down d) (n * up d * 1))
+unfolding div
+div-opened n d = refl
+
+some-of : (n u b d : ℕ) → 0 < b → 0 < d → n * u * 1 ≡ b * d → n ≡ 0 → ⊥
+some-of n u b d B D h z =
+    let l : n * u * 1 ≡ 0 = ap (λ (k : ℕ). k * u * 1) z ∙ ap (λ (k : ℕ). k * 1) (zero-mul u) in
+    omega (arith, mul-pos B D)
+
+pub div-values : (y : Float) (b : ℕ) → 0 < b → HasValue y false b 1 → div binary64 most y ≡ round binary64 false 65535 b
+div-values nan b B h = absurd h
+div-values (inf s) b B h = absurd h
+div-values (fin true n d) b B h = absurd (true≢false (h .0))
+div-values (fin false n d) b B h =
+    let p : 0 < n * up d * 1 = subst (λ (z : ℕ). 0 < z) (sym (h .1)) (mul-pos B (down-pos d)) in
+    let r : Float = round binary64 false (65535 * 1 * down d) (n * up d * 1) in
+    div-opened n d ∙ ap (λ (t : Bool). cond t (inf false) r) (ne-eqb n 0 (some-of n (up d) b (down d) B (down-pos d) (h .1)))
+    ∙ round-same binary64 false (65535 * 1 * down d) (n * up d * 1) 65535 b p B
+    (mul-assoc 65535 (down d) b ∙ ap (λ (z : ℕ). 65535 * z) (mul-comm (down d) b ∙ sym (h .1)))
+
+-- ---- the sum of fractions that are not negative
+add-opened : (s : Bool) (m : ℕ) (e : ℤ) (t : Bool) (n : ℕ) (d : ℤ) →
+    add binary64 (fin s m e) (fin t n d) ≡ sum binary64 s (m * up e * down d) t (n * up d * down e) (down e * down d)
+unfolding add
+add-opened s m e t n d = refl
+
+sum-plus : (a b c : ℕ) → sum binary64 false a false b c ≡ round binary64 false (a + b) c
+unfolding sum
+sum-plus a b c = refl
+
+cross-add : (x y e g a b c d : ℕ) → x * c ≡ a * e → y * d ≡ b * g → (x * g + y * e) * (c * d) ≡ (a * d + b * c) * (e * g)
+cross-add x y e g a b c d p q =
+    let l : x * g * (c * d) ≡ x * c * (g * d) = mul-mul-mul-comm x g c d in
+    let l′ : a * e * (g * d) ≡ a * d * (e * g) = simp (mul-assoc, mul-comm, mul-left-comm) in
+    let r : y * e * (c * d) ≡ y * d * (e * c) = simp (mul-assoc, mul-comm, mul-left-comm) in
+    let r′ : b * g * (e * c) ≡ b * c * (e * g) = simp (mul-assoc, mul-comm, mul-left-comm) in
+    add-mul (x * g) (y * e) (c * d)
+    ∙ ap (λ (z : ℕ). z + y * e * (c * d)) (l ∙ ap (λ (z : ℕ). z * (g * d)) p ∙ l′)
+    ∙ ap (λ (z : ℕ). a * d * (e * g) + z) (r ∙ ap (λ (z : ℕ). z * (e * c)) q ∙ r′)
+    ∙ sym (add-mul (a * d) (b * c) (e * g))
+
+pub add-values :
+    (x y : Float) (a c b d : ℕ) → 0 < c → 0 < d → HasValue x false a c → HasValue y false b d → add binary64 x y ≡ round binary64 false (a * d + b * c) (c * d)
+add-values nan y a c b d C D h k = absurd h
+add-values (inf s) y a c b d C D h k = absurd h
+add-values (fin true m e) y a c b d C D h k = absurd (true≢false (h .0))
+add-values (fin false m e) nan a c b d C D h k = absurd k
+add-values (fin false m e) (inf t) a c b d C D h k = absurd k
+add-values (fin false m e) (fin true n g) a c b d C D h k = absurd (true≢false (k .0))
+add-values (fin false m e) (fin false n g) a c b d C D h k =
+    let x : ℕ = m * up e * down g in
+    let y : ℕ = n * up g * down e in
+    add-opened false m e false n g ∙ sum-plus x y (down e * down g)
+    ∙ round-same binary64 false (x + y) (down e * down g) (a * d + b * c) (c * d) (mul-pos (down-pos e) (down-pos g)) (mul-pos C D)
+    (cross-add (m * up e) (n * up g) (down e) (down g) a b c d (h .1) (k .1))
+
+-- ---- the sum of whole numbers, each with its sign
+times-sub : (a b w : ℕ) → a * w - b * w ≡ (a - b) * w
+times-sub a b w =
+    sym (mul-comm (a - b) w ∙ mul-sub w a b ∙ ap (λ (z : ℕ). z - w * b) (mul-comm w a) ∙ ap (λ (z : ℕ). a * w - z) (mul-comm w b))
+
+module _ (w : ℕ) (some : 0 < w) where
+  ltb-scale : (a b : ℕ) → ltb (a * w) (b * w) ≡ ltb a b
+  ltb-scale a b =
+      ⊎-elim (λ l. le-ltb (a * w) (b * w) (mul-le-mul-right w l) ∙ sym (le-ltb a b l))
+      (λ l. lt-ltb (a * w) (b * w) (mul-lt-mul-of-pos-right l some) ∙ sym (lt-ltb a b l)) (le-or-lt b a)
+
+  round-scale : (s : Bool) (x a : ℕ) → x ≡ a * w → round binary64 s x w ≡ round binary64 s a 1
+  round-scale s x a e = round-same binary64 s x w a 1 some (zero-lt-suc 0) (mul-one x ∙ e)
+
+  sum-scale : (s t : Bool) (a b : ℕ) → sum binary64 s (a * w) t (b * w) w ≡ sum binary64 s a t b 1
+  unfolding sum
+  sum-scale s t a b =
+      let u = round-scale s (a * w + b * w) (a + b) (sym (add-mul a b w)) in
+      let v = round-scale t (b * w - a * w) (b - a) (times-sub b a w) in
+      let x = ap (λ (z : Bool). round binary64 (s && z) (a * w - b * w) w) (ltb-scale b a) ∙ round-scale (s && ltb b a) (a * w - b * w) (a - b) (times-sub a b w) in
+      λ i. cond (Bool·beq s t) (u i) (cond (ltb-scale a b i) (v i) (x i))
+
+whole-cross : (x e g a : ℕ) → x * 1 ≡ a * e → x * g ≡ a * (e * g)
+whole-cross x e g a p = ap (λ (z : ℕ). z * g) (sym (mul-one x) ∙ p) ∙ mul-assoc a e g
+
+whole-sum : (x y : Float) (s t : Bool) (a b : ℕ) → HasValue x s a 1 → HasValue y t b 1 → add binary64 x y ≡ sum binary64 s a t b 1
+whole-sum nan y s t a b h k = absurd h
+whole-sum (inf u) y s t a b h k = absurd h
+whole-sum (fin u m e) nan s t a b h k = absurd k
+whole-sum (fin u m e) (inf v) s t a b h k = absurd k
+whole-sum (fin u m e) (fin v n g) s t a b h k =
+    let w : ℕ = down e * down g in
+    let p : m * up e * down g ≡ a * w = whole-cross (m * up e) (down e) (down g) a (h .1) in
+    let q : n * up g * down e ≡ b * w = whole-cross (n * up g) (down g) (down e) b (k .1) ∙ ap (λ (z : ℕ). b * z) (mul-comm (down g) (down e)) in
+    add-opened u m e v n g ∙ (λ i. sum binary64 ((h .0) i) (p i) ((k .0) i) (q i) w) ∙ sum-scale w (mul-pos (down-pos e) (down-pos g)) s t a b
+
+flip : (a b : ℕ) → a < b → b - a ≡ suc (b - suc a)
+flip a b l = omega arith
+
+sum-int : (a b : ℤ) → sum binary64 (negative a) (natAbs a) (negative b) (natAbs b) 1 ≡ ofInt binary64 (a +ℤ b)
+unfolding sum ofInt
+sum-int (pos a) (pos b) = refl
+sum-int (negsuc a) (negsuc b) = let e : suc a + suc b ≡ suc (suc (a + b)) = omega arith in ap (λ (n : ℕ). round binary64 true n 1) e
+sum-int (pos a) (negsuc b) =
+    ⊎-elim (λ l. let t = le-ltb a (suc b) l in rw t)
+    (λ l. let t = lt-ltb a (suc b) l in rw t (ap (λ (n : ℕ). round binary64 true n 1) (flip a (suc b) l)))
+    (le-or-lt (suc b) a)
+sum-int (negsuc a) (pos b) =
+    ⊎-elim
+    (λ l. ⊎-elim
+    (λ k. let t = le-ltb b (suc a) l in
+    let u = le-ltb (suc a) b k in
+    let e : suc a - b ≡ b - suc a = omega arith in
+    rw (t, u) (ap (λ (n : ℕ). round binary64 false n 1) e))
+    (λ k. let t = le-ltb b (suc a) l in
+    let u = lt-ltb (suc a) b k in
+    rw (t, u))
+    (le-or-lt b (suc a)))
+    (λ l. let t = lt-ltb b (suc a) l in
+    let u = le-ltb (suc a) b (le-of-lt l) in
+    rw (t, u) (ap (λ (n : ℕ). round binary64 true n 1) (flip b (suc a) l)))
+    (le-or-lt (suc a) b)
+
+pub add-int : (a b : ℤ) → natAbs a ≤ 2 ^ 53 → natAbs b ≤ 2 ^ 53 → add binary64 (ofInt binary64 a) (ofInt binary64 b) ≡ ofInt binary64 (a +ℤ b)
+add-int a b h k = whole-sum (ofInt binary64 a) (ofInt binary64 b) (negative a) (negative b) (natAbs a) (natAbs b) (int-value a h) (int-value b k) ∙ sum-int a b
+
+-- ---- the difference
+neg-value : (y : Float) (t : Bool) (b : ℕ) → HasValue y t b 1 → HasValue (neg y) (not t) b 1
+unfolding neg
+neg-value nan t b h = h
+neg-value (inf u) t b h = h
+neg-value (fin u n g) t b h = (ap not (h .0), h .1)
+
+whole-difference : (x y : Float) (s t : Bool) (a b : ℕ) → HasValue x s a 1 → HasValue y t b 1 → sub binary64 x y ≡ sum binary64 s a (not t) b 1
+unfolding sub
+whole-difference x y s t a b h k = whole-sum x (neg y) s (not t) a b h (neg-value y t b k)
+
+sum-minus : (a b : ℕ) → b ≤ a → sum binary64 false a true b 1 ≡ round binary64 false (a - b) 1
+unfolding sum
+sum-minus a b l = rw (le-ltb a b l)
+
+pub sub-down : (x y : Float) (a b : ℕ) → HasValue x false a 1 → HasValue y false b 1 → b ≤ a → sub binary64 x y ≡ round binary64 false (a - b) 1
+sub-down x y a b h k l = whole-difference x y false false a b h k ∙ sum-minus a b l
+
+minus-int : (a : ℕ) (b : ℤ) → sum binary64 false a (not (negative b)) (natAbs b) 1 ≡ ofInt binary64 (pos a -ℤ b)
+unfolding ofInt
+minus-int a (pos zero) = let e : a - 0 ≡ a + 0 = omega arith in sum-minus a 0 (omega arith) ∙ ap (λ (n : ℕ). round binary64 false n 1) e
+minus-int a (pos (suc b)) = sum-int (pos a) (negsuc b)
+minus-int a (negsuc b) = sum-int (pos a) (pos (suc b))
+
+pub sub-int : (a : ℕ) (b : ℤ) → a ≤ 2 ^ 53 → natAbs b ≤ 2 ^ 53 → sub binary64 (ofInt binary64 (pos a)) (ofInt binary64 b) ≡ ofInt binary64 (pos a -ℤ b)
+sub-int a b h k =
+    whole-difference (ofInt binary64 (pos a)) (ofInt binary64 b) false (negative b) a (natAbs b) (int-value (pos a) h) (int-value b k) ∙ minus-int a b
+
+-- ---- the order, as one of fractions
+pub lt-fractions : (x y : Float) (a c b d : ℕ) → 0 < c → 0 < d → HasValue x false a c → HasValue y false b d → lt x y ≡ ltb (a * d) (b * c)
+unfolding lt
+lt-fractions nan y a c b d C D h k = absurd h
+lt-fractions (inf s) y a c b d C D h k = absurd h
+lt-fractions (fin true m e) y a c b d C D h k = absurd (true≢false (h .0))
+lt-fractions (fin false m e) nan a c b d C D h k = absurd k
+lt-fractions (fin false m e) (inf t) a c b d C D h k = absurd k
+lt-fractions (fin false m e) (fin true n g) a c b d C D h k = absurd (true≢false (k .0))
+lt-fractions (fin false m e) (fin false n g) a c b d C D h k =
+    let x : ℕ = m * up e * down g in
+    let y : ℕ = n * up g * down e in
+    let w : ℕ = down e * down g in
+    let l : x * (c * d) ≡ m * up e * c * (down g * d) = mul-mul-mul-comm (m * up e) (down g) c d in
+    let l′ : a * down e * (down g * d) ≡ a * d * w = simp (mul-assoc, mul-comm, mul-left-comm) in
+    let r : y * (c * d) ≡ n * up g * d * (down e * c) = simp (mul-assoc, mul-comm, mul-left-comm) in
+    let r′ : b * down g * (down e * c) ≡ b * c * w = simp (mul-assoc, mul-comm, mul-left-comm) in
+    sym (ltb-scale (c * d) (mul-pos C D) x y)
+    ∙ (λ i. ltb ((l ∙ ap (λ (z : ℕ). z * (down g * d)) (h .1) ∙ l′) i) ((r ∙ ap (λ (z : ℕ). z * (down e * c)) (k .1) ∙ r′) i))
+    ∙ ltb-scale w (mul-pos (down-pos e) (down-pos g)) (a * d) (b * c)
+
+pub lt-or-eq : (a b : ℕ) → T (ltb a b || (eqb a b && true)) → a ≤ b
+lt-or-eq a b t = ⊎-elim (λ u. le-of-lt (ltb→lt a b u)) (λ u. le-of-eq (eqb→eq a b (and-l (eqb a b) true u))) (split (ltb a b) (eqb a b && true) t)
+  where
+    split : (p q : Bool) → T (p || q) → T p ⊎ T q
+    split true q t = inl tt
+    split false q t = inr t
+
+pub le-values : (x y : Float) (a c b d : ℕ) → HasValue x false a c → HasValue y false b d → T (le x y) → a * d ≤ b * c
+unfolding le
+le-values nan y a c b d h k l = absurd h
+le-values (inf s) y a c b d h k l = absurd h
+le-values (fin true m e) y a c b d h k l = absurd (true≢false (h .0))
+le-values (fin false m e) nan a c b d h k l = absurd k
+le-values (fin false m e) (inf t) a c b d h k l = absurd k
+le-values (fin false m e) (fin true n g) a c b d h k l = absurd (true≢false (k .0))
+le-values (fin false m e) (fin false n g) a c b d h k l =
+    transfer a b c d (m * up e) (n * up g) (down e) (down g) (down-pos e) (down-pos g) (sym (h .1)) (sym (k .1))
+    (lt-or-eq (m * up e * down g) (n * up g * down e) l)
+
+-- ---- the shape of what `round` gives
+abbrev pub Shape : Bool → Float → Type 0
+Shape s x = (x ≡ inf s) ⊎ ((m : ℕ) × (e : ℤ) × (x ≡ fin s m e))
+
+pub odd-shape : (d : ℕ) (s : Bool) (q k l : ℕ) → (m : ℕ) × (e : ℤ) × (odd d s q k l ≡ fin s m e)
+unfolding odd
+odd-shape d s zero k l = (_, _, refl)
+odd-shape d s (suc q) k l = (_, _, refl)
+
+units-shape : (f : Format) (s : Bool) (q k : ℕ) → Shape s (units f s q k)
+unfolding units
+units-shape f s q k = go (ltb (q * 2 ^ k) (2 ^ (low f + suc (emax f))))
+  where
+    go : (b : Bool) → Shape s (cond b (odd (suc (prec f)) s q k (low f)) (inf s))
+    go true = inr (odd-shape (suc (prec f)) s q k (low f))
+    go false = inl refl
+
+pub round-shape : (f : Format) (s : Bool) (a c : ℕ) → Shape s (round f s a c)
+round-shape f s a c = subst (Shape s) (sym (round-is f s a c)) (units-shape f s _ _)
+
+not-inf : (y : Float) (b d : ℕ) → HasValue y false b d → T (le (inf false) y) → ⊥
+unfolding le
+not-inf nan b d h l = l
+not-inf (inf s) b d h l = h
+not-inf (fin s m e) b d h l = l
+
+-- ---- x is a number from lo / c to hi / c
+pub record Between (x : Float) (lo hi c : ℕ) : Type 0 where
+  pub top : ℕ
+  pub bottom : ℕ
+  pub some : 0 < bottom
+  pub value : HasValue x false top bottom
+  pub above : lo * bottom ≤ top * c
+  pub under : top * c ≤ hi * bottom
+
+-- a fraction between two that the format holds is rounded to a number between them
+pub round-between :
+    (num den lo hi c : ℕ) → 0 < den → 0 < c → HasValue (round binary64 false lo c) false lo c → HasValue (round binary64 false hi c) false hi c
+    → lo * den ≤ num * c → num * c ≤ hi * den → Between (round binary64 false num den) lo hi c
+round-between num den lo hi c D C l h a b =
+    let z : Float = round binary64 false num den in
+    let low : T (le (round binary64 false lo c) z) = round-mono binary64 lo c num den C D a in
+    let high : T (le z (round binary64 false hi c)) = round-mono binary64 num den hi c D C b in
+    ⊎-elim (λ q. absurd (not-inf (round binary64 false hi c) hi c h (subst (λ (x : Float). T (le x (round binary64 false hi c))) q high)))
+    (λ (m, e, q).
+    let v : HasValue z false (m * up e) (down e) = subst (λ (x : Float). HasValue x false (m * up e) (down e)) (sym q) (refl, refl) in
+    record {
+      top = m * up e;
+      bottom = down e;
+      some = down-pos e;
+      value = v;
+      above = le-values (round binary64 false lo c) z lo c (m * up e) (down e) l v low;
+      under = le-values z (round binary64 false hi c) (m * up e) (down e) hi c v h high;
+    }) (round-shape binary64 false num den)
+
+-- ---- what the format holds: whole numbers of 2 ^ -30 below 2 ^ 53 of them
+pub exact-fine : (n : ℕ) → n < 2 ^ 53 → HasValue (round binary64 false n (2 ^ 30)) false n (2 ^ 30)
+exact-fine n h =
+    round-exact binary64 false n (2 ^ 30) n 1044 (zero-lt-suc _) h
+    (lt-of-lt-of-le (mul-lt-mul-of-pos-right h (pow-pos 1044)) (pow-mono {i = 1097} {j = 2098} (omega arith)))
+    (sym (mul-assoc n (2 ^ 1044) (2 ^ 30)))
