@@ -1,0 +1,79 @@
+// Samples that stand one behind the other, each with its black and its plane's reciprocal.
+ghost use mathlib.Core.Path.{_≡_};
+ghost use Prim.Native.Nat.{ℕ, _≤_};
+ghost use lib.IntN.{ℤ};
+ghost use lib.Ieee.{nan};
+ghost use lib.ListN.{length};
+ghost use Rattle.rows.specs.Line.{Filled, lineValue, Line-in, Levelled};
+use levels::reciprocal;
+use levels::table;
+use raw::sample;
+use reading::number::Order;
+
+// How the samples are read, the first at a place, the table's place and count, and the row's delta.
+pub struct Line {
+    pub order: Order,
+    pub bytes: usize,
+    pub place: usize,
+    pub table: usize,
+    pub count: usize,
+    pub down: f64,
+}
+
+// The one loop over samples.
+fn scaled_samples(line: Line, file: &[u8], blacks: &[f64], inverses: &[f64], out: &mut [f64])
+    requires { ⌜ Line-in (now file) line (length (now out)) ⌝ }
+    requires { ⌜ (length (now out) ≤ length (now blacks)) × (length (now out) ≤ length (now inverses)) ⌝ }
+    ensures { λ _. ⌜ ((black span : ℕ → ℤ) → Levelled black span (now (blacks .entry)) (now (inverses .entry)) (line .down) (length (now (out .entry))) → Filled nan (lineValue (now (file .entry)) line black span) (length (now (out .entry))) (now (out .exit))) ⌝ }
+{
+    let order = line.order;
+    let bytes = line.bytes;
+    let place = line.place;
+    let table = line.table;
+    let count = line.count;
+    let down = line.down;
+    let mut i = 0;
+    while i < out.len() {
+        let stored = sample::sample_at(file, order, bytes, place + bytes * i);
+        let v = table::through(file, order, table, count, stored);
+        out[i] = reciprocal::scaled_by(v, blacks[i] + down, inverses[i]);
+        i += 1;
+    }
+}
+
+// The same; where there is no table, literals give the compiler loops without these tests, several samples at a time.
+pub fn scaled_line(line: Line, file: &[u8], blacks: &[f64], inverses: &[f64], out: &mut [f64])
+    requires { ⌜ Line-in (now file) line (length (now out)) ⌝ }
+    requires { ⌜ (length (now out) ≤ length (now blacks)) × (length (now out) ≤ length (now inverses)) ⌝ }
+    ensures { λ _. ⌜ ((black span : ℕ → ℤ) → Levelled black span (now (blacks .entry)) (now (inverses .entry)) (line .down) (length (now (out .entry))) → Filled nan (lineValue (now (file .entry)) line black span) (length (now (out .entry))) (now (out .exit))) ⌝ }
+{
+    let order = line.order;
+    let place = line.place;
+    let table = line.table;
+    let down = line.down;
+    if line.count != 0 {
+        scaled_samples(line, file, blacks, inverses, out);
+        return;
+    }
+    if line.bytes == 1 {
+        let bytes = Line {
+            order,
+            bytes: 1,
+            place,
+            table,
+            count: 0,
+            down,
+        };
+        scaled_samples(bytes, file, blacks, inverses, out);
+    } else {
+        let shorts = Line {
+            order,
+            bytes: 2,
+            place,
+            table,
+            count: 0,
+            down,
+        };
+        scaled_samples(shorts, file, blacks, inverses, out);
+    }
+}
