@@ -4,7 +4,7 @@ use mathlib.Core.Path.{_≡_, refl, sym, ap, _∙_, subst}
 use mathlib.Core.Bool.{Bool, true, false}
 use mathlib.Core.List.{List, _++_, append-assoc}
 use Prim.Native.Nat.{ℕ, _+_, _*_, _/_, _%_, _≤_, _<_}
-use native.Mathlib.Nat.{one-mul, mul-one, mul-assoc, mul-le-mul-right}
+use native.Mathlib.Nat.{one-mul, mul-one, mul-assoc, mul-le-mul-right, zero-lt-suc, div-lt-iff-lt-mul, div-add-mod', mod-lt}
 use native.Mathlib.Omega.{arith}
 use lib.Dec.{eqb}
 use lib.Ieee.{Float, nan}
@@ -16,7 +16,7 @@ use Rattle.reading.proofs.Reading.{run-answer, pick-yes, pick-no}
 use Rattle.directory.specs.Out.{Out, Out.refused, Out.is}
 use Rattle.directory.proofs.Outs.{bind-refused, bind-is, bind-inverse, same-value, not-refused}
 use Rattle.levels.specs.Run.{runOf}
-use Rattle.levels.proofs.Runs.{run-same, length-run}
+use Rattle.levels.proofs.Runs.{run-same, run-at, length-run}
 use Rattle.levels.proofs.Unit.{unit, in-unit, unit-plain}
 use Rattle.raw.specs.Pattern.{patternReading, Pattern-in}
 use Rattle.raw.specs.declared.front.Picture.{Picture}
@@ -42,7 +42,7 @@ use Rattle.develop.specs.declared.View.{View}
 use Rattle.develop.specs.declared.half_window.Half.{Half}
 use Rattle.develop.proofs.Answers.{developed-alone, alone-is-unit, values-same, inside-fits}
 use Rattle.develop.proofs.Called.{none-inside, filled-none, filled-fault, size-is}
-use Rattle.develop.proofs.Windows.{Rows, length-rows, rows-next, window-length, values-at, viewed-sized}
+use Rattle.develop.proofs.Windows.{joined-at, Rows, length-rows, rows-next, window-length, values-at, viewed-sized}
 
 -- ---- a block depends on its own four samples
 module _ (m : Half) (h : Pattern-in (m .pattern)) (x y : ℕ → ℕ → ℕ → Float) where
@@ -113,6 +113,16 @@ block-stored m x j a old new v w h e =
     (three-is v ∙ ap (λ (u : Xyz). runOf (channelOf u) 1 0 3) e ∙ ap (λ (n : ℕ). runOf (blockIn m x 0 n) 1 0 3) (sym z)) h refl
     (three-stored new a v (omega (arith, w .same)) ∙ append-assoc (take a new) (threeOf v) (drop (a + 3) new)
     ∙ ap (λ (l : List Float). take a new ++ (threeOf v ++ l)) (sym (drop-drop 3 a new)))
+
+-- its numbers, by block and channel
+pub block-row-at : (x : ℕ → ℕ → ℕ → Float) (l w r k : ℕ) → k < w * 3 → getD (blockRow x l w r) k nan ≡ x r (l + k / 3) (k % 3)
+block-row-at x l w r k h =
+    let c : k / 3 < w = div-lt-iff-lt-mul (zero-lt-suc 2) .1 h in
+    let p : k % 3 < 3 = mod-lt k (zero-lt-suc 2) in
+    let z : 0 + 1 * (k % 3) ≡ k % 3 = omega (arith, one-mul (k % 3)) in
+    ap (λ (n : ℕ). getD (blockRow x l w r) n nan) (sym (div-add-mod' k 3))
+    ∙ joined-at (λ (c : ℕ). runOf (x r c) 1 0 3) 3 (block-length x r) l w (k / 3) (k % 3) nan c p ∙ run-at (x r (l + k / 3)) 1 0 3 (k % 3) nan p
+    ∙ ap (x r (l + k / 3)) z
 
 pub block-row-length : (x : ℕ → ℕ → ℕ → Float) (l w r : ℕ) → length (blockRow x l w r) ≡ w * 3
 block-row-length x l w r = length-rows (λ (c : ℕ). runOf (x r c) 1 0 3) 3 l (block-length x r) w l

@@ -7,6 +7,7 @@ use crate::Answer;
 use crate::Opening;
 use crate::View;
 use crate::fill;
+use crate::fill::Rectangle;
 use crate::window;
 use colour::Colour;
 use colour::Coloured;
@@ -30,7 +31,13 @@ fn coloured_in(
     let size = view.size;
     let number = window::window_fault(size, 3, top, left, height, width, out.len());
     if number == 0 {
-        fill::fill_window(file, view, top, left, height, width, out);
+        let window = Rectangle {
+            top,
+            left,
+            height,
+            width,
+        };
+        fill::fill_window(file, view, window, out);
         pass::colour_pass(colour, out);
     }
     Answer { number, detail: 0 }

@@ -8,15 +8,17 @@ ghost use Rattle.raw.specs.Front.{Picture-in};
 ghost use Rattle.raw.specs.Pattern.{Pattern-in};
 ghost use Rattle.colour.specs.Bounds.{All, Developed, Finite};
 ghost use Rattle.colour.specs.Tags.{Colour-in};
-ghost use Rattle.rows.specs.Line.{Deltas-in};
+ghost use Rattle.raw.specs.Stored.{levelsReading};
+ghost use Rattle.rows.specs.Along.{Along-in, Deltas-in};
 ghost use Rattle.develop.specs.Calls.{valuesOf, windowWith, halfFor, blocksOf, blockAt, blockXyz, blockIn, halvedOf, halfWindowCall};
 ghost use Rattle.develop.specs.Demand.{aloneIn};
 ghost use Rattle.develop.specs.View.{Viewed};
-ghost use Rattle.develop.specs.Fill.{halfOut, Blocks-in, pairOf, blockRow};
+ghost use Rattle.develop.specs.Fill.{numberOf, Upto, halfOut, Blocks-in, Stretch-in, pairOf, blockRow};
 use crate::Answer;
 use crate::Opening;
 use crate::View;
 use crate::fill;
+use crate::fill::Rectangle;
 use crate::window;
 use colour::Colour;
 use colour::Coloured;
@@ -24,11 +26,13 @@ use colour::pixel;
 use colour::pixel::Xyz;
 use colour::tags;
 use opcodes::grid::Size;
+use raw::area::ActiveColumn;
 use raw::front::Picture;
 use raw::pattern;
 use raw::pattern::Pattern;
 use raw::pattern::Patterned;
 use reading::number;
+use rows::along;
 
 // What a block's colour needs besides its four samples.
 pub struct Half {
@@ -39,14 +43,6 @@ pub struct Half {
 pub enum Halved {
     Refused { number: usize, detail: usize },
     Is(Half),
-}
-
-// A window that counts in blocks.
-pub struct Blocks {
-    pub top: usize,
-    pub left: usize,
-    pub height: usize,
-    pub width: usize,
 }
 
 // 15, the colour tags, the pattern's.
@@ -115,129 +111,166 @@ fn block_part(
     file: &[u8],
     view: View,
     half: Half,
-    part: Blocks,
-    deltas: &[i64],
+    part: Rectangle,
+    along: &[f64],
+    deltas: &[i32],
     pair: &mut [f64],
     out: &mut [f64],
 )
     requires { ⌜ Blocks-in (now file) view part (now out) × Pattern-in (half .pattern) × (part .height ≡ 1) ⌝ }
     requires { ⌜ (1 ≤ part .width) × (part .width ≤ 512) × (2048 ≤ length (now pair)) ⌝ }
-    requires { ⌜ Deltas-in (now file) (view .picture .order) (view .picture .raw .tags) (now deltas) ⌝ }
+    requires { ⌜ Along-in (run (now file) (levelsReading (view .picture .order) (view .picture .raw .tags))) (view .picture .raw .tags .frame .samples) (2 * part .left) (2 * part .width) (now along) × Deltas-in (run (now file) (levelsReading (view .picture .order) (view .picture .raw .tags))) (view .picture .raw .tags .frame .samples) (2 * part .left) (2 * part .width) (now deltas) ⌝ }
     ensures { λ _. ⌜ length (now (pair .exit)) ≡ length (now (pair .entry)) ⌝ }
     ensures { λ _. ⌜ ((q : Viewed (now (file .entry)) view) → now (out .exit) ≡ blockRow (blockIn half (aloneIn (now (file .entry)) (q .file))) (part .left) (part .width) (part .top)) ⌝ }
 {
-    let top = 2 * part.top;
-    let left = 2 * part.left;
     let width = 2 * part.width;
     let both = 2 * width;
-    fill::fill_rows(file, view, top, left, 2, width, deltas, &mut pair[0..both]);
+    let rows = Rectangle {
+        top: 2 * part.top,
+        left: 2 * part.left,
+        height: 2,
+        width,
+    };
+    fill::fill_columns(
+        file,
+        view,
+        rows,
+        0,
+        width,
+        along,
+        deltas,
+        &mut pair[0..both],
+    );
     blocks_of(half, pair, part.width, out);
 }
 
-// A row of blocks, part by part.
-fn block_row(
-    file: &[u8],
-    view: View,
-    half: Half,
-    row: Blocks,
-    deltas: &[i64],
-    pair: &mut [f64],
-    out: &mut [f64],
-)
-    requires { ⌜ Blocks-in (now file) view row (now out) × Pattern-in (half .pattern) × (row .height ≡ 1) ⌝ }
-    requires { ⌜ 2048 ≤ length (now pair) ⌝ }
-    requires { ⌜ Deltas-in (now file) (view .picture .order) (view .picture .raw .tags) (now deltas) ⌝ }
-    ensures { λ _. ⌜ length (now (pair .exit)) ≡ length (now (pair .entry)) ⌝ }
-    ensures { λ _. ⌜ ((q : Viewed (now (file .entry)) view) → now (out .exit) ≡ blockRow (blockIn half (aloneIn (now (file .entry)) (q .file))) (row .left) (row .width) (row .top)) ⌝ }
-{
-    let top = row.top;
-    let left = row.left;
-    let width = row.width;
-    let mut j = 0;
-    let mut a = 0;
-    while j < width {
-        let n = number::smaller(width - j, 512);
-        let e = a + n * 3;
-        let part = Blocks {
-            top,
-            left: left + j,
-            height: 1,
-            width: n,
-        };
-        block_part(file, view, half, part, deltas, pair, &mut out[a..e]);
-        a = e;
-        j += n;
-    }
+// Some blocks of each row of blocks.
+pub struct Stretch {
+    pub from: usize,
+    pub count: usize,
 }
 
-// With the columns' deltas at hand, row by row.
-fn block_rows(
+// These blocks, row by row, with what lies along them.
+fn block_columns(
     file: &[u8],
     view: View,
     half: Half,
-    blocks: Blocks,
-    deltas: &[i64],
-    pair: &mut [f64],
+    blocks: Rectangle,
+    part: Stretch,
+    along: &[f64],
+    deltas: &[i32],
     out: &mut [f64],
 )
-    requires { ⌜ Blocks-in (now file) view blocks (now out) × Pattern-in (half .pattern) ⌝ }
-    requires { ⌜ 2048 ≤ length (now pair) ⌝ }
-    requires { ⌜ Deltas-in (now file) (view .picture .order) (view .picture .raw .tags) (now deltas) ⌝ }
-    ensures { λ _. ⌜ ((q : Viewed (now (file .entry)) view) → now (out .exit) ≡ valuesOf (blockIn half (aloneIn (now (file .entry)) (q .file))) (blocks .top) (blocks .left) (blocks .height) (blocks .width) 3) ⌝ }
+    requires { ⌜ Blocks-in (now file) view blocks (now out) × Pattern-in (half .pattern) × Stretch-in part blocks ⌝ }
+    requires { ⌜ Along-in (run (now file) (levelsReading (view .picture .order) (view .picture .raw .tags))) (view .picture .raw .tags .frame .samples) (2 * (blocks .left + part .from)) (2 * part .count) (now along) × Deltas-in (run (now file) (levelsReading (view .picture .order) (view .picture .raw .tags))) (view .picture .raw .tags .frame .samples) (2 * (blocks .left + part .from)) (2 * part .count) (now deltas) ⌝ }
+    ensures { λ _. ⌜ ((q : Viewed (now (file .entry)) view) → let x = numberOf (blockIn half (aloneIn (now (file .entry)) (q .file))) blocks 3 in Upto x (blocks .height) (blocks .width * 3) (part .from * 3) (now (out .entry)) → Upto x (blocks .height) (blocks .width * 3) (part .from * 3 + part .count * 3) (now (out .exit))) ⌝ }
 {
+    let mut pair: [f64; 2048] = [0.0; 2048];
     let top = blocks.top;
     let left = blocks.left;
     let height = blocks.height;
-    let width = blocks.width;
-    let m = width * 3;
+    let from = part.from;
+    let count = part.count;
+    let m = blocks.width * 3;
+    let n = count * 3;
     let mut i = 0;
-    let mut a = 0;
+    let mut a = from * 3;
     while i < height {
-        let e = a + m;
-        let row = Blocks {
+        let e = a + n;
+        let row = Rectangle {
             top: top + i,
-            left,
+            left: left + from,
             height: 1,
-            width,
+            width: count,
         };
-        block_row(file, view, half, row, deltas, pair, &mut out[a..e]);
-        a = e;
+        block_part(
+            file,
+            view,
+            half,
+            row,
+            along,
+            deltas,
+            &mut pair,
+            &mut out[a..e],
+        );
+        a += m;
         i += 1;
     }
 }
 
-// With the columns' deltas worked out once, for every row.
+// With the columns' deltas, which are worked out once for every row.
 fn blocks_with_deltas(
     file: &[u8],
     view: View,
     half: Half,
-    blocks: Blocks,
-    pair: &mut [f64],
+    blocks: Rectangle,
+    part: Stretch,
+    along: &[f64],
     out: &mut [f64],
 )
-    requires { ⌜ Blocks-in (now file) view blocks (now out) × Pattern-in (half .pattern) ⌝ }
-    requires { ⌜ 2048 ≤ length (now pair) ⌝ }
-    ensures { λ _. ⌜ ((q : Viewed (now (file .entry)) view) → now (out .exit) ≡ valuesOf (blockIn half (aloneIn (now (file .entry)) (q .file))) (blocks .top) (blocks .left) (blocks .height) (blocks .width) 3) ⌝ }
+    requires { ⌜ Blocks-in (now file) view blocks (now out) × Pattern-in (half .pattern) × Stretch-in part blocks ⌝ }
+    requires { ⌜ Along-in (run (now file) (levelsReading (view .picture .order) (view .picture .raw .tags))) (view .picture .raw .tags .frame .samples) (2 * (blocks .left + part .from)) (2 * part .count) (now along) ⌝ }
+    ensures { λ _. ⌜ ((q : Viewed (now (file .entry)) view) → let x = numberOf (blockIn half (aloneIn (now (file .entry)) (q .file))) blocks 3 in Upto x (blocks .height) (blocks .width * 3) (part .from * 3) (now (out .entry)) → Upto x (blocks .height) (blocks .width * 3) (part .from * 3 + part .count * 3) (now (out .exit))) ⌝ }
 {
-    let mut deltas: [i64; 16384] = [0; 16384];
-    fill::column_deltas(file, view, &mut deltas);
-    block_rows(file, view, half, blocks, &deltas, pair, out);
+    let mut deltas: [i32; 1024] = [0; 1024];
+    let picture = view.picture;
+    let order = picture.order;
+    let tags = picture.raw.tags;
+    let n = 2 * part.count;
+    let column = ActiveColumn(2 * (blocks.left + part.from));
+    along::fill_deltas(file, order, tags, column, &mut deltas[0..n]);
+    block_columns(file, view, half, blocks, part, along, &deltas[0..n], out);
+}
+
+// What lies along these blocks is worked out once for every row.
+fn fill_stretch(
+    file: &[u8],
+    view: View,
+    half: Half,
+    blocks: Rectangle,
+    part: Stretch,
+    out: &mut [f64],
+)
+    requires { ⌜ Blocks-in (now file) view blocks (now out) × Pattern-in (half .pattern) × Stretch-in part blocks ⌝ }
+    ensures { λ _. ⌜ ((q : Viewed (now (file .entry)) view) → let x = numberOf (blockIn half (aloneIn (now (file .entry)) (q .file))) blocks 3 in Upto x (blocks .height) (blocks .width * 3) (part .from * 3) (now (out .entry)) → Upto x (blocks .height) (blocks .width * 3) (part .from * 3 + part .count * 3) (now (out .exit))) ⌝ }
+{
+    let mut space: [f64; 1536] = [0.0; 1536];
+    let picture = view.picture;
+    let order = picture.order;
+    let raw = picture.raw;
+    let column = ActiveColumn(2 * (blocks.left + part.from));
+    let q = along::piece(raw.tags, 2 * part.count);
+    let e = (raw.tags.levels.repeat.rows + 1) * q;
+    along::fill_along(file, order, raw, column, q, &mut space[0..e]);
+    if raw.tags.levels.column_deltas.count == 0 {
+        let none: [i32; 1] = [0; 1];
+        block_columns(
+            file,
+            view,
+            half,
+            blocks,
+            part,
+            &space[0..e],
+            &none[0..0],
+            out,
+        );
+    } else {
+        blocks_with_deltas(file, view, half, blocks, part, &space[0..e], out);
+    }
 }
 
 // Blocks inside the active area of an accepted mosaic.
-fn fill_blocks(file: &[u8], view: View, half: Half, blocks: Blocks, out: &mut [f64])
+fn fill_blocks(file: &[u8], view: View, half: Half, blocks: Rectangle, out: &mut [f64])
     requires { ⌜ Blocks-in (now file) view blocks (now out) × Pattern-in (half .pattern) ⌝ }
     ensures { λ _. ⌜ ((q : Viewed (now (file .entry)) view) → now (out .exit) ≡ valuesOf (blockIn half (aloneIn (now (file .entry)) (q .file))) (blocks .top) (blocks .left) (blocks .height) (blocks .width) 3) ⌝ }
 {
-    let mut pair: [f64; 2048] = [0.0; 2048];
-    let picture = view.picture;
-    let raw = picture.raw;
-    let values = raw.tags.levels.column_deltas;
-    if values.count == 0 {
-        let none: [i64; 1] = [0; 1];
-        block_rows(file, view, half, blocks, &none[0..0], &mut pair, out);
-    } else {
-        blocks_with_deltas(file, view, half, blocks, &mut pair, out);
+    let width = blocks.width;
+    let mut from = 0;
+    while from < width {
+        let count = number::smaller(width - from, 512);
+        let part = Stretch { from, count };
+        fill_stretch(file, view, half, blocks, part, out);
+        from += count;
     }
 }
 
@@ -253,7 +286,7 @@ fn whole_blocks(size: Size) -> Size
 }
 
 // A half window of an accepted mosaic whose colour tags and pattern are read: 13 and 14.
-fn halved_in(file: &[u8], view: View, half: Half, blocks: Blocks, out: &mut [f64]) -> Answer
+fn halved_in(file: &[u8], view: View, half: Half, blocks: Rectangle, out: &mut [f64]) -> Answer
     requires { ⌜ Viewed (now file) view × (view .size .samples ≡ 1) × Pattern-in (half .pattern) ⌝ }
     ensures { λ r. ⌜ ((q : Viewed (now (file .entry)) view) → windowWith r (now (out .exit)) ≡ halvedOf (now (file .entry)) (blocks .top) (blocks .left) (blocks .height) (blocks .width) (now (out .entry)) (q .file) (Out.is half)) ⌝ }
 {
@@ -273,7 +306,7 @@ fn halved_in(file: &[u8], view: View, half: Half, blocks: Blocks, out: &mut [f64
 }
 
 // A half window of an accepted file: 15, the colour tags, the pattern's, then 13 and 14.
-fn half_window_in(file: &[u8], view: View, blocks: Blocks, out: &mut [f64]) -> Answer
+fn half_window_in(file: &[u8], view: View, blocks: Rectangle, out: &mut [f64]) -> Answer
     requires { ⌜ Viewed (now file) view ⌝ }
     ensures { λ r. ⌜ windowWith r (now (out .exit)) ≡ halfWindowCall (now (file .entry)) (blocks .top) (blocks .left) (blocks .height) (blocks .width) (now (out .entry)) ⌝ }
 {
@@ -293,7 +326,7 @@ pub fn half_window(
 ) -> Answer
     ensures { λ r. ⌜ windowWith r (now (out .exit)) ≡ halfWindowCall (now (file .entry)) top left height width (now (out .entry)) ⌝ }
 {
-    let blocks = Blocks {
+    let blocks = Rectangle {
         top,
         left,
         height,

@@ -11,6 +11,7 @@ use crate::Answer;
 use crate::Opening;
 use crate::View;
 use crate::fill;
+use crate::fill::Rectangle;
 use opcodes::grid::Size;
 
 // Whether so many from a first one on are some and lie below an end. Nothing wraps.
@@ -67,7 +68,13 @@ fn window_in(
     let size = view.size;
     let fault = window_fault(size, size.samples, top, left, height, width, out.len());
     if fault == 0 {
-        fill::fill_window(file, view, top, left, height, width, out);
+        let window = Rectangle {
+            top,
+            left,
+            height,
+            width,
+        };
+        fill::fill_window(file, view, window, out);
     }
     Answer {
         number: fault,

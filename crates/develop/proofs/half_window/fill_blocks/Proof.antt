@@ -1,46 +1,89 @@
+use mathlib.Core.Path.{_≡_, refl, _∙_, subst}
+use Prim.Native.Nat.{ℕ, _+_, _-_, _*_, _≤_, _<_}
 use native.Mathlib.Omega.{arith}
-use denote.Ref.{now}
-use Rattle.develop.proofs.Windows.{viewed-plain}
 use borrow.Author.Needs.{needs}
+use denote.Ref.{now}
+use lib.ListN.{length}
+use Rattle.develop.specs.Calls.{blockIn}
+use Rattle.develop.specs.Demand.{aloneIn}
+use Rattle.develop.specs.Fill.{numberOf, Upto}
+use Rattle.develop.specs.View.{Viewed}
+use Rattle.develop.proofs.Windows.{upto-values, viewed-sized}
 use Rattle.develop.proofs.half_window.fill_blocks.Statement.{statement}
 use Rattle.develop.proofs.half_window.fill_blocks.Tie as tie
 
-sub-block-rows : tie.Need-sub-block-rows
-sub-block-rows c = search needs
+abbrev Inv-loop : tie.InvT-loop
+Inv-loop file view half blocks out₀ width from₀ out from =
+    (length out ≡ length out₀) × (from ≤ width)
+    × ((q : Viewed file view) → Upto (numberOf (blockIn half (aloneIn file (q .file))) blocks 3) (blocks .height) (blocks .width * 3) (from * 3) out)
 
-part-block-rows-start : tie.Need-part-block-rows-start
-part-block-rows-start c = search needs
+abbrev μ-loop : tie.MeasureT-loop
+μ-loop file view half blocks out₀ width from₀ out from = width - from
 
-part-block-rows-end : tie.Need-part-block-rows-end
-part-block-rows-end c = search needs
+loop-holds : tie.Need-loop-holds Inv-loop μ-loop
+loop-holds c = (refl, omega arith, λ q r k h l. absurd (omega arith))
 
-slice-aggregate-block-rows : tie.Need-slice-aggregate-block-rows
-slice-aggregate-block-rows c = search needs
+sub-smaller : tie.Need-sub-smaller Inv-loop μ-loop
+sub-smaller c = search needs
 
-block-rows-requires : tie.Need-block-rows-requires
-block-rows-requires c κs =
-    let k = c .before .before .before .before in
-    let s = k .before .before .before .before .before .before .before in
-    (s .pre, (omega arith, viewed-plain (now (s .args .file)) (s .args .view) (s .pre .0 .file) (k .if1 .taken)))
+smaller-requires : tie.Need-smaller-requires Inv-loop μ-loop
+smaller-requires c κs = search needs
 
-slice-aggregate-blocks-with-deltas : tie.Need-slice-aggregate-blocks-with-deltas
-slice-aggregate-blocks-with-deltas c = search needs
+fill-stretch-requires : tie.Need-fill-stretch-requires Inv-loop μ-loop
+fill-stretch-requires c κs =
+    let s = c .before .before .before .before .before .before in
+    let l = c .before .before .before .loop in
+    let w = s .pre .0 in
+    let n = c .before .smaller .ensures in
+    let t = c .before .before .loop-test .taken in (
+      record { file = w .file; mosaic = w .mosaic; rows = w .rows; columns = w .columns; length-is = l .inv .0 ∙ w .length-is },
+      s .pre .1,
+      record { some = omega (arith, n, t); few = omega (arith, n); inside = omega (arith, n, l .inv .1) },
+    )
 
-blocks-with-deltas-requires : tie.Need-blocks-with-deltas-requires
-blocks-with-deltas-requires c κs = search needs
+add-from : tie.Need-add-from Inv-loop μ-loop
+add-from c =
+    let s = c .before .before .before .before .before .before .before .before .before in
+    let z = viewed-sized (now (s .args .file)) (s .args .view) (s .pre .0 .file) in
+    omega (arith, c .before .before .before .before .smaller .ensures, c .before .before .before .before .before .before .loop .inv .1, s .pre .0 .columns, z .columns)
 
-same-length : tie.Need-same-length
-same-length c = search needs
+loop-less : tie.Need-loop-less Inv-loop μ-loop
+loop-less c = omega (arith, c .before .before .before .before .smaller .ensures, c .before .before .before .before .before .loop-test .taken)
 
-returns : tie.Need-returns
-returns c = search needs
+loop-again : tie.Need-loop-again Inv-loop μ-loop
+loop-again c =
+    let l = c .before .before .before .before .before .before .loop in (
+      search needs,
+      omega (arith, c .before .before .before .before .smaller .ensures, l .inv .1),
+      λ q i k h b. c .before .before .fill-stretch .ensures q (l .inv .2 q) i k h (omega arith),
+    )
 
-same-length-2 : tie.Need-same-length-2
-same-length-2 c = search needs
+same-length : tie.Need-same-length Inv-loop μ-loop
+same-length c = c .before .loop .inv .0
 
-returns-2 : tie.Need-returns-2
-returns-2 c = search needs
+returns : tie.Need-returns Inv-loop μ-loop
+returns c q =
+    let s = c .before .before .before .before in
+    let l = c .before .loop in
+    let f = now (s .args .file) in
+    let x = blockIn (s .args .half) (aloneIn f (q .file)) in
+    let w = s .args .blocks in
+    let e : l .from ≡ w .width = omega (arith, c .loop-test .left, l .inv .1) in
+    upto-values x w 3 (l .out) (omega arith) (l .inv .0 ∙ s .pre .0 .length-is)
+    (subst (λ (m : ℕ). Upto (numberOf x w 3) (w .height) (w .width * 3) (m * 3) (l .out)) e (l .inv .2 q))
 
 pub fill-blocks-spec : {M : Type 1} → statement M
-fill-blocks-spec = tie.close (tie.spec sub-block-rows part-block-rows-start part-block-rows-end slice-aggregate-block-rows block-rows-requires
-    slice-aggregate-blocks-with-deltas blocks-with-deltas-requires same-length returns same-length-2 returns-2)
+fill-blocks-spec =
+    tie.close
+    (tie.spec
+    Inv-loop
+    μ-loop
+    loop-holds
+    sub-smaller
+    smaller-requires
+    fill-stretch-requires
+    add-from
+    loop-less
+    loop-again
+    same-length
+    returns)

@@ -79,8 +79,8 @@ loop-again c =
       omega (arith, c .before .before .before .before .loop-test .taken),
       omega (arith, add-mul (l .r) 1 (s .args .q), l .inv .2),
       rows-more nan (λ r k. ofInt binary64 (cellAlong v (s .args .tags .frame .samples) r (s .args .column .0) k)) (s .args .q) (l .r) (l .a) (l .out)
-      (c .before .before .cells-row .last .1 .1 .1 .1 .1 .0) (l .inv .2) (omega (arith, i, l .inv .2, l .inv .0)) (search needs) (l .inv .3)
-      (λ k b. c .before .before .cells-row .ensures k (search needs)),
+          (c .before .before .cells-row .last .1 .1 .1 .1 .1 .0) (l .inv .2) (omega (arith, i, l .inv .2, l .inv .0)) (search needs) (l .inv .3)
+          (λ k b. c .before .before .cells-row .ensures k (search needs)),
     )
 
 same-length : tie.Need-same-length Inv-loop μ-loop

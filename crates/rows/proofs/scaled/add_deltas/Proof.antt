@@ -56,9 +56,12 @@ loop-again : tie.Need-loop-again Inv-loop μ-loop
 loop-again c =
     let a = c .before .before .before .before .before in
     let l = c .before .before .before .before .loop in
-    let h : l .i < length (now (a .args .out)) = omega (arith, c .before .before .before .loop-test .taken, l .inv .0) in
-    (search needs, omega arith, filled-more nan _ (l .i) (l .out) _ (omega (arith, l .inv .0)) (l .inv .2)
-    (ap (λ (z : ℤ). add binary64 (getD (now (a .args .cells)) (l .i) nan) (ofInt binary64 z)) (back32 (getD (now (a .args .deltas)) (a .args .at + l .i) (pos 0)) (a .pre .2 (a .args .at + l .i)))))
+    let h : l .i < length (now (a .args .out)) = omega (arith, c .before .before .before .loop-test .taken, l .inv .0) in (
+      search needs,
+      omega arith,
+      filled-more nan _ (l .i) (l .out) _ (omega (arith, l .inv .0)) (l .inv .2)
+          (ap (λ (z : ℤ). add binary64 (getD (now (a .args .cells)) (l .i) nan) (ofInt binary64 z)) (back32 (getD (now (a .args .deltas)) (a .args .at + l .i) (pos 0)) (a .pre .2 (a .args .at + l .i)))),
+    )
 
 same-length : tie.Need-same-length Inv-loop μ-loop
 same-length c = search needs

@@ -69,10 +69,14 @@ scaled-piece-requires c κs =
     let e = c .before .before .smaller .ensures in
     let t = length-take (i + r - i) (drop i (l .out)) in
     let d = length-drop i (l .out) in
-    let n : length (take (i + r - i) (drop i (l .out))) ≡ r = omega (arith, t, d, e) in
-    ((line-from (now (s .args .file)) (s .args .line) i _ (length (now (s .args .out))) (omega (arith, n, e, l .inv .0, l .inv .2)) (s .pre .0 .0),
-    omega (arith, n, e), s .pre .0 .2),
-    (s .pre .1 .0, λ h. omega (arith, n, e, s .pre .1 .1 h, l .inv .0, l .inv .2), λ h. omega (arith, s .pre .1 .2 h, l .inv .1)))
+    let n : length (take (i + r - i) (drop i (l .out))) ≡ r = omega (arith, t, d, e) in (
+      (
+        line-from (now (s .args .file)) (s .args .line) i _ (length (now (s .args .out))) (omega (arith, n, e, l .inv .0, l .inv .2)) (s .pre .0 .0),
+        omega (arith, n, e),
+        s .pre .0 .2,
+      ),
+      (s .pre .1 .0, λ h. omega (arith, n, e, s .pre .1 .1 h, l .inv .0, l .inv .2), λ h. omega (arith, s .pre .1 .2 h, l .inv .1)),
+    )
 
 loop-less : tie.Need-loop-less Inv-loop μ-loop
 loop-less c =
@@ -98,9 +102,9 @@ loop-again c =
           let m : i < length (now (s .args .out)) = omega (arith, c .before .before .before .before .before .before .before .before .loop-test .taken, l .inv .0) in (
             same-next cell span (length (now (s .args .cells))) (length (now (s .args .out))) z i (i + r) (λ h. omega (arith, e, l .inv .0)) (v .0),
             filled-part nan (lineValue f x (λ k. cell k +ℤ getD deltas k (pos 0) +ℤ d) span) i (i + r) (l .out) (p .last .1 .1 .1 .1 .1 .1 .1 .0) (omega arith) (omega (arith, e)) (search needs) (v .1)
-            (λ k b. p .ensures .1 cell span d w k (search needs)
-            ∙ value-from f x (λ k. cell k +ℤ getD deltas k (pos 0) +ℤ d) (λ k. cell k +ℤ getD deltas (i + k) (pos 0) +ℤ d) span span i k
-            (ap (λ (t : ℤ). t +ℤ getD deltas (i + k) (pos 0) +ℤ d) (sym (v .0 .cells m k))) (sym (v .0 .spans m k))),
+                (λ k b. p .ensures .1 cell span d w k (search needs)
+                ∙ value-from f x (λ k. cell k +ℤ getD deltas k (pos 0) +ℤ d) (λ k. cell k +ℤ getD deltas (i + k) (pos 0) +ℤ d) span span i k
+                (ap (λ (t : ℤ). t +ℤ getD deltas (i + k) (pos 0) +ℤ d) (sym (v .0 .cells m k))) (sym (v .0 .spans m k))),
           ),
     )
 
