@@ -1,5 +1,3 @@
-use mathlib.Core.Path.{_≡_, _∙_, subst, sym}
-use Prim.Native.Nat.{_<_}
 use native.Mathlib.Omega.{arith}
 use lib.Ieee.{Float, binary64, add, mul, ofBits}
 use lib.Ieee.Fits.{add-fits}
