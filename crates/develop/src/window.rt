@@ -52,8 +52,8 @@ pub fn window_fault(
     13
 }
 
-// A window of an accepted file.
-fn window_in(
+// A window of a file that was opened: what `window` does behind its opening, for a caller that asks for several.
+pub fn opened_window(
     file: &[u8],
     view: View,
     top: usize,
@@ -94,6 +94,6 @@ pub fn window(
 {
     match crate::open(file) {
         Opening::Refused { number, detail } => Answer { number, detail },
-        Opening::Is(view) => window_in(file, view, top, left, height, width, out),
+        Opening::Is(view) => opened_window(file, view, top, left, height, width, out),
     }
 }

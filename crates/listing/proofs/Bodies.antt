@@ -23,12 +23,13 @@ use Rattle.develop.specs.Calls.{Opened, opened, sizeOf, frameOf, joined, values
 use Rattle.develop.specs.Demand.{aloneIn}
 use Rattle.develop.specs.View.{Viewed}
 use Rattle.develop.specs.declared.View.{View}
+use Rattle.develop.specs.declared.Opening.the-variants as opening
 use Rattle.develop.specs.declared.Answer.{Answer}
 use Rattle.develop.proofs.Answers.{frame-alone, developed-alone, values-same, alone-is-unit}
 use Rattle.develop.proofs.Called.{spansRows, spansColumns, fault-none, filled-none}
 use Rattle.develop.proofs.Windows.{viewed-sized}
 use Rattle.listing.specs.Text.{valuesText, rowsText, refusedText, frameText, listedOf, headText, bodyText}
-use Rattle.listing.specs.Body.{linesText, Listed, Headed}
+use Rattle.listing.specs.Body.{linesText, Listed, OpenedIs, Headed}
 use Rattle.listing.specs.declared.First.{First}
 
 -- ---- the values of a row
@@ -210,22 +211,26 @@ viewed-listed f v q h =
 -- ---- the first line
 module _ (f : List ℕ) where
   pub headed-refused :
-      (n d : ℕ) → refused n d ≡ listedOf f → (h : First) (text : List ℕ) → (h .length ≤ length text) × (take (h .length) text ≡ refusedText n d) × (h .size .rows ≡ 0) → Headed f h text
+      (n d : ℕ) → refused n d ≡ listedOf f → (h : First) (text : List ℕ)
+      → (h .length ≤ length text) × (take (h .length) text ≡ refusedText n d) × (h .size .rows ≡ 0) × (h .opening ≡ opening.Refused n d) → Headed f h text
   headed-refused n d e h text p =
       record {
         inside = p .0;
         line = p .1 ∙ ap headText e;
         rows = λ k. absurd (omega (arith, k, p .2));
         all = sym (ap (bodyText f (h .size .rows)) e);
+        file = subst (OpenedIs f (h .size)) (sym (p .3)) (p .2);
       }
 
   pub headed-frame :
-      (h : First) (text : List ℕ) → Listed f (h .size) → (h .length ≤ length text) × (take (h .length) text ≡ frameText (h .size)) → Headed f h text
-  headed-frame h text q p =
+      (v : View) (h : First) (text : List ℕ) → Listed f (h .size) → Viewed f v → h .size ≡ v .size → h .opening ≡ opening.Is v
+      → (h .length ≤ length text) × (take (h .length) text ≡ frameText (h .size)) → Headed f h text
+  headed-frame v h text q w sv o p =
       let s : sizeOf (q .file .picture) .rows ≤ h .size .rows = subst (λ (y : Size). y .rows ≤ h .size .rows) (q .size) (omega arith) in
       record {
         inside = p .0;
         line = p .1 ∙ ap frameText (q .size) ∙ ap headText (q .listed);
         rows = λ k. q;
         all = sym (ap (bodyText f (h .size .rows)) (q .listed)) ∙ body-end f (q .file) (h .size .rows) s;
+        file = subst (OpenedIs f (h .size)) (sym o) (sv, subst (Listed f) sv q, w);
       }

@@ -8,6 +8,9 @@ use Rattle.directory.specs.Out.{Out.is}
 use Rattle.opcodes.specs.declared.grid.Size.{Size}
 use Rattle.rows.specs.Part.{Sized-in}
 use Rattle.develop.specs.Calls.{Opened, opened, sizeOf}
+use Rattle.develop.specs.View.{Viewed}
+use Rattle.develop.specs.declared.Opening.{Opening}
+use Rattle.develop.specs.declared.Opening.the-variants as opening
 use Rattle.listing.specs.Text.{valuesText, listedOf, headText, bodyText}
 use Rattle.listing.specs.declared.First.{First}
 
@@ -29,9 +32,15 @@ pub record Listed (f : List ℕ) (z : Size) : Type 0 where
   pub sized : Sized-in z
   pub some-columns : 1 ≤ z .columns
 
+-- a file as it was opened, of which so many rows are listed: none behind a refusal, and all of an accepted one
+abbrev pub OpenedIs : List ℕ → Size → Opening → Type 0
+OpenedIs f z (opening.Refused n d) = z .rows ≡ 0
+OpenedIs f z (opening.Is v) = (z ≡ v .size) × Listed f (v .size) × Viewed f v
+
 -- the first line, and the size of the frame whose rows follow it: no row of a refused file
 pub record Headed (f : List ℕ) (h : First) (text : List ℕ) : Type 0 where
   pub inside : h .length ≤ length text
   pub line : take (h .length) text ≡ headText (listedOf f)
   pub rows : 1 ≤ h .size .rows → Listed f (h .size)
   pub all : bodyText f (h .size .rows) (listedOf f) ≡ []
+  pub file : OpenedIs f (h .size) (h .opening)

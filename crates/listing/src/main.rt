@@ -11,9 +11,12 @@ ghost use lib.Dec.{T};
 ghost use lib.Ieee.{isNan};
 ghost use lib.ListN.{length, take};
 ghost use Rattle.rows.specs.Part.{Units, Sized-in};
+ghost use Rattle.develop.specs.View.{Viewed};
+ghost use Rattle.develop.specs.declared.Opening.the-variants.{Refused};
 ghost use Rattle.listing.specs.Text.{decimalOf, valueText, valuesText, refusedText, frameText, listedOf, bodyText};
 ghost use Rattle.listing.specs.Body.{Puts, linesText, Listed, Headed};
 use develop::Opening;
+use develop::View;
 use develop::window;
 use libc::STDIN_FILENO;
 use libc::STDOUT_FILENO;
@@ -106,16 +109,17 @@ fn put_size(text: &mut [u8], size: Size) -> usize
     put(text, d, b"\n")
 }
 
-// A text's length, and the size of the frame whose rows follow it.
+// A text's length, the size of the frame whose rows follow it, and the file as it was opened.
 struct First {
     length: usize,
     size: Size,
+    opening: Opening,
 }
 
 // The whole text of a refused file.
 fn refused(text: &mut [u8], number: usize, detail: usize) -> First
     requires { ⌜ 128 ≤ length (now text) ⌝ }
-    ensures { λ r. ⌜ (r .length ≤ length (now (text .exit))) × (take (r .length) (now (text .exit)) ≡ refusedText number detail) × (r .size .rows ≡ 0) ⌝ }
+    ensures { λ r. ⌜ (r .length ≤ length (now (text .exit))) × (take (r .length) (now (text .exit)) ≡ refusedText number detail) × (r .size .rows ≡ 0) × (r .opening ≡ Refused number detail) ⌝ }
 {
     First {
         length: put_refusal(text, number, detail),
@@ -124,6 +128,7 @@ fn refused(text: &mut [u8], number: usize, detail: usize) -> First
             columns: 0,
             samples: 0,
         },
+        opening: Opening::Refused { number, detail },
     }
 }
 
@@ -142,6 +147,7 @@ fn put_first(text: &mut [u8], file: &[u8]) -> First
             First {
                 length: put_size(text, size),
                 size,
+                opening: Opening::Is(view),
             }
         }
     }
@@ -162,29 +168,31 @@ fn put_rows(
     text: &mut [u8],
     values: &mut [f64],
     file: &[u8],
-    size: Size,
+    view: View,
     top: usize,
     height: usize,
 ) -> usize
-    requires { ⌜ (835584 ≤ length (now text)) × (49152 ≤ length (now values)) × Listed (now file) size ⌝ }
-    requires { ⌜ (1 ≤ height) × (top + height ≤ size .rows) × (height * (size .columns * size .samples) ≤ 49152) ⌝ }
+    requires { ⌜ (835584 ≤ length (now text)) × (49152 ≤ length (now values)) × Listed (now file) (view .size) × Viewed (now file) view ⌝ }
+    requires { ⌜ (1 ≤ height) × (top + height ≤ view .size .rows) × (height * (view .size .columns * view .size .samples) ≤ 49152) ⌝ }
     ensures { λ r. ⌜ r ≤ length (now (text .exit)) ⌝ }
     ensures { λ r. ⌜ take r (now (text .exit)) ++ bodyText (now (file .entry)) (top + height) (listedOf (now (file .entry))) ≡ bodyText (now (file .entry)) top (listedOf (now (file .entry))) ⌝ }
 {
+    let size = view.size;
     let width = size.columns * size.samples;
     let m = height * width;
-    window::window(file, top, 0, height, size.columns, &mut values[..m]);
+    window::opened_window(file, view, top, 0, height, size.columns, &mut values[..m]);
     put_lines(text, &values[..m], height, width)
 }
 
 // Prints the rows, a block at a time. A write that fails ends the listing.
-fn print_rows(text: &mut [u8], values: &mut [f64], file: &[u8], size: Size)
-    requires { ⌜ (835584 ≤ length (now text)) × (49152 ≤ length (now values)) × (1 ≤ size .rows → Listed (now file) size) ⌝ }
+fn print_rows(text: &mut [u8], values: &mut [f64], file: &[u8], view: View)
+    requires { ⌜ (835584 ≤ length (now text)) × (49152 ≤ length (now values)) × Listed (now file) (view .size) × Viewed (now file) view ⌝ }
 {
+    let size = view.size;
     let mut top = 0;
     while top < size.rows {
         let height = block(size, top);
-        let n = put_rows(text, values, file, size, top, height);
+        let n = put_rows(text, values, file, view, top, height);
         if !io::write_all(STDOUT_FILENO, &text[..n]) {
             return;
         }
@@ -217,8 +225,12 @@ fn list(file: &[u8]) {
     let mut values = value_space();
     let mut text = text_space();
     let first = put_first(&mut text, file);
+    let opening = first.opening;
     if io::write_all(STDOUT_FILENO, &text[..first.length]) {
-        print_rows(&mut text, &mut values, file, first.size);
+        match opening {
+            Opening::Refused { number, detail } => {}
+            Opening::Is(view) => print_rows(&mut text, &mut values, file, view),
+        }
     }
 }
 

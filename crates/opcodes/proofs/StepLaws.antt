@@ -3,7 +3,7 @@
 use mathlib.Core.Path.{_≡_, refl, sym, ap, _∙_}
 use mathlib.Core.Bool.{Bool, true, false, _&&_, _||_, true≢false}
 use mathlib.Core.List.{List}
-use Prim.Native.Nat.{ℕ, suc, _+_, _*_, _-_, _/_, _≤_, _<_}
+use Prim.Native.Nat.{ℕ, zero, suc, _+_, _*_, _-_, _/_, _≤_, _<_}
 use native.Mathlib.Nat.{le-div-iff-mul-le, div-mul-le-self, add-mul, one-mul}
 use native.Mathlib.Omega.{arith}
 use lib.Dec.{eqb, leb, ltb}
@@ -13,9 +13,10 @@ use borrow.Author.Tests.{le-leb, eq-eqb, ne-eqb, leb-true, leb-false, ltb-true, 
 use Rattle.reading.specs.Bytes.{part}
 use Rattle.reading.specs.Number.{numberOf}
 use Rattle.reading.specs.Reading.{pick}
-use Rattle.reading.specs.Real.{realOf}
+use Rattle.reading.specs.Real.{refusedPattern, realOf}
 use Rattle.reading.specs.declared.number.Order.the-variants.{Big}
 use Rattle.reading.proofs.Bytes.{part-part, length-part}
+use Rattle.reading.proofs.Pattern.{is-refused}
 use Rattle.levels.specs.Clip.{clipOf, plusZero}
 use Rattle.levels.specs.Run.{runOf}
 use Rattle.levels.specs.Table.{tableOf}
@@ -25,14 +26,15 @@ use Rattle.opcodes.specs.Grid.{longOf, everyOf, linesOf, gridOf, onOf, f
 use Rattle.opcodes.specs.Step.{hornerOf, mappedOf, resultOf, appliedOf, valueOf, coefficientsOf, polynomialOf}
 use Rattle.opcodes.specs.Opcode.{row, column, actOf, lineOf}
 use Rattle.opcodes.specs.OpcodeList.{listedId, countOf, rowsOf, columnsOf, tableForm, polynomialForm, linesForm, formOf}
-use Rattle.opcodes.specs.OpcodeList.{exactOf, plainFault, floatsOf, kindOf}
-use Rattle.opcodes.specs.StepAt.{plainId, floatAt, stepOf}
+use Rattle.opcodes.specs.OpcodeList.{refusedReal, refusedAt, refusedIn, exactOf, plainFault, floatsOf, kindOf}
+use Rattle.opcodes.specs.StepAt.{plainId, floatAt, FloatIn, stepOf}
 use Rattle.opcodes.specs.declared.grid.Size.{Size}
 use Rattle.opcodes.specs.declared.grid.Grid.{Grid}
 use Rattle.opcodes.specs.declared.list.Form.{Form}
 use Rattle.opcodes.specs.declared.step.Step.{Step}
 use Rattle.opcodes.specs.declared.step.Step.the-variants.{Add, Scale, Table}
 use Rattle.opcodes.proofs.Polynomial.{polynomial-read}
+use Rattle.opcodes.proofs.Places.{or-false}
 use Rattle.opcodes.proofs.OpcodeLists.{long-part, and-true, fits-in, fault-short, fault-grid, fault-form, form-table, form-polynomial, form-rows, form-columns, exact-bytes}
 
 -- the line of a row or column of the grid is one of its lines
@@ -147,6 +149,7 @@ module _ (f : List ℕ) (at id i j : ℕ) where
 -- ---- what an accepted opcode's parameters are
 pub record Accepted (z : Size) (id : ℕ) (ps : List ℕ) : Type 0 where
   pub some : 36 ≤ length ps
+  pub fits : fitsOf z (gridOf ps) ≡ true
   pub grid : Fits-in z (gridOf ps)
   pub exact : exactOf (formOf (gridOf ps) id (countOf ps)) (length ps) ≡ true
 
@@ -160,7 +163,44 @@ accepted z id ps e = go (leb 36 (length ps)) (fitsOf z (gridOf ps)) (exactOf (fo
     go false b c h k l = absurd (no (fault-short z id ps (leb-false 36 (length ps) h)))
     go true false c h k l = absurd (no (fault-grid z id ps (leb-true 36 (length ps) h) k))
     go true true false h k l = absurd (no (fault-form z id ps (leb-true 36 (length ps) h) k l))
-    go true true true h k l = record { some = leb-true 36 (length ps) h; grid = fits-in z (gridOf ps) k; exact = l }
+    go true true true h k l = record { some = leb-true 36 (length ps) h; fits = k; grid = fits-in z (gridOf ps) k; exact = l }
+
+-- none of its numbers is refused
+numbers-kept : (z : Size) (id : ℕ) (ps : List ℕ) (w : Form) → w ≡ formOf (gridOf ps) id (countOf ps) → plainFault z id ps ≡ 0 →
+    (r : Bool) → r ≡ refusedIn (w .width) ps 36 (w .numbers) → r ≡ false
+unfolding plainFault pick
+numbers-kept z id ps w k e true q =
+    let a = accepted z id ps e in
+    let t : exactOf w (length ps) ≡ true = rw k (a .exact) in
+    let c : _≡_ {A = ℕ} 12 0 = rw (le-leb 36 (length ps) (a .some), a .fits, ← k, t, ← q) at e in
+    absurd (omega arith)
+numbers-kept z id ps w k e false q = refl
+
+each-kept : (ps : List ℕ) (p n k : ℕ) → refusedIn 4 ps p n ≡ false → k < n → refusedAt 4 ps (p + 4 * k) ≡ false
+unfolding refusedIn
+each-kept ps p zero k h l = absurd (omega arith)
+each-kept ps p (suc n) zero h l = let z : p + 4 * 0 ≡ p = omega arith in rw z (or-false (refusedAt 4 ps p) (refusedIn 4 ps (p + 4) n) h .0)
+each-kept ps p (suc n) (suc k) h l =
+    let z : p + 4 * suc k ≡ p + 4 + 4 * k = omega arith in
+    rw z (each-kept ps (p + 4) n k (or-false (refusedAt 4 ps p) (refusedIn 4 ps (p + 4) n) h .1) (omega arith))
+
+kept-pattern : (b : ℕ) → refusedReal (realOf binary32 b) ≡ false → refusedPattern binary32 b ≡ false
+kept-pattern b h = go (refusedPattern binary32 b) refl
+  where
+    go : (t : Bool) → refusedPattern binary32 b ≡ t → t ≡ false
+    go false e = refl
+    go true e = absurd (true≢false (ap refusedReal (is-refused binary32 b e) ∙ h))
+
+-- the FLOATs of lines, each in the file
+pub floats-in : (f : List ℕ) (at n : ℕ) (z : Size) (id lines m k : ℕ) → at + n ≤ length f → plainFault z id (part f at n) ≡ 0
+    → linesForm lines m ≡ formOf (gridOf (part f at n)) id (countOf (part f at n)) → n ≡ 36 + 4 * m → k < m → FloatIn f at k
+unfolding pick
+floats-in f at n z id lines m k i e w b l =
+    let ps = part f at n in
+    let r = each-kept ps 36 m k (numbers-kept z id ps (linesForm lines m) w e (refusedIn 4 ps 36 m) refl) l in
+    let p : part ps (36 + 4 * k) 4 ≡ part f (at + 36 + 4 * k) 4 =
+    part-part f at n (36 + 4 * k) 4 (omega arith) ∙ ap (λ (q : ℕ). part f q 4) (let q : at + (36 + 4 * k) ≡ at + 36 + 4 * k = omega arith in q) in
+    record { inside = omega arith; accepted = rw (← p) (kept-pattern (numberOf Big (part ps (36 + 4 * k) 4)) r) }
 
 -- a sample on the grid
 pub record On (g : Grid) (r c p : ℕ) : Type 0 where

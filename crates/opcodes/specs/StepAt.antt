@@ -3,11 +3,15 @@ use Prim.Native.Nat.{ℕ, _+_, _*_, _≤_}
 use mathlib.Core.List.{List}
 use mathlib.Core.Path.{_≡_}
 use mathlib.Core.Logic.{_⊎_}
-use mathlib.Core.Bool.{Bool, _&&_, _||_}
+use mathlib.Core.Bool.{Bool, false, _&&_, _||_}
 use lib.Dec.{leb, eqb}
-use lib.Ieee.{Float}
+use lib.Ieee.{Float, binary32}
 use lib.ListN.{length}
+use Rattle.reading.specs.Bytes.{part}
+use Rattle.reading.specs.Number.{numberOf}
 use Rattle.reading.specs.Reading.{pick}
+use Rattle.reading.specs.Real.{refusedPattern}
+use Rattle.reading.specs.declared.number.Order.the-variants.{Big}
 use Rattle.opcodes.specs.Grid.{longOf}
 use Rattle.opcodes.specs.Step.{floatIn, coefficientsOf, polynomialOf}
 use Rattle.opcodes.specs.declared.step.Step.{Step}
@@ -27,6 +31,11 @@ stepOf f at id i j =
     (pick (eqb id 8) (polynomialOf (coefficientsOf f (at + 36) (longOf f (at + 32) + 1)))
     (pick (eqb id 10) (Add (floatAt f at i))
     (pick (eqb id 11) (Add (floatAt f at j)) (pick (eqb id 12) (Scale (floatAt f at i)) (Scale (floatAt f at j))))))
+
+-- it lies in the file and was accepted
+pub record FloatIn (f : List ℕ) (at k : ℕ) : Type 0 where
+  pub inside : at + 36 + 4 * k + 4 ≤ length f
+  pub accepted : refusedPattern binary32 (numberOf Big (part f (at + 36 + 4 * k) 4)) ≡ false
 
 -- what the step reads lies in the file
 pub record StepAt-in (f : List ℕ) (at id i j : ℕ) : Type 0 where

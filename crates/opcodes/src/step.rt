@@ -56,6 +56,29 @@ pub fn mapped(file: &[u8], at: usize, size: usize, x: f64) -> f64
     levels::scaled(table::through(file, Order::Big, at + 4, size, index(x)))
 }
 
+// The index of a number from 0 to 1: the digits of the sum that stand before its point, of which 1.0 has the first.
+fn unit_index(x: f64) -> u16
+    requires { ⌜ clipOf x ≡ x ⌝ }
+    ensures { λ r. ⌜ r ≡ indexOf x ⌝ }
+{
+    let sum = x * 65535.0 + 0.5;
+    if sum >= 1.0 {
+        let bits: u64 = f64::to_bits(sum);
+        let exponent: u64 = bits >> 52;
+        let digits: u64 = (bits & 0xf_ffff_ffff_ffff) | 0x10_0000_0000_0000;
+        return (digits >> (1075 - exponent)) as u16;
+    }
+    0
+}
+
+// A number from 0 to 1 through the table; it needs no clip.
+pub fn unit_mapped(file: &[u8], at: usize, size: usize, x: f64) -> f64
+    requires { ⌜ TableIn (now file) at × (size ≡ sizeAt (now file) at) × (clipOf x ≡ x) ⌝ }
+    ensures { λ r. ⌜ r ≡ clipOf (mappedOf (tableAt (now (file .entry)) at) x) ⌝ }
+{
+    levels::scaled(table::through(file, Order::Big, at + 4, size, unit_index(x)))
+}
+
 pub fn apply(step: Step, file: &[u8], x: f64) -> f64
     requires { ⌜ StepIn (now file) step ⌝ }
     ensures { λ r. ⌜ r ≡ appliedOf step (now (file .entry)) x ⌝ }

@@ -2,11 +2,13 @@
 ghost use mathlib.Core.Path.{_≡_};
 ghost use Prim.Native.Nat.{_+_, _*_, _≤_};
 ghost use lib.ListN.{length};
-ghost use Rattle.opcodes.specs.StepAt.{plainId, floatAt, stepOf, StepAt-in};
+ghost use Rattle.opcodes.specs.StepAt.{plainId, floatAt, FloatIn, stepOf, StepAt-in};
 ghost use mathlib.Core.Bool.{true};
 use crate::grid;
 use crate::step;
 use crate::step::Step;
+use reading::number;
+use reading::number::Order;
 use reading::real;
 
 // The k-th FLOAT of an opcode.
@@ -15,6 +17,15 @@ pub fn float_value(file: &[u8], at: usize, k: usize) -> f64
     ensures { λ r. ⌜ r ≡ floatAt (now (file .entry)) at k ⌝ }
 {
     step::value(real::float_at(file, at + 36 + 4 * k))
+}
+
+// The same of an accepted opcode, with no test of its pattern.
+pub fn accepted_value(file: &[u8], at: usize, k: usize) -> f64
+    requires { ⌜ FloatIn (now file) at k ⌝ }
+    ensures { λ r. ⌜ r ≡ floatAt (now (file .entry)) at k ⌝ }
+{
+    let x = f32::from_bits(number::long(file, Order::Big, at + 36 + 4 * k));
+    x as f64
 }
 
 // The step at a grid's i-th row and j-th column.

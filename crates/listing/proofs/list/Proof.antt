@@ -1,5 +1,8 @@
-use mathlib.Core.Path.{sym}
+use mathlib.Core.Path.{sym, subst}
+use native.Mathlib.Omega.{arith}
 use lib.Seq.{length-take-le}
+use denote.Ref.{now}
+use Rattle.listing.specs.Body.{OpenedIs}
 use borrow.Author.Needs.{needs}
 use Rattle.listing.proofs.list.Statement.{statement}
 use Rattle.listing.proofs.list.Tie as tie
@@ -25,6 +28,12 @@ slice-aggregate-write-all c = sym (length-take-le _ (c .before .before .put-firs
 write-all-requires : tie.Need-write-all-requires
 write-all-requires c κs = search needs
 
+enum-known-opening : tie.Need-enum-known-opening
+enum-known-opening c = search needs
+
+enum-known-opening-2 : tie.Need-enum-known-opening-2
+enum-known-opening-2 c = search needs
+
 slice-aggregate-print-rows : tie.Need-slice-aggregate-print-rows
 slice-aggregate-print-rows c = search needs
 
@@ -32,13 +41,21 @@ slice-aggregate-print-rows-2 : tie.Need-slice-aggregate-print-rows-2
 slice-aggregate-print-rows-2 c = search needs
 
 print-rows-requires : tie.Need-print-rows-requires
-print-rows-requires c κs = search needs
+print-rows-requires c κs =
+    let p = c .before .before .before .before .before .before .before .before .before in
+    let f = now (p .before .before .before .before .before .args .file) in
+    let w = subst (OpenedIs f (p .put-first .result .size)) (c .before .before .before .opening2 .given .1) (p .put-first .ensures .file) in
+    let t = p .before .before in
+    (omega (arith, p .put-first .kept .0, t .text-space .ensures), omega (arith, t .before .value-space .ensures), w .1, w .2)
 
 returns : tie.Need-returns
 returns c = search needs
 
 returns-2 : tie.Need-returns-2
 returns-2 c = search needs
+
+returns-3 : tie.Need-returns-3
+returns-3 c = search needs
 
 pub list-spec : {M : Type 1} → statement M
 list-spec =
@@ -51,8 +68,11 @@ list-spec =
     array-share-prefix-text
     slice-aggregate-write-all
     write-all-requires
+    enum-known-opening
+    enum-known-opening-2
     slice-aggregate-print-rows
     slice-aggregate-print-rows-2
     print-rows-requires
     returns
-    returns-2)
+    returns-2
+    returns-3)

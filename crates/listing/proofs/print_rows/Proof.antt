@@ -8,19 +8,22 @@ use Rattle.listing.proofs.print_rows.Statement.{statement}
 use Rattle.listing.proofs.print_rows.Tie as tie
 
 abbrev Inv-loop : tie.InvT-loop
-Inv-loop text₀ values₀ file size top₀ text values top = (length text ≡ length text₀) × (length values ≡ length values₀)
+Inv-loop text₀ values₀ file view size top₀ text values top = (length text ≡ length text₀) × (length values ≡ length values₀)
 
 abbrev μ-loop : tie.MeasureT-loop
-μ-loop text₀ values₀ file size top₀ text values top = size .rows - top
+μ-loop text₀ values₀ file view size top₀ text values top = size .rows - top
 
 loop-holds : tie.Need-loop-holds Inv-loop μ-loop
 loop-holds c = (refl, refl)
 
 block-requires : tie.Need-block-requires Inv-loop μ-loop
-block-requires c κs = let q = c .before .before .before .before .before .before .pre .2 (omega (arith, c .if1 .taken)) in (q .sized, q .some-columns, c .if1 .taken)
+block-requires c κs = let q = c .before .before .before .before .before .before .before .pre .2 in (q .sized, q .some-columns, c .if1 .taken)
 
 put-rows-requires : tie.Need-put-rows-requires Inv-loop μ-loop
-put-rows-requires c κs = ((omega (arith, c .before .before .before .before .before .loop .inv .0, c .before .before .before .before .before .before .before .before .before .pre .0), omega (arith, c .before .before .before .before .before .loop .inv .1, c .before .before .before .before .before .before .before .before .before .pre .1), c .before .before .before .before .before .before .before .before .before .pre .2 (omega (arith, c .before .before .before .if1 .taken))), c .before .before .block .ensures)
+put-rows-requires c κs =
+    let v = c .before .before .before .before .before .loop in
+    let s = c .before .before .before .before .before .before .before .before .before .before in
+    ((omega (arith, v .inv .0, s .pre .0), omega (arith, v .inv .1, s .pre .1), s .pre .2, s .pre .3), c .before .before .block .ensures)
 
 slice-reshare-prefix-write-all : tie.Need-slice-reshare-prefix-write-all Inv-loop μ-loop
 slice-reshare-prefix-write-all c = c .before .before .before .before .put-rows .ensures .0
@@ -32,22 +35,33 @@ write-all-requires : tie.Need-write-all-requires Inv-loop μ-loop
 write-all-requires c κs = search needs
 
 same-length : tie.Need-same-length Inv-loop μ-loop
-same-length c = c .before .before .before .before .before .before .before .put-rows .kept .0 ∙ c .before .before .before .before .before .before .before .before .before .before .before .before .before .loop .inv .0
+same-length c =
+    let r = c .before .before .before .before .before .before .before in
+    r .put-rows .kept .0 ∙ r .before .before .before .before .before .before .loop .inv .0
 
 same-length-2 : tie.Need-same-length-2 Inv-loop μ-loop
-same-length-2 c = c .before .before .before .before .before .before .before .put-rows .kept .1 .0 ∙ c .before .before .before .before .before .before .before .before .before .before .before .before .before .loop .inv .1
+same-length-2 c =
+    let r = c .before .before .before .before .before .before .before in
+    r .put-rows .kept .1 .0 ∙ r .before .before .before .before .before .before .loop .inv .1
 
 returns : tie.Need-returns Inv-loop μ-loop
 returns c = search needs
 
 add-top : tie.Need-add-top Inv-loop μ-loop
-add-top c = let q = c .before .before .before .before .before .before .before .before .before .before .before .before .before .before .before .before .before .pre .2 (omega (arith, c .before .before .before .before .before .before .before .before .before .before .before .if1 .taken)) in omega (arith, c .before .before .before .before .before .before .before .before .before .before .block .ensures .1, q .sized .rows)
+add-top c =
+    let k = c .before .before .before .before .before .before .before .before .before .before in
+    omega (arith, k .block .ensures .1, k .before .before .before .before .before .before .before .before .pre .2 .sized .rows)
 
 loop-less : tie.Need-loop-less Inv-loop μ-loop
-loop-less c = omega (arith, c .before .before .before .before .before .before .before .before .before .before .block .ensures .0, c .before .before .before .before .before .before .before .before .before .before .block .ensures .1)
+loop-less c =
+    let k = c .before .before .before .before .before .before .before .before .before .before in
+    omega (arith, k .block .ensures .0, k .block .ensures .1)
 
 loop-again : tie.Need-loop-again Inv-loop μ-loop
-loop-again c = (c .before .before .before .before .before .before .before .put-rows .kept .0 ∙ c .before .before .before .before .before .before .before .before .before .before .before .before .before .loop .inv .0, c .before .before .before .before .before .before .before .put-rows .kept .1 .0 ∙ c .before .before .before .before .before .before .before .before .before .before .before .before .before .loop .inv .1)
+loop-again c =
+    let r = c .before .before .before .before .before .before .before in
+    let v = r .before .before .before .before .before .before .loop in
+    (r .put-rows .kept .0 ∙ v .inv .0, r .put-rows .kept .1 .0 ∙ v .inv .1)
 
 same-length-3 : tie.Need-same-length-3 Inv-loop μ-loop
 same-length-3 c = c .before .before .loop .inv .0

@@ -1,4 +1,4 @@
-use mathlib.Core.Path.{_∙_, subst}
+use mathlib.Core.Path.{refl, _∙_, subst}
 use denote.Ref.{now}
 use Rattle.develop.specs.View.{OpeningIs}
 use Rattle.listing.proofs.Bodies.{headed-refused, headed-frame, listed-over, listed-in, viewed-listed}
@@ -13,7 +13,10 @@ same-length : tie.Need-same-length
 same-length c = search needs
 
 returns : tie.Need-returns
-returns c = headed-refused (now (c .before .before .before .before .before .before .before .args .file)) 1 0 (listed-over (now (c .before .before .before .before .before .before .before .args .file)) (c .before .before .before .before .if1 .taken)) _ _ (c .before .before .refused .ensures)
+returns c =
+    let t = c .before .before .before .before in
+    let f = now (t .before .before .before .args .file) in
+    headed-refused f 1 0 (listed-over f (t .if1 .taken)) _ _ (c .before .before .refused .ensures)
 
 open-requires : tie.Need-open-requires
 open-requires c κs = search needs
@@ -34,13 +37,23 @@ same-length-2 : tie.Need-same-length-2
 same-length-2 c = search needs
 
 returns-2 : tie.Need-returns-2
-returns-2 c = headed-refused (now (c .before .before .before .before .before .before .before .before .before .before .before .args .file)) _ _ (subst (OpeningIs (now (c .before .before .before .before .before .before .before .before .before .before .before .args .file))) (c .before .before .before .before .before .number .given .1) (c .before .before .before .before .before .before .before .«open» .ensures) ∙ listed-in (now (c .before .before .before .before .before .before .before .before .before .before .before .args .file)) (c .before .before .before .before .before .before .before .before .if1 .left)) _ _ (c .before .before .refused2 .ensures)
+returns-2 c =
+    let n = c .before .before .before .before .before in
+    let o = n .before .before in
+    let f = now (o .before .before .before .before .args .file) in
+    let r = subst (OpeningIs f) (n .number .given .1) (o .«open» .ensures) in
+    headed-refused f _ _ (r ∙ listed-in f (o .before .if1 .left)) _ _ (c .before .before .refused2 .ensures)
 
 same-length-3 : tie.Need-same-length-3
 same-length-3 c = search needs
 
 returns-3 : tie.Need-returns-3
-returns-3 c = headed-frame (now (c .before .before .before .before .before .before .before .before .before .before .before .before .args .file)) _ _ (viewed-listed (now (c .before .before .before .before .before .before .before .before .before .before .before .before .args .file)) _ (subst (OpeningIs (now (c .before .before .before .before .before .before .before .before .before .before .before .before .args .file))) (c .before .before .before .before .before .before .view .given .1) (c .before .before .before .before .before .before .before .before .«open» .ensures)) (c .before .before .before .before .before .before .before .before .before .if1 .left)) (c .before .before .put-size .ensures)
+returns-3 c =
+    let v = c .before .before .before .before .before .before in
+    let o = v .before .before in
+    let f = now (o .before .before .before .before .args .file) in
+    let w = subst (OpeningIs f) (v .view .given .1) (o .«open» .ensures) in
+    headed-frame f _ _ _ (viewed-listed f _ w (o .before .if1 .left)) w refl refl (c .before .before .put-size .ensures)
 
 pub put-first-spec : {M : Type 1} → statement M
 put-first-spec =
