@@ -48,9 +48,12 @@ fill-deltas-requires c κs =
     let v = s .args .view in
     let q = s .pre .0 .0 .file in
     let n = 2 * s .args .part .count in
-    let e : n ≡ n * v .size .samples = sym (ap (λ (m : ℕ). n * m) (s .pre .0 .0 .mosaic) ∙ mul-one n) in
-    (q .picture-in .raw .tags, viewed-wide f v q (2 * (s .args .blocks .left + s .args .part .from)) n (columns s .0) _ (copies-length (pos 0) n 1024 (few s) ∙ e),
-    omega (arith, columns s .0, columns s .1), zeros-part (n - 0) 1024)
+    let e : n ≡ n * v .size .samples = sym (ap (λ (m : ℕ). n * m) (s .pre .0 .0 .mosaic) ∙ mul-one n) in (
+      q .picture-in .raw .tags,
+      viewed-wide f v q (2 * (s .args .blocks .left + s .args .part .from)) n (columns s .0) _ (copies-length (pos 0) n 1024 (few s) ∙ e),
+      omega (arith, columns s .0, columns s .1),
+      zeros-part (n - 0) 1024,
+    )
 
 sub-block-columns : tie.Need-sub-block-columns
 sub-block-columns c = search needs

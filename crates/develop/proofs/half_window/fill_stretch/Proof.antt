@@ -86,9 +86,13 @@ block-columns-requires c κs =
     let p = c .before .before .before .before .before .before .before .before .before .before .before .piece in
     let a = c .before .before .before .before .before .before .before .before .fill-along in
     let y = a .ensures (2 * s .args .part .count) (p .ensures .3) in
-    let m = (s .args .view .picture .raw .tags .levels .repeat .rows + 1) * p .result in
-    (s .pre, (along-part _ _ _ _ m (a .last .1 .1 .1 .1 .1 .0) _ (lent (c .before .before .before .before .before .before .before)) y,
-    viewed-plain (now (s .args .file)) (s .args .view) (s .pre .0 .file) (c .before .before .before .before .before .if1 .taken) _ _))
+    let m = (s .args .view .picture .raw .tags .levels .repeat .rows + 1) * p .result in (
+      s .pre,
+      (
+        along-part _ _ _ _ m (a .last .1 .1 .1 .1 .1 .0) _ (lent (c .before .before .before .before .before .before .before)) y,
+        viewed-plain (now (s .args .file)) (s .args .view) (s .pre .0 .file) (c .before .before .before .before .before .if1 .taken) _ _,
+      ),
+    )
 
 sub-blocks-with-deltas : tie.Need-sub-blocks-with-deltas
 sub-blocks-with-deltas c = search needs
