@@ -8,6 +8,7 @@ ghost use Rattle.rows.specs.Line.{Filled, lineValue, Line-in, Levelled};
 use levels::reciprocal;
 use levels::table;
 use raw::sample;
+use reading::number;
 use reading::number::Order;
 
 // How the samples are read, the first at a place, the table's place and count, and the row's delta.
@@ -20,8 +21,42 @@ pub struct Line {
     pub down: f64,
 }
 
-// The one loop over samples.
-fn scaled_samples(line: Line, file: &[u8], blacks: &[f64], inverses: &[f64], out: &mut [f64])
+// SHORTs without a table.
+fn scaled_shorts(line: Line, file: &[u8], blacks: &[f64], inverses: &[f64], out: &mut [f64])
+    requires { ⌜ Line-in (now file) line (length (now out)) × (line .bytes ≡ 2) × (line .count ≡ 0) ⌝ }
+    requires { ⌜ (length (now out) ≤ length (now blacks)) × (length (now out) ≤ length (now inverses)) ⌝ }
+    ensures { λ _. ⌜ ((black span : ℕ → ℤ) → Levelled black span (now (blacks .entry)) (now (inverses .entry)) (line .down) (length (now (out .entry))) → Filled nan (lineValue (now (file .entry)) line black span) (length (now (out .entry))) (now (out .exit))) ⌝ }
+{
+    let order = line.order;
+    let place = line.place;
+    let down = line.down;
+    let mut i = 0;
+    while i < out.len() {
+        let v = number::short(file, order, place + 2 * i);
+        out[i] = reciprocal::scaled_by(v, blacks[i] + down, inverses[i]);
+        i += 1;
+    }
+}
+
+// Samples of one byte without a table.
+fn scaled_bytes(line: Line, file: &[u8], blacks: &[f64], inverses: &[f64], out: &mut [f64])
+    requires { ⌜ Line-in (now file) line (length (now out)) × (line .bytes ≡ 1) × (line .count ≡ 0) ⌝ }
+    requires { ⌜ (length (now out) ≤ length (now blacks)) × (length (now out) ≤ length (now inverses)) ⌝ }
+    ensures { λ _. ⌜ ((black span : ℕ → ℤ) → Levelled black span (now (blacks .entry)) (now (inverses .entry)) (line .down) (length (now (out .entry))) → Filled nan (lineValue (now (file .entry)) line black span) (length (now (out .entry))) (now (out .exit))) ⌝ }
+{
+    let order = line.order;
+    let place = line.place;
+    let down = line.down;
+    let mut i = 0;
+    while i < out.len() {
+        let v = number::byte(file, order, place + i);
+        out[i] = reciprocal::scaled_by(v, blacks[i] + down, inverses[i]);
+        i += 1;
+    }
+}
+
+// Samples through the table.
+fn scaled_through(line: Line, file: &[u8], blacks: &[f64], inverses: &[f64], out: &mut [f64])
     requires { ⌜ Line-in (now file) line (length (now out)) ⌝ }
     requires { ⌜ (length (now out) ≤ length (now blacks)) × (length (now out) ≤ length (now inverses)) ⌝ }
     ensures { λ _. ⌜ ((black span : ℕ → ℤ) → Levelled black span (now (blacks .entry)) (now (inverses .entry)) (line .down) (length (now (out .entry))) → Filled nan (lineValue (now (file .entry)) line black span) (length (now (out .entry))) (now (out .exit))) ⌝ }
@@ -41,39 +76,19 @@ fn scaled_samples(line: Line, file: &[u8], blacks: &[f64], inverses: &[f64], out
     }
 }
 
-// The same; where there is no table, literals give the compiler loops without these tests, several samples at a time.
+// Any line. Without a table the place of each sample and its width are plain to the compiler, which takes several at a time.
 pub fn scaled_line(line: Line, file: &[u8], blacks: &[f64], inverses: &[f64], out: &mut [f64])
     requires { ⌜ Line-in (now file) line (length (now out)) ⌝ }
     requires { ⌜ (length (now out) ≤ length (now blacks)) × (length (now out) ≤ length (now inverses)) ⌝ }
     ensures { λ _. ⌜ ((black span : ℕ → ℤ) → Levelled black span (now (blacks .entry)) (now (inverses .entry)) (line .down) (length (now (out .entry))) → Filled nan (lineValue (now (file .entry)) line black span) (length (now (out .entry))) (now (out .exit))) ⌝ }
 {
-    let order = line.order;
-    let place = line.place;
-    let table = line.table;
-    let down = line.down;
     if line.count != 0 {
-        scaled_samples(line, file, blacks, inverses, out);
+        scaled_through(line, file, blacks, inverses, out);
         return;
     }
     if line.bytes == 1 {
-        let bytes = Line {
-            order,
-            bytes: 1,
-            place,
-            table,
-            count: 0,
-            down,
-        };
-        scaled_samples(bytes, file, blacks, inverses, out);
+        scaled_bytes(line, file, blacks, inverses, out);
     } else {
-        let shorts = Line {
-            order,
-            bytes: 2,
-            place,
-            table,
-            count: 0,
-            down,
-        };
-        scaled_samples(shorts, file, blacks, inverses, out);
+        scaled_shorts(line, file, blacks, inverses, out);
     }
 }

@@ -9,8 +9,8 @@ use lib.ListN.{length}
 use Rattle.levels.specs.Table.{tableOf, throughOf}
 use Rattle.rows.specs.Line.{Filled, lineValue, Levelled}
 use Rattle.rows.proofs.Lines.{filled-more, value-is}
-use Rattle.rows.proofs.line.scaled_samples.Statement.{statement}
-use Rattle.rows.proofs.line.scaled_samples.Tie as tie
+use Rattle.rows.proofs.line.scaled_through.Statement.{statement}
+use Rattle.rows.proofs.line.scaled_through.Tie as tie
 
 abbrev Inv-loop : tie.InvT-loop
 Inv-loop file blacks inverses out₀ order bytes place table count down i₀ out i =
@@ -92,8 +92,8 @@ returns c black span w k h =
     let l = c .before .loop in
     l .inv .2 black span w k (omega (arith, c .loop-test .left, l .inv .1))
 
-pub scaled-samples-spec : {M : Type 1} → statement M
-scaled-samples-spec =
+pub scaled-through-spec : {M : Type 1} → statement M
+scaled-through-spec =
     tie.close
     (tie.spec
     Inv-loop
