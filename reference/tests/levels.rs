@@ -28,6 +28,52 @@ fn levels_are_rounded_to_nearest_halves_up() {
     }
 }
 
+/// White 6, 10 and 43,690 above black 0: L is 10922 1/2, 6553 1/2 and 1 1/2 times v.
+#[test]
+fn halves_of_whole_levels_go_up() {
+    let of_white = |white: u16, stored: &[u16]| levels(&row_of(stored).with(Tag::shorts(50717, &[white])));
+    assert_eq!(of_white(6, &[1, 2, 3, 4, 5]), [10_923, 21_845, 32_768, 43_690, 54_613]);
+    assert_eq!(of_white(10, &[1, 3, 5, 7, 9]), [6_554, 19_661, 32_768, 45_875, 58_982]);
+    assert_eq!(of_white(43_690, &[1, 2, 3, 5, 7]), [2, 3, 5, 8, 11]);
+    assert_eq!(of_white(43_690, &[21_845, 43_687, 43_688, 43_689]), [32_768, 65_531, 65_532, 65_534]);
+}
+
+/// Values and column deltas in 256ths, over black 2/256.
+fn over_two_256ths(white: u16, samples: &[(u16, i32)]) -> Vec<u32> {
+    let stored: Vec<u16> = samples.iter().map(|(value, _)| *value).collect();
+    let deltas: Vec<(i32, i32)> = samples.iter().map(|(_, delta)| (*delta, 256)).collect();
+    let dng = row_of(&stored)
+        .with(Tag::rationals(50714, &[(2, 256)]))
+        .with(Tag::srationals(50715, &deltas))
+        .with(Tag::shorts(50717, &[white]));
+    levels(&dng)
+}
+
+/// The first column's delta is 0, so the greatest black is 2/256. White 512 makes
+/// S 131,070, so that L is D / 2; its least half is D = 1 and its greatest
+/// D = 131,069.
+#[test]
+fn the_lowest_and_the_highest_half_go_up() {
+    let columns = [(0, 0), (0, -2), (0, -3), (0, -4), (0, -5)];
+    // D: -2, 0, 1, 2, 3.
+    assert_eq!(over_two_256ths(512, &columns), [0, 0, 1, 1, 2]);
+    let columns = [(512, 0), (511, -255), (511, -254), (511, -253), (512, -1)];
+    // D: 131,070, 131,069, 131,068, 131,067, 131,071.
+    assert_eq!(over_two_256ths(512, &columns), [65_535, 65_535, 65_534, 65_534, 65_535]);
+}
+
+/// White 1024 makes S 262,142. 65535 D / S would be 1/2 at D = 131,071 / 65,535,
+/// which is no whole number: D = 2 gives 0.499996, and S - 2 gives 65,534.500004.
+#[test]
+fn what_is_next_to_a_half_is_not_taken_for_one() {
+    let columns = [(0, 0), (0, -3), (0, -4), (0, -5), (0, -6)];
+    // D: -2, 1, 2, 3, 4.
+    assert_eq!(over_two_256ths(1_024, &columns), [0, 0, 0, 1, 1]);
+    let columns = [(1_024, 0), (1_023, -255), (1_023, -254), (1_023, -253), (1_023, -252)];
+    // D: S, S - 1, S - 2, S - 3, S - 4.
+    assert_eq!(over_two_256ths(1_024, &columns), [65_535, 65_535, 65_535, 65_534, 65_534]);
+}
+
 #[test]
 fn the_scaled_value_is_one_division() {
     let stored: Vec<u16> = (0..16_384).map(|i| i * 4 + 3).collect();

@@ -1,7 +1,7 @@
 //! One call, put to the core or to the independent program, with all that can
 //! be seen of its answer.
 
-use std::fmt;
+use std::{fmt, panic, thread};
 
 use reference::cases::Call;
 use reference::{Answer, Card};
@@ -21,7 +21,7 @@ pub struct Program {
     half_window: Window,
 }
 
-pub const CORE: Program = Program {
+const CORE: Program = Program {
     card: core::card,
     other_field: core::field,
     window: core::window,
@@ -38,6 +38,20 @@ pub const REFERENCE: Program = Program {
     colour_window: reference::colour_window,
     half_window: reference::half_window,
 };
+
+/// The stack of the thread that asks the core. A call of the core may use 64 KiB
+/// of it; the rest is for the thread itself and for `Program::ask`.
+const CORE_STACK: usize = 96 * 1024;
+
+/// What the core answers to calls, each of its own file. All of them run in one
+/// thread with that stack: a call that needs more ends the program.
+pub fn ask_core<'a>(calls: impl Iterator<Item = (&'a [u8], &'a Call)> + Send) -> Vec<Outcome> {
+    thread::scope(|scope| {
+        let ask_all = || calls.map(|(file, call)| CORE.ask(file, call)).collect();
+        let asking = thread::Builder::new().stack_size(CORE_STACK).spawn_scoped(scope, ask_all);
+        asking.expect("a thread starts").join().unwrap_or_else(|panicked| panic::resume_unwind(panicked))
+    })
+}
 
 /// Places on both sides of a lent slice, which no call may write.
 const MARGIN: usize = 3;

@@ -6,9 +6,11 @@ mod blacks;
 mod colour;
 mod gain_map;
 mod headers;
+mod levels;
 mod lists;
 mod numbers;
 mod parameters;
+mod parts;
 mod pattern;
 mod places;
 mod shapes;
@@ -63,6 +65,8 @@ pub fn check(tally: &mut Tally) {
     trees::check(tally);
     tags::check(tally);
     blacks::check(tally);
+    levels::check(tally);
+    parts::check(tally);
     wide::check(tally);
     lists::check(tally);
     parameters::check(tally);
@@ -124,10 +128,17 @@ fn case_in(tally: &mut Tally, ask: FileCase, widths: Widths, label: &str, dng: &
     each_file(widths, label, dng, |label, file| ask(tally, label, file, answer));
 }
 
+/// Both byte orders in both layouts.
+const WAYS: [(ByteOrder, Widths); 4] = [
+    (ByteOrder::Little, Widths::BITS_32),
+    (ByteOrder::Big, Widths::BITS_32),
+    (ByteOrder::Little, Widths::BITS_64),
+    (ByteOrder::Big, Widths::BITS_64),
+];
+
 /// The description in both byte orders and in both layouts.
 fn each_way(dng: &Dng) -> impl Iterator<Item = Dng> + '_ {
-    let ways = LAYOUTS.into_iter().flat_map(|widths| ORDERS.map(|order| (widths, order)));
-    ways.map(|(widths, order)| Dng { widths, order, ..dng.clone() })
+    WAYS.into_iter().map(|(order, widths)| Dng { widths, order, ..dng.clone() })
 }
 
 /// The file in both byte orders, in the layout that it has.

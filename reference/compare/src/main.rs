@@ -63,16 +63,18 @@ fn missing(tally: &Tally) -> Vec<String> {
     details.chain(numbers.into_iter().map(|(name, number)| format!("{name} {number}"))).collect()
 }
 
-fn report(title: &str, tally: &Tally) {
+/// Prints what came of it, and gives how many differences there are.
+fn report(title: &str, tally: &mut Tally) -> u64 {
+    let differences = tally.differences();
     println!(
-        "{title}: {} files, {} calls, {} values ({} neither 0 nor 1), {} differences",
+        "{title}: {} files, {} calls, {} values ({} neither 0 nor 1), {differences} differences",
         tally.files,
         tally.calls(),
         tally.values,
-        tally.between,
-        tally.differences
+        tally.between
     );
     tally.print_numbers();
+    differences
 }
 
 fn listed<T: AsRef<str>>(words: &[T]) -> String {
@@ -119,25 +121,22 @@ fn main() -> ExitCode {
         eprintln!("usage: compare SEED COUNT");
         return ExitCode::FAILURE;
     };
-    // Every call uses at most this much stack: a call that went over it would end the program.
-    let all = std::thread::Builder::new().stack_size(512 * 1024).spawn(move || compare(seed, count));
-    all.expect("a thread starts").join().unwrap_or(ExitCode::FAILURE)
+    compare(seed, count)
 }
 
 fn compare(seed: u64, count: u64) -> ExitCode {
     let (mut unmet, mut no_kind, mut differences) = (Vec::new(), Vec::new(), 0);
-    for (bits, Generated { tally, kinds }) in ["32 bits", "64 bits"].into_iter().zip(generated(seed, count)) {
-        report(&format!("generated, seed {seed}, {bits}"), &tally);
+    let of_layouts = ["32 bits", "64 bits"].into_iter().zip(generated(seed, count));
+    for (bits, Generated { mut tally, kinds }) in of_layouts {
+        differences += report(&format!("generated, seed {seed}, {bits}"), &mut tally);
         println!("accepted files of each kind, {bits}:");
         kinds.print();
-        differences += tally.differences;
         unmet.extend(missing(&tally).into_iter().map(|answer| format!("{answer} in {bits}")));
         no_kind.extend(kinds.missing().into_iter().map(|kind| format!("{kind} in {bits}")));
     }
     let mut limits = Tally::default();
     limits::check(&mut limits);
-    report("limits", &limits);
-    differences += limits.differences;
+    differences += report("limits", &mut limits);
     unmet.extend(missing(&limits));
     println!("answers not met: {}; kinds not met: {}", listed(&unmet), listed(&no_kind));
     if differences == 0 && unmet.is_empty() && no_kind.is_empty() {

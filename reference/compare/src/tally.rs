@@ -1,10 +1,11 @@
 //! What was asked, what was answered, and where the programs differ.
 
 use std::collections::BTreeMap;
+use std::{iter, mem};
 
 use reference::cases::Call;
 
-use crate::asking::{Outcome, Shown, CORE, REFERENCE};
+use crate::asking::{ask_core, Outcome, Shown, REFERENCE};
 
 /// A number and a detail.
 pub type Stated = (u32, u32);
@@ -21,12 +22,31 @@ const GREATEST_NUMBER: [u32; CALLS] = [12, 14, 13, 15, 15];
 /// So many differences are printed; the rest are counted.
 const PRINTED: u64 = 30;
 
+/// So many bytes of files and outcomes may wait for the core to be asked.
+const WAITING: usize = 1 << 20;
+
+/// A call with the independent program's outcome, and what is stated of it.
+struct Asked {
+    call: Call,
+    expected: Outcome,
+    stated: Option<Stated>,
+}
+
+/// A file whose calls are yet to be put to the core.
+struct Waiting {
+    label: String,
+    file: Vec<u8>,
+    calls: Vec<Asked>,
+}
+
 #[derive(Default)]
 pub struct Tally {
     /// For each call, how often each number and detail was answered.
     met: [BTreeMap<Stated, u64>; CALLS],
     pub files: u64,
-    pub differences: u64,
+    waiting: Vec<Waiting>,
+    waiting_bytes: usize,
+    differences: u64,
     /// Samples and colours compared, and how many of them were neither 0 nor 1.
     pub values: u64,
     pub between: u64,
@@ -43,25 +63,25 @@ fn index(call: &Call) -> usize {
 }
 
 impl Tally {
-    /// Puts one call to both programs. They must answer the same in every bit,
-    /// and what is stated, where something is. Gives the independent program's
-    /// outcome.
+    /// Puts one call to both programs, to the core with many others at a later
+    /// time. They must answer the same in every bit, and what is stated, where
+    /// something is. Gives the independent program's outcome.
     pub fn ask(&mut self, label: &str, file: &[u8], call: &Call, stated: Option<Stated>) -> Outcome {
-        let (found, expected) = (CORE.ask(file, call), REFERENCE.ask(file, call));
+        let expected = REFERENCE.ask(file, call);
         let answer = (expected.answer.number, expected.answer.detail);
-        let as_stated = stated.is_none_or(|stated| stated == answer);
-        if found != expected || !as_stated || !expected.is_whole(call) {
-            self.differences += 1;
-            if self.differences <= PRINTED {
-                let (core, reference) = (Shown(&found, &expected, call), Shown(&expected, &found, call));
-                println!("{label}: {call:?}: core {core}; reference {reference}; stated {stated:?}");
-            }
-        }
         *self.met[index(call)].entry(answer).or_default() += 1;
         let values = expected.values(call);
         self.values += values.len() as u64;
         let ends = [0, 1.0f64.to_bits()];
         self.between += values.iter().filter(|bits| !ends.contains(bits)).count() as u64;
+        let asked = Asked { call: *call, expected: expected.clone(), stated };
+        if file.len() > WAITING {
+            // Not worth a copy that waits.
+            let found = ask_core(iter::once((file, call)));
+            self.compare(label, &found[0], &asked);
+        } else {
+            self.wait(label, file, asked);
+        }
         expected
     }
 
@@ -69,9 +89,58 @@ impl Tally {
     pub fn ask_values(&mut self, label: &str, file: &[u8], call: &Call, stated: &[f64]) {
         let found = self.ask(label, file, call, Some((0, 0)));
         if !found.values(call).iter().copied().eq(stated.iter().map(|value| value.to_bits())) {
-            self.differences += 1;
-            println!("{label}: {call:?}: {:x?}, stated {stated:?}", found.values(call));
+            self.differs(&format!("{label}: {call:?}: {:x?}, stated {stated:?}", found.values(call)));
         }
+    }
+
+    fn wait(&mut self, label: &str, file: &[u8], asked: Asked) {
+        if self.waiting_bytes > WAITING {
+            self.settle();
+        }
+        self.waiting_bytes += size_of::<Asked>() + size_of_val(&asked.expected.bits[..]);
+        match self.waiting.last_mut() {
+            Some(last) if last.label == label && last.file == file => last.calls.push(asked),
+            _ => {
+                self.waiting_bytes += file.len();
+                let (label, file) = (label.into(), file.into());
+                self.waiting.push(Waiting { label, file, calls: vec![asked] });
+            }
+        }
+    }
+
+    /// Puts to the core what waits for it, and compares.
+    fn settle(&mut self) {
+        let waiting = mem::take(&mut self.waiting);
+        self.waiting_bytes = 0;
+        let asked = || waiting.iter().flat_map(|of| of.calls.iter().map(move |asked| (of, asked)));
+        let found = ask_core(asked().map(|(of, asked)| (&of.file[..], &asked.call)));
+        for (found, (of, asked)) in found.iter().zip(asked()) {
+            self.compare(&of.label, found, asked);
+        }
+    }
+
+    fn compare(&mut self, label: &str, found: &Outcome, Asked { call, expected, stated }: &Asked) {
+        let answer = (expected.answer.number, expected.answer.detail);
+        let as_stated = stated.is_none_or(|stated| stated == answer);
+        if found != expected || !as_stated || !expected.is_whole(call) {
+            let (core, reference) = (Shown(found, expected, call), Shown(expected, found, call));
+            let both = format!("core {core}; reference {reference}");
+            self.differs(&format!("{label}: {call:?}: {both}; stated {stated:?}"));
+        }
+    }
+
+    /// Counts a difference, and prints it if it is one of the first.
+    pub fn differs(&mut self, line: &str) {
+        self.differences += 1;
+        if self.differences <= PRINTED {
+            println!("{line}");
+        }
+    }
+
+    /// How many differences there are; no call waits any longer.
+    pub fn differences(&mut self) -> u64 {
+        self.settle();
+        self.differences
     }
 
     pub fn calls(&self) -> u64 {

@@ -1,6 +1,26 @@
-//! Times of work that is repeated, and their ratios.
+//! Processor times of work that is repeated, and their ratios.
 
-use std::time::Instant;
+#[repr(C)]
+struct Timespec {
+    seconds: i64,
+    nanoseconds: i64,
+}
+
+extern "C" {
+    fn clock_gettime(clock: i32, time: *mut Timespec) -> i32;
+}
+
+/// CLOCK_PROCESS_CPUTIME_ID, as Linux numbers it.
+const PROCESS_CPU_TIME: i32 = 2;
+
+/// How long the processors have worked for this process, in seconds: what other
+/// processes take does not count.
+fn cpu_seconds() -> f64 {
+    let mut time = Timespec { seconds: 0, nanoseconds: 0 };
+    let failed = unsafe { clock_gettime(PROCESS_CPU_TIME, &mut time) };
+    assert_eq!(failed, 0, "the process has a clock");
+    time.seconds as f64 + 1e-9 * time.nanoseconds as f64
+}
 
 /// The seconds of the repetitions of one measurement.
 #[derive(Default)]
@@ -8,9 +28,9 @@ pub struct Times(Vec<f64>);
 
 impl Times {
     pub fn run(&mut self, work: impl FnOnce()) {
-        let start = Instant::now();
+        let start = cpu_seconds();
         work();
-        self.0.push(start.elapsed().as_secs_f64());
+        self.0.push(cpu_seconds() - start);
     }
 
     /// The seconds of the last repetition.

@@ -5,7 +5,8 @@
 use std::hint::black_box;
 
 use compare::mosaic::{
-    black_and_span, clip, levels_of_row, mosaic, plain, same_bits, stored, whole_window, COLUMNS, ROWS,
+    clip, little_endian, mosaic, mosaic_black_and_span, plain, same_bits, scaled_row, stored, Frame, COLUMNS,
+    ROWS, SAMPLES,
 };
 use compare::times::{print_ratio, Times};
 use reference::builder::{Area, GainMap, Opcode, MAP_GAINS, MAP_ORIGIN, MAP_SPACING};
@@ -59,7 +60,7 @@ type MapRow = [[f64; 2]; 64];
 
 /// What does not change from row to row.
 struct Job {
-    black: [i64; 4],
+    black: [[i64; 2]; 2],
     s: i64,
     vertical: Axis,
     horizontal: Axis,
@@ -69,7 +70,7 @@ struct Job {
 impl Job {
     /// The map as an opcode's parameters have it.
     fn new(parameters: &[u8]) -> Job {
-        let (black, s) = black_and_span();
+        let (black, s) = mosaic_black_and_span();
         let double = |at: usize| f64::from_be_bytes(parameters[at..at + 8].try_into().expect("eight bytes"));
         let axis = |axis: usize, lines: usize| Axis {
             lines: lines as f64,
@@ -89,12 +90,11 @@ impl Job {
     }
 
     fn run(&self, stored: &[u8], out: &mut [f64]) {
-        let rows = stored.chunks_exact(2 * COLUMNS).zip(out.chunks_exact_mut(COLUMNS));
-        for (row, (stored, out)) in rows.enumerate() {
-            let cell = 2 * (row % 2);
-            levels_of_row(stored, [self.black[cell], self.black[cell + 1]], self.s, out);
+        Frame::MOSAIC.each_row(stored, out, |row, stored, out| {
+            let samples = stored.chunks_exact(2).map(little_endian);
+            scaled_row(samples, self.black[row % 2], [self.s; 2], out);
             self.correct_row(row, out);
-        }
+        });
     }
 
     #[inline(never)]
@@ -131,18 +131,18 @@ fn main() {
     let opcode = gain_map();
     let file = mosaic(&stored, ROWS).with_opcodes(std::slice::from_ref(&opcode)).file();
     let job = Job::new(&black_box(opcode).parameters);
-    let mut out = vec![1.0; ROWS * COLUMNS];
+    let mut out = vec![1.0; SAMPLES];
     let mut expected = out.clone();
     job.run(&stored, &mut expected);
-    whole_window(&file, &mut out);
+    Frame::MOSAIC.window(&file, &mut out);
     assert!(same_bits(&out, &expected), "dng_window gives the corrected levels");
     let [mut loops, mut rust, mut core] = [(); 3].map(|()| Times::default());
-    println!("{} samples, {} x {} points", ROWS * COLUMNS, POINTS[0], POINTS[1]);
+    println!("{} samples, {} x {} points", SAMPLES, POINTS[0], POINTS[1]);
     println!("run    plain loop      in Rust   dng_window   of Rust   of the loop");
     for run in 1..=REPETITIONS {
         loops.run(|| plain(black_box(&stored), &mut out));
-        rust.run(|| job.run(black_box(&stored), &mut expected));
-        core.run(|| whole_window(&file, &mut out));
+        rust.run(|| job.run(&stored, &mut expected));
+        core.run(|| Frame::MOSAIC.window(&file, &mut out));
         assert!(same_bits(&out, &expected), "dng_window gives the corrected levels");
         let [a, b, c] = [&loops, &rust, &core].map(Times::last);
         let [ms_a, ms_b, ms_c] = [a, b, c].map(|seconds| 1e3 * seconds);

@@ -6,7 +6,9 @@
 use std::hint::black_box;
 
 use compare::core;
-use compare::mosaic::{black_and_span, mosaic, same_bits, scaled, stored, whole_window, COLUMNS, ROWS};
+use compare::mosaic::{
+    little_endian, mosaic, mosaic_black_and_span, same_bits, scaled, stored, Frame, COLUMNS, ROWS, SAMPLES,
+};
 use compare::times::{print_ratio, Times};
 use reference::builder::Tag;
 use reference::random::Random;
@@ -45,7 +47,7 @@ fn file(stored: &[u8], rows: usize) -> Vec<u8> {
 struct Job {
     /// Of red, the first green, the second one and blue, row by row.
     places: [usize; 4],
-    black: [i64; 4],
+    black: [[i64; 2]; 2],
     s: i64,
     matrix: [f64; 9],
     neutral: [f64; 3],
@@ -53,7 +55,7 @@ struct Job {
 
 impl Job {
     fn new() -> Job {
-        let (black, s) = black_and_span();
+        let (black, s) = mosaic_black_and_span();
         let pattern = black_box(PATTERN);
         let mut places = [0, 1, 2, 3];
         places.sort_by_key(|place| pattern[*place]);
@@ -73,8 +75,9 @@ impl Job {
     fn row_of_blocks(&self, (upper, lower): (&[u8], &[u8]), out: &mut [f64]) {
         let line = |place: usize| {
             let row = if place < 2 { upper } else { lower };
-            let black = self.black[place];
-            row[2 * (place % 2)..].chunks(4).map(move |sample| scaled(sample, black, self.s))
+            let black = self.black[place / 2][place % 2];
+            let samples = row[2 * (place % 2)..].chunks(4).map(little_endian);
+            samples.map(move |sample| scaled(sample, black, self.s))
         };
         let [red, first, second, blue] = self.places.map(line);
         let blocks = red.zip(first.zip(second)).zip(blue).zip(out.chunks_exact_mut(3));
@@ -136,13 +139,13 @@ fn main() {
     let job = Job::new();
     let mut out = vec![1.0; 3 * BLOCK_ROWS * BLOCK_COLUMNS];
     let mut expected = out.clone();
-    let mut frame = vec![1.0; ROWS * COLUMNS];
+    let mut frame = vec![1.0; SAMPLES];
     let [mut rust, mut half, mut window] = [(); 3].map(|()| Times::default());
     for _ in 0..REPETITIONS {
         rust.run(|| job.run(black_box(&stored), &mut expected));
         half.run(|| half_window(&whole, BLOCK_ROWS, &mut out));
         assert!(same_bits(&out, &expected), "dng_half_window gives the same colours");
-        window.run(|| whole_window(&whole, &mut frame));
+        window.run(|| Frame::MOSAIC.window(&whole, &mut frame));
     }
     println!("{BLOCK_ROWS} x {BLOCK_COLUMNS} blocks, {REPETITIONS} repetitions; time: the best");
     print_ratio("(a) half-size colour in Rust", &rust, &rust, "(a)");

@@ -11,7 +11,7 @@ use crate::questions::window;
 use crate::tally::Tally;
 
 /// 65,535 and 1 in 256ths.
-const FULL: i64 = 65_535 * 256;
+pub const FULL: i64 = 65_535 * 256;
 const ONE: i64 = 256;
 
 /// A white level; in 256ths, the greatest column delta, the greatest row delta
@@ -42,23 +42,23 @@ pub fn check(tally: &mut Tally) {
 /// Black levels, deltas and white levels over an active area; all but the
 /// white levels in 256ths.
 #[derive(Clone)]
-struct Levels {
+pub struct Levels {
     /// Stored rows and columns before the area. Where there are any, one of
     /// each stands behind it too.
-    corner: [u32; 2],
-    area: [u32; 2],
-    repeat: [u32; 2],
+    pub corner: [u32; 2],
+    pub area: [u32; 2],
+    pub repeat: [u32; 2],
     /// In row, column, plane order.
-    cells: Vec<i64>,
-    columns: Option<Vec<i64>>,
-    rows: Option<Vec<i64>>,
+    pub cells: Vec<i64>,
+    pub columns: Option<Vec<i64>>,
+    pub rows: Option<Vec<i64>>,
     /// One for each plane.
-    white: Vec<u32>,
+    pub white: Vec<u32>,
 }
 
 impl Levels {
     /// Black 0 everywhere, no deltas, and white 1 on each plane.
-    fn new(area: [u32; 2], repeat: [u32; 2], planes: usize) -> Levels {
+    pub fn new(area: [u32; 2], repeat: [u32; 2], planes: usize) -> Levels {
         let cells = vec![0; (repeat[0] * repeat[1]) as usize * planes];
         Levels { corner: [0, 0], area, repeat, cells, columns: None, rows: None, white: vec![1; planes] }
     }
@@ -94,7 +94,7 @@ impl Levels {
     }
 
     /// Puts the levels into a file whose active area is as great.
-    fn set(&self, mut dng: Dng) -> Dng {
+    pub fn set(&self, mut dng: Dng) -> Dng {
         let cells: Vec<(u32, u32)> = self.cells.iter().map(|black| (*black as u32, 256)).collect();
         let raw = dng.raw_ifd();
         if self.repeat != [1, 1] {
@@ -132,7 +132,7 @@ fn one_among(count: u32, place: u32, value: i64, others: i64) -> Vec<i64> {
 }
 
 /// Every row of some lines with every column.
-fn places([rows, columns]: [u32; 2]) -> impl Iterator<Item = [u32; 2]> {
+pub fn places([rows, columns]: [u32; 2]) -> impl Iterator<Item = [u32; 2]> {
     (0..rows).flat_map(move |row| (0..columns).map(move |column| [row, column]))
 }
 
@@ -141,7 +141,7 @@ fn meets(cell: [u32; 2], area: [u32; 2]) -> bool {
     cell[0] < area[0] && cell[1] < area[1]
 }
 
-fn every_repeat() -> impl Iterator<Item = [u32; 2]> {
+pub fn every_repeat() -> impl Iterator<Item = [u32; 2]> {
     places([8, 8]).map(|[rows, columns]| [rows + 1, columns + 1])
 }
 

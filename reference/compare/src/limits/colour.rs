@@ -38,9 +38,14 @@ pub fn check(tally: &mut Tally) {
 
 /// A base file with carried colour tags.
 pub fn coloured(base: usize) -> Dng {
+    with_colour(framed(base))
+}
+
+/// The same file with carried colour tags.
+pub fn with_colour(dng: Dng) -> Dng {
     let matrix: Vec<(i32, i32)> = (0..9).map(|i| (3 * i - 10, 7 + i)).collect();
     let neutral = [(1, 2), (1, 1), (3, 5)];
-    framed(base).with_first(Tag::srationals(MATRIX, &matrix)).with_first(Tag::rationals(NEUTRAL, &neutral))
+    dng.with_first(Tag::srationals(MATRIX, &matrix)).with_first(Tag::rationals(NEUTRAL, &neutral))
 }
 
 /// The same file without a tag of IFD 0.

@@ -166,8 +166,7 @@ fn patterns(tally: &mut Tally) {
         );
     }
     if carried.len() != 12 {
-        tally.differences += 1;
-        println!("{} patterns are carried", carried.len());
+        tally.differs(&format!("{} patterns are carried", carried.len()));
     }
     for (pattern, place) in carried.into_iter().flat_map(|pattern| [0, 1, 2, 3].map(|place| (pattern, place)))
     {
