@@ -126,7 +126,8 @@ module _ (f : List ℕ) (v : View) (q : Viewed f v) (t l h w : ℕ) (old : List 
   pub size-is : sizeOf (file .picture) ≡ v .size
   size-is = ap sizeOf (q .picture) ∙ sym (q .size)
 
-  unfoldable pub fill-in : (n : ℕ) → n ≡ v .size .samples → 0 ≡ windowFault (v .size) n t l h w (length old) → Fill-in f v (record { top = t; left = l; height = h; width = w }) old
+  unfoldable pub fill-in : (n : ℕ) → n ≡ v .size .samples → 0 ≡ windowFault (v .size) n t l h w (length old)
+      → Fill-in f v (record { top = t; left = l; height = h; width = w }) old
   fill-in n en e =
       let k = none-inside (v .size) t l h w n (length old) e in
       let i = inside-fits (v .size) t l h w (k .0) in

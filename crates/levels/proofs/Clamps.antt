@@ -9,7 +9,7 @@ use native.Mathlib.Omega.{arith}
 use borrow.Author.Tests.{lt-ltb, lt-leb, le-leb}
 use lib.Dec.{leb}
 use lib.IntN.{ℤ, pos, negsuc, natAbs, _+ℤ_}
-use lib.Ieee.{Float, nan, inf, fin, binary64, add, sub, mul, div, lt, ofInt}
+use lib.Ieee.{Float, nan, inf, fin, binary64, add, sub, div, lt, ofInt}
 use lib.Ieee.Exact.{HasValue}
 use Rattle.reading.proofs.Magnitude.{natAbs-add, natAbs-sub}
 use Rattle.reading.proofs.Wholes.{le-or-lt, int-value}
@@ -78,7 +78,8 @@ level-is-by z span d r p q =
 difference-most : (v : ℕ) (black : ℤ) → v ≤ 65535 → natAbs black ≤ 50330880 → natAbs (differenceOf v black) ≤ 67107840
 difference-most v black h k = omega (arith, natAbs-sub (pos (256 * v)) black)
 
-pub difference-is : (v : ℕ) (black : ℤ) (b : Float) → v ≤ 65535 → BlackIs black b → DifferenceIs (differenceOf v black) (sub binary64 (ofInt binary64 (pos (256 * v))) b)
+pub difference-is : (v : ℕ) (black : ℤ) (b : Float) → v ≤ 65535 → BlackIs black b
+    → DifferenceIs (differenceOf v black) (sub binary64 (ofInt binary64 (pos (256 * v))) b)
 difference-is v black b h p =
     record {
       small = difference-most v black h (p .small);

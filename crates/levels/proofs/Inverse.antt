@@ -5,7 +5,8 @@ use mathlib.Core.Path.{_≡_, refl, sym, ap, _∙_, subst}
 use mathlib.Core.Logic.{⊎-elim}
 use mathlib.Core.Bool.{false}
 use Prim.Native.Nat.{ℕ, _+_, _-_, _*_, _/_, _^_, _≤_, _<_, min}
-use native.Mathlib.Nat.{le-trans, le-of-eq, le-of-lt, lt-of-le-of-lt, mul-comm, mul-assoc, mul-left-comm, mul-one, zero-mul, add-mul, mul-le-mul-left, mul-le-mul-right}
+use native.Mathlib.Nat.{le-trans, le-of-eq, le-of-lt, lt-of-le-of-lt, mul-comm, mul-assoc, mul-left-comm, mul-one, zero-mul, add-mul, mul-le-mul-left}
+use native.Mathlib.Nat.{mul-le-mul-right}
 use native.Mathlib.Nat.{le-of-mul-le-mul-right, mul-pos, zero-lt-suc, div-mul-le-self, lt-div-mul-add, div-lt-iff-lt-mul, le-div-iff-mul-le}
 use native.Mathlib.Omega.{arith}
 use borrow.Author.Tests.{lt-ltb, le-ltb}
@@ -23,7 +24,8 @@ use Rattle.reading.proofs.Wholes.{le-or-lt, int-value}
 use Rattle.levels.specs.Level.{roundedOf, most}
 use Rattle.levels.specs.Reciprocal.{tiny, big, wholeOf, cappedOf, inverseOf}
 use Rattle.levels.proofs.Nearness.{Close, closest-is, round-close, whole-of}
-use Rattle.levels.proofs.Values.{mul-values, add-values, sub-down, div-values, lt-fractions, le-values, Shape, round-shape, Between, round-between, exact-fine}
+use Rattle.levels.proofs.Values.{mul-values, add-values, sub-down, div-values, lt-fractions, le-values, Shape, round-shape, Between}
+use Rattle.levels.proofs.Values.{round-between, exact-fine}
 
 -- ---- a bound on G S carries over to D G, for the reciprocal G / P of S
 scale-up : (D G S P A B C F H : ℕ) → 0 < S → 0 < B → B * (G * S) ≤ C * (A * P) → F * (C * (A * D)) ≤ H * S * B → D * G * F ≤ H * P
@@ -51,7 +53,8 @@ lowEnd L = 1073741824 * L - 536870913
 abbrev highEnd : ℕ → ℕ
 highEnd L = 1073741824 * L + 536870908
 
-high-room : (D S X H : ℕ) → 0 < S → S < 67108864 → X ≤ 65535 * S → 2 * (65535 * D) + 1 ≤ 2 * X + S → H ≡ 1073741824 * X + 536870908 * S → 1073741824 * (9007199254740993 * (65535 * D)) ≤ H * 9007199254740992
+high-room : (D S X H : ℕ) → 0 < S → S < 67108864 → X ≤ 65535 * S → 2 * (65535 * D) + 1 ≤ 2 * X + S → H ≡ 1073741824 * X + 536870908 * S
+    → 1073741824 * (9007199254740993 * (65535 * D)) ≤ H * 9007199254740992
 high-room D S X H s l x h e = omega arith
 
 low-first : (a S X H : ℕ) → 2 * X ≤ 2 * a + S → H + 536870913 * S ≤ 1073741824 * X → H + S ≤ 1073741824 * a
@@ -60,15 +63,19 @@ low-first a S X H h e = omega arith
 low-then : (M S H : ℕ) → H + S ≤ M → M ≤ 1073741824 * (65535 * S) → H * 9007199254740992 ≤ 9007199254740991 * M
 low-then M S H h e = omega arith
 
-low-room : (D S X H : ℕ) → D ≤ S → 2 * X ≤ 2 * (65535 * D) + S → H + 536870913 * S ≤ 1073741824 * X → H * 9007199254740992 ≤ 1073741824 * (9007199254740991 * (65535 * D))
+low-room : (D S X H : ℕ) → D ≤ S → 2 * X ≤ 2 * (65535 * D) + S → H + 536870913 * S ≤ 1073741824 * X
+    → H * 9007199254740992 ≤ 1073741824 * (9007199254740991 * (65535 * D))
 low-room D S X H x h e =
-    le-trans (low-then (1073741824 * (65535 * D)) S H (low-first (65535 * D) S X H h e) (omega arith)) (le-of-eq (mul-left-comm 9007199254740991 1073741824 (65535 * D)))
+    le-trans (low-then (1073741824 * (65535 * D)) S H (low-first (65535 * D) S X H h e) (omega arith))
+    (le-of-eq (mul-left-comm 9007199254740991 1073741824 (65535 * D)))
 
-module _ (P G S D L : ℕ) (some : 0 < S) (small : S < 67108864) (inside : D ≤ S) (near : Close (65535 * P) (G * S)) (least : L ≤ 65535) (above : 2 * (L * S) ≤ 2 * (65535 * D) + S) (under : 2 * (65535 * D) + 1 ≤ 2 * (L * S) + S) where
+module _ (P G S D L : ℕ) (some : 0 < S) (small : S < 67108864) (inside : D ≤ S) (near : Close (65535 * P) (G * S)) (least : L ≤ 65535)
+    (above : 2 * (L * S) ≤ 2 * (65535 * D) + S) (under : 2 * (65535 * D) + 1 ≤ 2 * (L * S) + S) where
   product-under : D * G * 1073741824 ≤ highEnd L * P
   product-under =
       scale-up D G S P 65535 9007199254740992 9007199254740993 1073741824 (highEnd L) some (zero-lt-suc _) (near .0)
-      (high-room D S (L * S) (highEnd L * S) some small (mul-le-mul-right S least) under (add-mul (1073741824 * L) 536870908 S ∙ ap (λ (z : ℕ). z + 536870908 * S) (mul-assoc 1073741824 L S)))
+      (high-room D S (L * S) (highEnd L * S) some small (mul-le-mul-right S least) under
+      (add-mul (1073741824 * L) 536870908 S ∙ ap (λ (z : ℕ). z + 536870908 * S) (mul-assoc 1073741824 L S)))
 
   product-above : lowEnd L * P ≤ D * G * 1073741824
   product-above =
@@ -129,8 +136,10 @@ module _ (L : ℕ) (least : L ≤ 65535) where
 
   plus-tiny : (y : Float) → Between y (lowEnd L) (highEnd L) (2 ^ 30) → Between (add binary64 y tiny) (lowEnd L + 2) (highEnd L + 2) (2 ^ 30)
   plus-tiny y w =
-      subst (λ (x : Float). Between x (lowEnd L + 2) (highEnd L + 2) (2 ^ 30)) (sym (add-values y tiny (w .top) (w .bottom) 1 536870912 (w .some) (zero-lt-suc _) (w .value) tiny-value))
-      (round-between (w .top * 536870912 + 1 * w .bottom) (w .bottom * 536870912) (lowEnd L + 2) (highEnd L + 2) (2 ^ 30) (mul-pos (w .some) (zero-lt-suc _)) (zero-lt-suc _)
+      subst (λ (x : Float). Between x (lowEnd L + 2) (highEnd L + 2) (2 ^ 30))
+      (sym (add-values y tiny (w .top) (w .bottom) 1 536870912 (w .some) (zero-lt-suc _) (w .value) tiny-value))
+      (round-between (w .top * 536870912 + 1 * w .bottom) (w .bottom * 536870912) (lowEnd L + 2) (highEnd L + 2) (2 ^ 30)
+      (mul-pos (w .some) (zero-lt-suc _)) (zero-lt-suc _)
       (exact-fine (lowEnd L + 2) (ends-fit (lowEnd L + 2) (omega arith))) (exact-fine (highEnd L + 2) (ends-fit (highEnd L + 2) (omega arith)))
       (tiny-above (lowEnd L) (w .top) (w .bottom) (w .above)) (tiny-under (highEnd L) (w .top) (w .bottom) (w .under)))
 
@@ -146,7 +155,8 @@ module _ (L : ℕ) (least : L ≤ 65535) where
   abbrev sumTop : ℕ → ℕ → ℕ
   sumTop t b = t * 1 + 4503599627370496 * b
 
-  module _ (t b X : ℕ) (some : 0 < b) (x : X ≤ 65535 * b) (above : 1073741824 * X + b ≤ t * 1073741824 + 536870912 * b) (under : t * 1073741824 ≤ 1073741824 * X + 536870910 * b) where
+  module _ (t b X : ℕ) (some : 0 < b) (x : X ≤ 65535 * b) (above : 1073741824 * X + b ≤ t * 1073741824 + 536870912 * b)
+      (under : t * 1073741824 ≤ 1073741824 * X + 536870910 * b) where
     near-low : 2 * (4503599627370496 * b + X) < 2 * sumTop t b + b
     near-low = omega arith
 
@@ -172,13 +182,15 @@ module _ (L : ℕ) (least : L ≤ 65535) where
       (subst (λ (k : ℕ). 2 * k < 2 * sumTop t b + b) (sym (add-mul 4503599627370496 L b)) (near-low t b (L * b) some x above under))
       (subst (λ (k : ℕ). 2 * sumTop t b < 2 * k + b) (sym (add-mul 4503599627370496 L b)) (near-high t b (L * b) some x above under)) in
       subst (λ (v : Float). HasValue v false (4503599627370496 + L) 1)
-      (sym (add-values z big t b 4503599627370496 1 some (zero-lt-suc 0) (w .value) big-value ∙ ap (λ (k : ℕ). round binary64 false (sumTop t b) k) (mul-one b)))
+      (sym (add-values z big t b 4503599627370496 1 some (zero-lt-suc 0) (w .value) big-value
+      ∙ ap (λ (k : ℕ). round binary64 false (sumTop t b) k) (mul-one b)))
       (whole-of (sumTop t b) b (4503599627370496 + L) some (omega arith) (in-reach t b (L * b) some x above under) c (omega arith))
 
   whole-is : (y : Float) → Between y (lowEnd L) (highEnd L) (2 ^ 30) → wholeOf y ≡ ofInt binary64 (pos L)
   unfolding ofInt
   whole-is y w =
-      sub-down (add binary64 (add binary64 y tiny) big) big (4503599627370496 + L) 4503599627370496 (plus-big (add binary64 y tiny) (plus-tiny y w)) big-value (omega arith)
+      sub-down (add binary64 (add binary64 y tiny) big) big (4503599627370496 + L) 4503599627370496
+      (plus-big (add binary64 y tiny) (plus-tiny y w)) big-value (omega arith)
       ∙ ap (λ (k : ℕ). round binary64 false k 1) (back L)
     where
       back : (k : ℕ) → 4503599627370496 + k - 4503599627370496 ≡ k
@@ -263,7 +275,8 @@ capped-between x L least w =
     (le-or-lt (65535 * b) t)
 
 -- a number that is not below 65535.0 by more than the product's error
-capped-over : (x : Float) → Shape false x → T (le (round binary64 false (lowEnd 65535) (2 ^ 30)) x) → Between (cappedOf x) (lowEnd 65535) (highEnd 65535) (2 ^ 30)
+capped-over : (x : Float) → Shape false x → T (le (round binary64 false (lowEnd 65535) (2 ^ 30)) x)
+    → Between (cappedOf x) (lowEnd 65535) (highEnd 65535) (2 ^ 30)
 capped-over x shape low =
     let over : cappedOf x ≡ most → Between (cappedOf x) (lowEnd 65535) (highEnd 65535) (2 ^ 30) =
     λ e. subst (λ (y : Float). Between y (lowEnd 65535) (highEnd 65535) (2 ^ 30)) (sym e) (most-between 65535 (omega arith) (omega arith)) in
@@ -308,7 +321,8 @@ module _ (S D : ℕ) (some : 0 < S) (small : S < 67108864) where
       let full : lowEnd 65535 * 2 ^ 1074 ≤ S * G * 1073741824 =
       product-above (2 ^ 1074) G S S 65535 some small (omega arith) (reciprocal-close S some small) (omega arith) (omega arith) (omega arith) in
       let more : S * G * 1073741824 ≤ D * G * 1073741824 = mul-le-mul-right 1073741824 (mul-le-mul-right G over) in
-      let shape : Shape false (productOf S D) = subst (Shape false) (sym (product-is S D some small reach)) (round-shape binary64 false (D * G) (1 * 2 ^ 1074)) in
+      let shape : Shape false (productOf S D) = subst (Shape false) (sym (product-is S D some small reach))
+      (round-shape binary64 false (D * G) (1 * 2 ^ 1074)) in
       whole-is 65535 (omega arith) (cappedOf (productOf S D))
       (capped-over (productOf S D) shape (product-above-low S D some small reach 65535 (omega arith) (le-trans full more)))
 
@@ -316,5 +330,6 @@ module _ (S D : ℕ) (some : 0 < S) (small : S < 67108864) where
   level-by-reciprocal reach =
       ⊎-elim (λ l. let e : min D S ≡ D = omega arith in level-inside l ∙ ap (λ (m : ℕ). ofInt binary64 (pos (roundedOf (65535 * m) S))) (sym e))
       (λ l. let e : min D S ≡ S = omega arith in
-      level-over (le-of-lt l) reach ∙ ap (λ (n : ℕ). ofInt binary64 (pos n)) (sym (rounded-full S some)) ∙ ap (λ (m : ℕ). ofInt binary64 (pos (roundedOf (65535 * m) S))) (sym e))
+      level-over (le-of-lt l) reach ∙ ap (λ (n : ℕ). ofInt binary64 (pos n)) (sym (rounded-full S some))
+      ∙ ap (λ (m : ℕ). ofInt binary64 (pos (roundedOf (65535 * m) S))) (sym e))
       (le-or-lt D S)

@@ -5,11 +5,12 @@ use mathlib.Core.Path.{_≡_, refl, sym, ap, _∙_, subst}
 use mathlib.Core.Logic.{_⊎_, inl, inr, ⊎-elim}
 use mathlib.Core.Bool.{Bool, true, false, not, _&&_, _||_, cond, Bool·beq, true≢false}
 use Prim.Native.Nat.{ℕ, zero, suc, _+_, _-_, _*_, _^_, _≤_, _<_}
-use native.Mathlib.Nat.{lt-of-lt-of-le, le-of-eq, le-of-lt, mul-comm, mul-assoc, mul-left-comm, mul-mul-mul-comm, add-mul, mul-sub, mul-one, mul-pos, zero-mul, zero-lt-suc}
+use native.Mathlib.Nat.{lt-of-lt-of-le, le-of-eq, le-of-lt, mul-comm, mul-assoc, mul-left-comm, mul-mul-mul-comm, add-mul, mul-sub, mul-one, mul-pos}
+use native.Mathlib.Nat.{zero-mul, zero-lt-suc}
 use native.Mathlib.Nat.{mul-le-mul-right, mul-lt-mul-of-pos-right}
 use native.Mathlib.Omega.{arith}
 use borrow.Author.Tests.{lt-ltb, le-ltb, ne-eqb}
-use lib.IntN.{ℤ, pos, negsuc, negℤ, natAbs, _+ℤ_, _-ℤ_}
+use lib.IntN.{ℤ, pos, negsuc, natAbs, _+ℤ_, _-ℤ_}
 use lib.Dec.{T, ltb, eqb, eqb→eq, ltb→lt}
 use lib.Pow.{pow-pos, pow-mono}
 use lib.Ieee.{Float, nan, inf, fin, Format, binary64, prec, emax, low, up, down, odd, units, round, neg, sum, add, mul, sub, div, lt, le, ofInt}
@@ -116,7 +117,8 @@ module _ (w : ℕ) (some : 0 < w) where
   sum-scale s t a b =
       let u = round-scale s (a * w + b * w) (a + b) (sym (add-mul a b w)) in
       let v = round-scale t (b * w - a * w) (b - a) (times-sub b a w) in
-      let x = ap (λ (z : Bool). round binary64 (s && z) (a * w - b * w) w) (ltb-scale b a) ∙ round-scale (s && ltb b a) (a * w - b * w) (a - b) (times-sub a b w) in
+      let x = ap (λ (z : Bool). round binary64 (s && z) (a * w - b * w) w) (ltb-scale b a)
+      ∙ round-scale (s && ltb b a) (a * w - b * w) (a - b) (times-sub a b w) in
       λ i. cond (Bool·beq s t) (u i) (cond (ltb-scale a b i) (v i) (x i))
 
 whole-cross : (x e g a : ℕ) → x * 1 ≡ a * e → x * g ≡ a * (e * g)

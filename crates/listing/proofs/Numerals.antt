@@ -11,7 +11,7 @@ use lib.Dec.{ltb}
 use lib.Ieee.{Float, binary64, toBits}
 use lib.ListN.{length, length-append}
 use borrow.Author.Tests.{lt-ltb, ne-eqb}
-use Rattle.opcodes.proofs.Pad.{le-or-lt}
+use Rattle.reading.proofs.Wholes.{le-or-lt}
 use Rattle.io.specs.Digits.{glyph, digits, Fewest}
 use Rattle.listing.specs.Text.{unpadded, decimalOf, valueText}
 

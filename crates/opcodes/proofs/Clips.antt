@@ -12,7 +12,7 @@ use lib.Ieee.{Float, nan, inf, fin, up, down, lt, le, eq}
 use lib.Ieee.Fits.{down-pos}
 use borrow.Author.Tests.{ltb-false, lt-ltb, le-ltb, eq-eqb, ne-eqb}
 use Rattle.levels.specs.Clip.{clipOf, plusZero, one}
-use Rattle.opcodes.proofs.Pad.{le-or-lt}
+use Rattle.reading.proofs.Wholes.{le-or-lt}
 
 -- q is at most p
 at-most : (p q : ℕ) → q ≤ p → (ltb q p || (eqb q p && true)) ≡ true

@@ -1,50 +1,24 @@
 -- Of a clipped x, `indexOf x` is the greatest whole number not above x * 65535.0 + 0.5, and at most 65535.
 -- Assumes nothing.
 use mathlib.Core.Path.{_≡_, refl, sym, ap, _∙_, subst}
-use mathlib.Core.Bool.{Bool, true, false, _&&_, _||_, cond}
-use mathlib.Core.Logic.{_⊎_, inl, inr, ⊎-elim}
-use Prim.Native.Nat.{ℕ, zero, suc, _+_, _-_, _*_, _/_, _^_, _≤_, _<_, min}
-use native.Mathlib.Nat.{mul-pos, zero-lt-suc, div-mul-le-self, lt-div-mul-add, div-lt-iff-lt-mul, le-of-lt, le-of-eq}
+use mathlib.Core.Bool.{Bool, true, false, _&&_, _||_}
+use mathlib.Core.Logic.{inl, inr}
+use Prim.Native.Nat.{ℕ, _+_, _-_, _*_, _/_, _≤_, _<_, min}
+use native.Mathlib.Nat.{mul-pos, zero-lt-suc, div-mul-le-self, lt-div-mul-add, div-lt-iff-lt-mul}
 use native.Mathlib.Omega.{arith}
 use lib.IntN.{ℤ, pos, negsuc}
-use lib.Dec.{T, ltb, eqb, ltb→lt, lt→ltb, eqb→eq}
-use lib.Ieee.{Float, nan, inf, fin, Format, binary64, prec, emax, low, up, down, odd, units, round, lt, le, eq, add, mul, toUnsigned}
-use lib.Ieee.Fits.{down-pos, and-l, and-r, round-is}
+use lib.Dec.{T, ltb, ltb→lt, lt→ltb}
+use lib.Ieee.{Float, nan, inf, fin, binary64, up, down, round, lt, le, eq, add, mul, toUnsigned}
+use lib.Ieee.Fits.{down-pos, and-l, and-r}
 use lib.Ieee.Order.{round-mono}
 use lib.Ieee.Positive.{positive, mul-mono, first-pos}
 use Rattle.levels.specs.Clip.{plusZero, one}
 use Rattle.levels.specs.Level.{most}
 use Rattle.opcodes.specs.Step.{indexOf, half}
 use Rattle.levels.proofs.Unit.{unit, clip-elim}
-
--- ---- the shape of what `round` gives
-abbrev pub Shape : Bool → Float → Type 0
-Shape s x = (x ≡ inf s) ⊎ ((m : ℕ) × (e : ℤ) × (x ≡ fin s m e))
-
-pub odd-shape : (d : ℕ) (s : Bool) (q k l : ℕ) → (m : ℕ) × (e : ℤ) × (odd d s q k l ≡ fin s m e)
-unfolding odd
-odd-shape d s zero k l = (_, _, refl)
-odd-shape d s (suc q) k l = (_, _, refl)
-
-units-shape : (f : Format) (s : Bool) (q k : ℕ) → Shape s (units f s q k)
-unfolding units
-units-shape f s q k = go (ltb (q * 2 ^ k) (2 ^ (low f + suc (emax f))))
-  where
-    go : (b : Bool) → Shape s (cond b (odd (suc (prec f)) s q k (low f)) (inf s))
-    go true = inr (odd-shape (suc (prec f)) s q k (low f))
-    go false = inl refl
-
-pub round-shape : (f : Format) (s : Bool) (a c : ℕ) → Shape s (round f s a c)
-round-shape f s a c = subst (Shape s) (sym (round-is f s a c)) (units-shape f s _ _)
+use Rattle.levels.proofs.Values.{Shape, round-shape, lt-or-eq}
 
 -- not above a finite number
-lt-or-eq : (a b : ℕ) → T (ltb a b || (eqb a b && true)) → a ≤ b
-lt-or-eq a b t = ⊎-elim (λ u. le-of-lt (ltb→lt a b u)) (λ u. le-of-eq (eqb→eq a b (and-l (eqb a b) true u))) (split (ltb a b) (eqb a b && true) t)
-  where
-    split : (p q : Bool) → T (p || q) → T p ⊎ T q
-    split true q t = inl tt
-    split false q t = inr t
-
 cross : (m : ℕ) (e : ℤ) (n : ℕ) (d : ℤ) → T (le (fin false m e) (fin false n d)) → m * up e * down d ≤ n * up d * down e
 unfolding le
 cross m e n d l = lt-or-eq (m * up e * down d) (n * up d * down e) l

@@ -2,18 +2,19 @@
 -- Assumes nothing.
 use mathlib.Core.Path.{_≡_, refl, sym, ap, _∙_, subst}
 use mathlib.Core.Bool.{Bool, true, false, not, _&&_, cond}
-use mathlib.Core.Logic.{_⊎_, inl, inr, ⊎-elim}
+use mathlib.Core.Logic.{_⊎_, ⊎-elim}
 use mathlib.Core.List.{List, [], _∷_, _++_}
 use Prim.Native.Nat.{ℕ, zero, suc, _+_, _-_, _*_, _%_, _^_, _≤_, _<_, compare, Ordering·lt, compare·zero-suc}
 use native.Mathlib.Nat.{zero-mul, mul-one, one-mul, zero-div, zero-mod, lt-irrefl, mul-pos, zero-add, sub-zero, zero-lt-suc, pow-suc, pow-succ', mul-left-comm, mul-assoc, eq-of-mul-eq-mul-right, not-le-of-lt, lt-of-lt-of-le, mul-lt-mul-of-pos-right, sub-add-cancel}
 use native.Mathlib.Omega.{arith}
 use lib.IntN.{ℤ, pos, negsuc}
-use lib.Dec.{T, ltb, leb, eqb, ltb→lt, lt→ltb, leb→le, nleb→lt, eqb→eq}
+use lib.Dec.{T, ltb, leb, eqb, ltb→lt, lt→ltb, leb→le, eqb→eq}
 use lib.Pow.{pow-pos, pow-add, pow-lt, pow-mono, shl-lt}
 use lib.Ieee.{Float, nan, inf, fin, binary64, up, down, size, units, round, sum, add, mul, fits}
 use lib.Ieee.Fits.{up-pos, down-pos, round-fits, and-l, and-r}
 use lib.Ieee.Exact.{HasValue, round-exact}
 use lib.ListN.{length, getD, replicate}
+use Rattle.reading.proofs.Wholes.{le-or-lt}
 use Rattle.levels.specs.Clip.{clipOf}
 use Rattle.opcodes.specs.Step.{hornerOf, minusZero, appliedOf, resultOf, polynomialOf}
 use Rattle.levels.proofs.Unit.{unit, unit-plain}
@@ -105,13 +106,6 @@ same-value (fin t (suc n) g) s m e p q h =
     (λ i. fin ((h .0) i) (suc n) g) ∙ same-number s n g m e (is-odd t n g p) (is-odd s m e q) (h .1)
 
 -- ---- what fits is rounded to itself
-pub le-or-lt : (a b : ℕ) → (a ≤ b) ⊎ (b < a)
-le-or-lt a b = go (leb a b) (leb→le a b) (nleb→lt a b)
-  where
-    go : (t : Bool) → (T t → a ≤ b) → (T (not t) → b < a) → (a ≤ b) ⊎ (b < a)
-    go true h k = inl (h tt)
-    go false h k = inr (k tt)
-
 spare : (j : ℕ) → 2 ^ j ≤ 2 ^ 1074 → j ≤ 1074
 spare j h = ⊎-elim (λ l. l) (λ l. absurd (not-le-of-lt (pow-lt l) h)) (le-or-lt j 1074)
 

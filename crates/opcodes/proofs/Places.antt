@@ -8,33 +8,31 @@ use native.Mathlib.Nat.{div-lt-iff-lt-mul, lt-of-mul-lt-mul-right, mul-le-mul, l
 use native.Mathlib.Omega.{arith}
 use borrow.Author.Tests.{lt-ltb, le-ltb, ltb-true, ltb-false, eqb-false, ne-eqb, eq-eqb}
 use lib.IntN.{ℤ, pos}
-use lib.Dec.{T, leb, ltb, eqb, ltb→lt, lt→ltb, le→leb}
+use lib.Dec.{T, leb, ltb, eqb, ltb→lt, lt→ltb}
 use lib.Ieee.{Float, nan, inf, fin, Format, binary64, prec, low, up, down, hid, ones, top, odd, round, unlike, lt, le}
-use lib.Ieee.{neg, sum, add, sub, div, toUnsigned, ofInt, ofFields, ofBits, isNan, inFloat}
+use lib.Ieee.{neg, sum, add, sub, div, toUnsigned, ofFields, ofBits, isNan, inFloat}
 use lib.Ieee.Fits.{down-pos}
 use lib.Ieee.Exact.{HasValue}
-use lib.Ieee.Back.{round-whole}
 use lib.Ieee.Scale.{finite}
 use lib.Ieee.Positive.{positive, positive-of-value, first-pos}
 use Rattle.reading.specs.Real.{refusedPattern, realOf}
 use Rattle.reading.specs.declared.real.Real.{Real}
 use Rattle.reading.proofs.Pattern.{is-refused, is-value}
+use Rattle.reading.proofs.Wholes.{in-float, int-value}
 use Rattle.levels.specs.Clip.{plusZero}
 use Rattle.opcodes.specs.Step.{half, valueOf}
 use Rattle.opcodes.specs.OpcodeList.{refusedReal}
 use Rattle.opcodes.specs.GainMap.{floatOf, placeOf, wholeOf}
 use Rattle.opcodes.specs.Bracket.{Axis-in}
 use Rattle.opcodes.specs.declared.gain_map.Axis.{Axis}
-use Rattle.opcodes.proofs.Floor.{odd-shape, round-shape}
+use Rattle.levels.proofs.Values.{odd-shape, round-shape}
 
 -- ---- a whole number as f64
 pub float-exact : (n : ℕ) → n ≤ 65536 → T (inFloat binary64 (pos n))
-unfolding inFloat
-float-exact n h = le→leb n (2 ^ 53) (omega arith)
+float-exact n h = in-float (pos n) (omega arith)
 
 float-value : (n : ℕ) → n ≤ 65536 → HasValue (floatOf n) false n 1
-unfolding ofInt
-float-value n h = round-whole binary64 false n (omega arith)
+float-value n h = int-value (pos n) (omega arith)
 
 -- ---- the number of an accepted pattern is finite
 odd-finite : (d : ℕ) (s : Bool) (q k l : ℕ) → T (finite (odd d s q k l))

@@ -4,7 +4,8 @@ use mathlib.Core.Path.{_≡_, refl, sym, ap, _∙_}
 use mathlib.Core.Logic.{⊎-elim}
 use mathlib.Core.List.{List}
 use Prim.Native.Nat.{ℕ, _+_, _-_, _*_, _/_, _%_, _≤_, _<_}
-use native.Mathlib.Nat.{add-assoc, mul-assoc, mul-comm, mul-div-cancel, mod-lt, div-add-mod', add-mul, mul-le-mul-right, add-mul-mod-self-right, add-mul-div-right}
+use native.Mathlib.Nat.{add-assoc, mul-assoc, mul-comm, mul-div-cancel, mod-lt, div-add-mod', add-mul, mul-le-mul-right, add-mul-mod-self-right}
+use native.Mathlib.Nat.{add-mul-div-right}
 use native.Mathlib.Omega.{arith}
 use lib.IntN.{ℤ, pos, natAbs}
 use lib.Ieee.{Float, nan, binary64, ofInt}
@@ -129,7 +130,12 @@ module _ (v : Levels) (n l len : ℕ) (some : 1 ≤ n) (along : List Float) (w :
 
     pub inverses-length : length inverses ≡ q
     inverses-length =
-        omega (arith, length-take (v .repeat-rows * q + q - v .repeat-rows * q) (drop (v .repeat-rows * q) along), length-drop (v .repeat-rows * q) along, inverses-end)
+        omega (
+          arith,
+          length-take (v .repeat-rows * q + q - v .repeat-rows * q) (drop (v .repeat-rows * q) along),
+          length-drop (v .repeat-rows * q) along,
+          inverses-end,
+        )
 
     pub repeating : Repeating (cellAlong v n r l) (spanAlong v n) (length cells) len
     repeating =
@@ -157,7 +163,8 @@ pub along-filled :
     → ((k : ℕ) → k < q → getD new (R * q + k) nan ≡ inverseOf (spanAlong v n k))
     → (q < len → q % (C * n) ≡ 0) → Along-in v n l len new
 along-filled v n l len q R C new er ec size some few cells inverses again =
-    let p : pieceOf v new ≡ q = ap (λ (m : ℕ). length new / (m + 1)) er ∙ ap (λ (m : ℕ). m / (R + 1)) (size ∙ mul-comm (R + 1) q) ∙ mul-div-cancel q (omega arith) in
+    let p : pieceOf v new ≡ q = ap (λ (m : ℕ). length new / (m + 1)) er ∙ ap (λ (m : ℕ). m / (R + 1)) (size ∙ mul-comm (R + 1) q)
+    ∙ mul-div-cancel q (omega arith) in
     record {
       size = rw (p, er) size;
       some = rw p some;

@@ -2,15 +2,14 @@
 ghost use mathlib.Core.Path.{_≡_};
 ghost use Prim.Native.Nat.{ℕ, _+_, _*_, _/_, _%_, _≤_, _<_};
 ghost use lib.Ieee.{Float, nan, binary64, ofInt};
-ghost use lib.IntN.{pos};
 ghost use lib.ListN.{length, getD};
 ghost use Rattle.levels.specs.Black.{Small};
 ghost use Rattle.levels.specs.Reciprocal.{inverseOf};
 ghost use Rattle.raw.specs.Front.{Raw-in};
-ghost use Rattle.raw.specs.Raw.{Tags-in, activeColumns};
+ghost use Rattle.raw.specs.Raw.{Tags-in};
 ghost use Rattle.raw.specs.Stored.{levelsReading};
 ghost use Rattle.reading.specs.Reading.{run};
-ghost use Rattle.rows.specs.Along.{cellAlong, spanAlong, deltaAlong, Along-in, Deltas-in};
+ghost use Rattle.rows.specs.Along.{cellAlong, spanAlong, Along-in, Deltas-in};
 ghost use Rattle.rows.specs.Line.{Filled, Wide-in};
 use levels::reciprocal;
 use raw::Tags;

@@ -1,9 +1,9 @@
 use mathlib.Core.Path.{_≡_, sym, ap, _∙_, subst}
-use Prim.Native.Nat.{ℕ, _≤_}
+use Prim.Native.Nat.{_≤_}
 use native.Mathlib.Omega.{arith}
 use borrow.Author.Needs.{needs}
 use lib.Dec.{T}
-use lib.IntN.{pos, natAbs}
+use lib.IntN.{pos}
 use lib.Ieee.{Float, binary64, ofInt, inUnsigned, toUnsigned}
 use lib.Ieee.Back.{unsigned-back}
 use mir.Facts.{toZ-ofZ}

@@ -1,5 +1,4 @@
-use mathlib.Core.Path.{_≡_, ap, _∙_}
-use Prim.Native.Nat.{ℕ}
+use mathlib.Core.Path.{_≡_, ap}
 use native.Mathlib.Omega.{arith}
 use borrow.Author.Needs.{needs}
 use denote.Ref.{now}
@@ -16,8 +15,10 @@ developed-row-requires c κs =
     let f = now (s .args .file) in
     let q = s .pre .0 .0 in
     let r : v .size .rows ≡ activeRows (v .picture .raw .tags .area) = ap (λ (z : Size). z .rows) (q .size) in
-    let l : v .size .columns ≡ activeColumns (v .picture .raw .tags .area) = ap (λ (z : Size). z .columns) (q .size) in
-    ((q .picture-in .raw, omega (arith, s .pre .0 .1), omega (arith, s .pre .0 .2)), ((s .pre .0 .3, s .pre .1 .0, s .pre .1 .1), (viewed-list f v q, viewed-sized f v q, samples-is f v q)))
+    let l : v .size .columns ≡ activeColumns (v .picture .raw .tags .area) = ap (λ (z : Size). z .columns) (q .size) in (
+      (q .picture-in .raw, omega (arith, s .pre .0 .1), omega (arith, s .pre .0 .2)),
+      ((s .pre .0 .3, s .pre .1 .0, s .pre .1 .1), (viewed-list f v q, viewed-sized f v q, samples-is f v q)),
+    )
 
 same-length : tie.Need-same-length
 same-length c = search needs

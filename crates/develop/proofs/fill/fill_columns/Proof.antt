@@ -49,7 +49,8 @@ rows s i h =
     omega (arith, add-mul i 1 (row s), s .pre .0 .0 .length-is)
 
 -- a part of it has so many numbers
-piece : (s : tie.Start Inv-loop μ-loop) (a : ℕ) (xs : List Float) → let n = s .args .count * samples s in a + n ≤ length xs → length (take (a + n - a) (drop a xs)) ≡ n
+piece : (s : tie.Start Inv-loop μ-loop) (a : ℕ) (xs : List Float) → let n = s .args .count * samples s in a + n ≤ length xs
+    → length (take (a + n - a) (drop a xs)) ≡ n
 piece s a xs h =
     let n = s .args .count * samples s in
     let d : a + n - a ≡ n = omega arith in
@@ -135,8 +136,10 @@ developed-part-requires c κs =
         viewed-wide f v (w .file) (s .args .window .left + s .args .from) (s .args .count) (omega (arith, w .columns, s .pre .0 .2)) _ k,
       ),
       (
-        subst (λ (z : ℕ). Along-in levels (v .picture .raw .tags .frame .samples) (s .args .window .left + s .args .from) z (now (s .args .along))) (sym k) (s .pre .1 .0),
-        subst (λ (z : ℕ). Deltas-in levels (v .picture .raw .tags .frame .samples) (s .args .window .left + s .args .from) z (now (s .args .deltas))) (sym k) (s .pre .1 .1),
+        subst (λ (z : ℕ). Along-in levels (v .picture .raw .tags .frame .samples) (s .args .window .left + s .args .from) z (now (s .args .along)))
+            (sym k) (s .pre .1 .0),
+        subst (λ (z : ℕ). Deltas-in levels (v .picture .raw .tags .frame .samples) (s .args .window .left + s .args .from) z (now (s .args .deltas)))
+            (sym k) (s .pre .1 .1),
       ),
     )
 
@@ -169,7 +172,8 @@ loop-again c =
       omega (arith, t),
       omega (arith, add-mul (l .i) 1 (row s), l .inv .2),
       λ q u.
-          partly-next (value f v q (s .args .window .top) (s .args .window .left)) (s .args .window .height) (row s) (s .args .from * samples s) n (l .i) (l .a) (l .out)
+          partly-next (value f v q (s .args .window .top) (s .args .window .left)) (s .args .window .height) (row s) (s .args .from * samples s) n
+          (l .i) (l .a) (l .out)
           (c .before .before .developed-part .last .1 .1 .1 .1 .1 .1 .0) t fits
           (l .inv .2) (l .inv .0 ∙ s .pre .0 .0 .length-is) (search needs) (l .inv .3 q u)
           (λ k b. c .before .before .developed-part .ensures q k (omega (arith, z))

@@ -1,11 +1,11 @@
-use mathlib.Core.Path.{_≡_, sym, ap, _∙_}
+use mathlib.Core.Path.{_≡_}
 use Prim.Native.Nat.{ℕ, _+_, _-_, _*_, _≤_}
 use native.Mathlib.Nat.{mul-le-mul, mul-pos}
 use native.Mathlib.Omega.{arith}
 use borrow.Author.Needs.{needs}
 use denote.Ref.{now}
 use lib.ListN.{length}
-use Rattle.develop.proofs.Windows.{samples-is, viewed-sized, viewed-plain, copies-length, array-length, along-part}
+use Rattle.develop.proofs.Windows.{viewed-sized, viewed-plain, copies-length, array-length, along-part}
 use Rattle.develop.proofs.fill.fill_part.Statement.{statement}
 use Rattle.develop.proofs.fill.fill_part.Tie as tie
 
@@ -26,7 +26,8 @@ numbers s =
 
 -- the room was given back with as many numbers
 lent : (k : tie.After-space2) → let v = k .before .before .before .before .before .before .before .before .before .before .before .before .args .view in
-    length (k .before .fill-along .last .1 .1 .1 .1 .1 .0) ≡ (v .picture .raw .tags .levels .repeat .rows + 1) * k .before .before .before .before .piece .result
+    length (k .before .fill-along .last .1 .1 .1 .1 .1 .0) ≡
+    (v .picture .raw .tags .levels .repeat .rows + 1) * k .before .before .before .before .piece .result
 lent k = search needs
 
 some : (n : ℕ) → (n ≡ 0 → ⊥) → 1 ≤ n
@@ -46,7 +47,8 @@ piece-requires c κs =
     ((numbers s .0, r .some-rows, r .rows, r .some-columns, r .columns), (t .frame .some-samples, t .frame .samples))
 
 add-e : tie.Need-add-e
-add-e c = let s = c .before .before .before .before .before .before .before .before .before in omega (arith, s .pre .0 .0 .file .picture-in .raw .tags .levels .repeat .rows)
+add-e c = let s = c .before .before .before .before .before .before .before .before .before in omega
+    (arith, s .pre .0 .0 .file .picture-in .raw .tags .levels .repeat .rows)
 
 mul-e : tie.Need-mul-e
 mul-e c = omega (arith, c .before .piece .ensures .2)
@@ -94,7 +96,8 @@ fill-columns-requires c κs =
     let y = a .ensures (s .args .count * s .args .view .size .samples) (p .ensures .3) in (
       (s .pre .0 .0, s .pre .0 .1, s .pre .0 .2),
       (
-        along-part _ _ _ _ ((s .args .view .picture .raw .tags .levels .repeat .rows + 1) * p .result) (a .last .1 .1 .1 .1 .1 .0) _ (lent (c .before .before .before .before .before .before .before)) y,
+        along-part _ _ _ _ ((s .args .view .picture .raw .tags .levels .repeat .rows + 1) * p .result) (a .last .1 .1 .1 .1 .1 .0) _
+            (lent (c .before .before .before .before .before .before .before)) y,
         viewed-plain (now (s .args .file)) (s .args .view) (s .pre .0 .0 .file) (c .before .before .before .before .before .if1 .taken) _ _,
       ),
     )
@@ -117,7 +120,8 @@ fill-with-deltas-requires c κs =
     let a = c .before .before .before .before .before .before .fill-along in
     let y = a .ensures (s .args .count * s .args .view .size .samples) (p .ensures .3) in (
       (s .pre .0 .0, s .pre .0 .1, s .pre .0 .2, s .pre .1 (some _ (c .before .before .before .if1 .left))),
-      along-part _ _ _ _ ((s .args .view .picture .raw .tags .levels .repeat .rows + 1) * p .result) (a .last .1 .1 .1 .1 .1 .0) _ (lent (c .before .before .before .before .before)) y,
+      along-part _ _ _ _ ((s .args .view .picture .raw .tags .levels .repeat .rows + 1) * p .result) (a .last .1 .1 .1 .1 .1 .0) _
+          (lent (c .before .before .before .before .before)) y,
     )
 
 same-length : tie.Need-same-length

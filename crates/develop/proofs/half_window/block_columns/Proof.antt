@@ -1,4 +1,4 @@
-use mathlib.Core.Path.{_≡_, refl, sym, ap, _∙_, subst}
+use mathlib.Core.Path.{_≡_, refl, sym, ap, _∙_}
 use mathlib.Core.List.{List}
 use Prim.Native.Nat.{ℕ, _+_, _-_, _*_, _/_, _%_, _≤_, _<_}
 use native.Mathlib.Nat.{one-mul, add-mul, mul-le-mul-right}
@@ -24,7 +24,8 @@ value f v m q top left r k = blockIn m (aloneIn f (q .file)) (top + r) (left + k
 abbrev Inv-loop : tie.InvT-loop
 Inv-loop file view half along deltas out₀ pair₀ top left height from count m n i₀ a₀ out pair i a =
     (length out ≡ length out₀) × (length pair ≡ 2048) × (i ≤ height) × (a ≡ i * m + from * 3)
-    × ((q : Viewed file view) → Upto (value file view half q top left) height m (from * 3) out₀ → Partly (value file view half q top left) height m (from * 3) n i out)
+    × ((q : Viewed file view) → Upto (value file view half q top left) height m (from * 3) out₀
+    → Partly (value file view half q top left) height m (from * 3) n i out)
 
 abbrev μ-loop : tie.MeasureT-loop
 μ-loop file view half along deltas out₀ pair₀ top left height from count m n i₀ a₀ out pair i a = height - i
@@ -39,7 +40,8 @@ rows s i h =
     omega (arith, add-mul i 1 (row s), s .pre .0 .0 .length-is)
 
 -- a part of it has so many numbers
-piece : (s : tie.Start Inv-loop μ-loop) (a : ℕ) (xs : List Float) → let n = s .args .part .count * 3 in a + n ≤ length xs → length (take (a + n - a) (drop a xs)) ≡ n
+piece : (s : tie.Start Inv-loop μ-loop) (a : ℕ) (xs : List Float) → let n = s .args .part .count * 3 in a + n ≤ length xs
+    → length (take (a + n - a) (drop a xs)) ≡ n
 piece s a xs h =
     let n = s .args .part .count * 3 in
     let d : a + n - a ≡ n = omega arith in
@@ -80,10 +82,12 @@ add-e c =
     omega (arith, rows s (l .i) (c .loop-test .taken), s .pre .0 .2 .inside, l .inv .3, l .inv .0, s .good .1 .1 .1 .1 .1 .1 .1 .0 .1)
 
 add-block-part : tie.Need-add-block-part Inv-loop μ-loop
-add-block-part c = let s = c .before .before .before .before .before .before in omega (arith, inside s .0, inside s .1, s .pre .0 .2 .inside, c .loop-test .taken)
+add-block-part c = let s = c .before .before .before .before .before .before in omega
+    (arith, inside s .0, inside s .1, s .pre .0 .2 .inside, c .loop-test .taken)
 
 add-block-part-2 : tie.Need-add-block-part-2 Inv-loop μ-loop
-add-block-part-2 c = let s = c .before .before .before .before .before .before in omega (arith, inside s .0, inside s .1, s .pre .0 .2 .inside, c .loop-test .taken)
+add-block-part-2 c = let s = c .before .before .before .before .before .before in omega
+    (arith, inside s .0, inside s .1, s .pre .0 .2 .inside, c .loop-test .taken)
 
 slice-aggregate-block-part : tie.Need-slice-aggregate-block-part Inv-loop μ-loop
 slice-aggregate-block-part c = search needs
@@ -116,7 +120,14 @@ block-part-requires c κs =
     let n = s .args .part .count * 3 in
     let k = piece s (l .a) (l .out) (omega (arith, rows s (l .i) t, p .inside, l .inv .3, l .inv .0)) in (
       (
-        record { file = w .file; mosaic = w .mosaic; rows = omega (arith, w .rows, t); columns = omega (arith, w .columns, p .inside); length-is = k ∙ sym (one-mul n) },
+        record {
+          file = w .file;
+          mosaic = w .mosaic;
+          rows = omega (arith, w .rows, t);
+          columns = omega (arith, w .columns, p .inside);
+          length-is = k
+              ∙ sym (one-mul n);
+        },
         s .pre .0 .1,
         refl,
       ),
@@ -127,10 +138,18 @@ add-a : tie.Need-add-a Inv-loop μ-loop
 add-a c =
     let s = c .before .before .before .before .before .before .before .before .before .before .before .before in
     let l = c .before .before .before .before .before .before .before .loop in
-    omega (arith, rows s (l .i) (c .before .before .before .before .before .before .loop-test .taken), inside s .0, s .pre .0 .2 .inside, l .inv .3, s .good .1 .1 .1 .1 .1 .1 .1 .0 .1)
+    omega (
+      arith,
+      rows s (l .i) (c .before .before .before .before .before .before .loop-test .taken),
+      inside s .0,
+      s .pre .0 .2 .inside,
+      l .inv .3,
+      s .good .1 .1 .1 .1 .1 .1 .1 .0 .1,
+    )
 
 add-i : tie.Need-add-i Inv-loop μ-loop
-add-i c = let s = c .before .before .before .before .before .before .before .before .before .before .before .before in omega (arith, inside s .0, inside s .1, s .pre .0 .2 .inside, c .before .before .before .before .before .before .loop-test .taken)
+add-i c = let s = c .before .before .before .before .before .before .before .before .before .before .before .before in omega
+    (arith, inside s .0, inside s .1, s .pre .0 .2 .inside, c .before .before .before .before .before .before .loop-test .taken)
 
 loop-less : tie.Need-loop-less Inv-loop μ-loop
 loop-less c = omega (arith, c .before .before .before .before .before .before .loop-test .taken)
@@ -156,7 +175,8 @@ loop-again c =
           partly-next (value f v (s .args .half) q (w .top) (w .left)) (w .height) (row s) (s .args .part .from * 3) n (l .i) (l .a) (l .out)
           (g .last .1 .1 .1 .1 .1 .1 .1 .0) t (omega (arith, p .inside)) (l .inv .3) (l .inv .0 ∙ s .pre .0 .0 .length-is)
           (ap length (g .ensures .1 q) ∙ block-row-length x _ (s .args .part .count) _) (l .inv .4 q u)
-          (λ k b. ap (λ (ys : List Float). getD ys k nan) (g .ensures .1 q) ∙ block-row-at x (w .left + s .args .part .from) (s .args .part .count) (w .top + l .i) k b
+          (λ k b. ap (λ (ys : List Float). getD ys k nan) (g .ensures .1 q)
+          ∙ block-row-at x (w .left + s .args .part .from) (s .args .part .count) (w .top + l .i) k b
           ∙ from-column (x (w .top + l .i)) (w .left) (s .args .part .from) 3 k (omega arith)),
     )
 

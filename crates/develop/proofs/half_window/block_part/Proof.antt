@@ -14,7 +14,7 @@ use Rattle.reading.specs.Reading.{run}
 use Rattle.raw.specs.Stored.{levelsReading}
 use Rattle.rows.specs.Along.{Along-in, Deltas-in}
 use Rattle.develop.specs.View.{Viewed}
-use Rattle.develop.proofs.Windows.{part-length, window-length, lent-length, upto-values, viewed-sized}
+use Rattle.develop.proofs.Windows.{part-length, window-length, upto-values, viewed-sized}
 use Rattle.develop.proofs.BlockLaws.{pair-blocks}
 use borrow.Author.Needs.{needs}
 use Rattle.develop.proofs.half_window.block_part.Statement.{statement}
@@ -73,8 +73,10 @@ both-rows g q e =
     let w = rows (2 * a .part .top) (a .part) in
     let u = g .fill-columns .ensures i (λ r k h b. absurd (omega (arith, zero-mul n))) in
     let z : 0 * n + 2 * a .part .width * n ≡ 2 * a .part .width * n = omega (arith, zero-mul n) in
-    upto-values (aloneIn (now (a .file)) (q .file)) w n _ (viewed-sized (now (a .file)) (a .view) q .some) (e ∙ ap (λ (m : ℕ). 2 * m) (sym (ap (λ (m : ℕ). 2 * a .part .width * m) (s .pre .0 .0 .mosaic) ∙ mul-one (2 * a .part .width))))
-    (subst (λ (m : ℕ). Upto (numberOf (aloneIn (now (a .file)) (q .file)) w n) 2 (2 * a .part .width * n) m (g .fill-columns .last .1 .1 .1 .1 .1 .1 .1 .0)) z u)
+    upto-values (aloneIn (now (a .file)) (q .file)) w n _ (viewed-sized (now (a .file)) (a .view) q .some)
+    (e ∙ ap (λ (m : ℕ). 2 * m) (sym (ap (λ (m : ℕ). 2 * a .part .width * m) (s .pre .0 .0 .mosaic) ∙ mul-one (2 * a .part .width))))
+    (subst (λ (m : ℕ). Upto (numberOf (aloneIn (now (a .file)) (q .file)) w n) 2 (2 * a .part .width * n) m
+    (g .fill-columns .last .1 .1 .1 .1 .1 .1 .1 .0)) z u)
     ∙ ap (valuesOf (aloneIn (now (a .file)) (q .file)) _ _ 2 _) (s .pre .0 .0 .mosaic)
 
 -- it was given back with as many numbers
@@ -111,7 +113,7 @@ fill-columns-requires c κs =
     let l : 2 * s .args .part .left ≡ 2 * s .args .part .left + 0 = omega arith in
     let v = run (now (s .args .file)) (levelsReading (s .args .view .picture .order) (s .args .view .picture .raw .tags)) in
     let n = s .args .view .picture .raw .tags .frame .samples in (
-      (fill-in s _ (rows-in s .0) (s .pre .0 .0 .file), omega (arith, s .pre .1 .0 .0), omega arith),
+      (fill-in s _ (omega (arith, rows-in s .0)) (s .pre .0 .0 .file), omega (arith, s .pre .1 .0 .0), omega arith),
       (
         subst (λ (m : ℕ). Along-in v n m (2 * s .args .part .width * s .args .view .size .samples) (now (s .args .along))) l
             (subst (λ (m : ℕ). Along-in v n (2 * s .args .part .left) m (now (s .args .along))) e (s .pre .1 .1 .0)),

@@ -1,11 +1,10 @@
-use mathlib.Core.Path.{_≡_, sym, ap, _∙_, subst}
-use Prim.Native.Nat.{ℕ, _+_, _-_, _*_, _/_, _≤_}
+use mathlib.Core.Path.{_≡_, sym, ap, _∙_}
+use Prim.Native.Nat.{ℕ, _+_, _-_, _*_, _≤_}
 use native.Mathlib.Nat.{mul-one}
 use native.Mathlib.Omega.{arith}
 use borrow.Author.Needs.{needs}
 use denote.Ref.{now}
 use lib.IntN.{pos}
-use lib.ListN.{length}
 use Rattle.rows.proofs.Lines.{zeros-part}
 use Rattle.develop.proofs.Windows.{viewed-sized, viewed-wide, copies-length, array-length, deltas-part}
 use Rattle.develop.proofs.half_window.blocks_with_deltas.Statement.{statement}
@@ -15,7 +14,8 @@ fits : (n m k : ℕ) → k ≡ m → n ≤ m → n ≤ k
 fits n m k e h = omega arith
 
 -- the blocks' columns lie in the active area, of which no side is over 16,384
-columns : (s : tie.Start) → (2 * (s .args .blocks .left + s .args .part .from) + 2 * s .args .part .count ≤ s .args .view .size .columns) × (s .args .view .size .columns ≤ 16384)
+columns : (s : tie.Start) → (2 * (s .args .blocks .left + s .args .part .from) + 2 * s .args .part .count ≤ s .args .view .size .columns)
+    × (s .args .view .size .columns ≤ 16384)
 columns s =
     let z = viewed-sized (now (s .args .file)) (s .args .view) (s .pre .0 .0 .file) in
     (omega (arith, s .pre .0 .0 .columns, s .pre .0 .2 .inside), z .columns)
@@ -72,8 +72,14 @@ block-columns-requires : tie.Need-block-columns-requires
 block-columns-requires c κs =
     let s = c .before .before .before .before .before .before .before .before .before .before .before .before .before .before in
     let n = 2 * s .args .part .count in
-    let z = copies-length (pos 0) n 1024 (few s) in
-    (s .pre .0, (s .pre .1, deltas-part _ _ _ n _ (c .before .before .before .before .fill-deltas .last .1 .1 .1 .1 .0) _ (search needs) z (c .before .before .before .before .fill-deltas .ensures)))
+    let z = copies-length (pos 0) n 1024 (few s) in (
+      s .pre .0,
+      (
+        s .pre .1,
+        deltas-part _ _ _ n _ (c .before .before .before .before .fill-deltas .last .1 .1 .1 .1 .0) _ (search needs) z
+            (c .before .before .before .before .fill-deltas .ensures),
+      ),
+    )
 
 same-length : tie.Need-same-length
 same-length c = search needs

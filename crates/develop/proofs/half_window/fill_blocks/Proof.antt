@@ -1,5 +1,5 @@
 use mathlib.Core.Path.{_≡_, refl, _∙_, subst}
-use Prim.Native.Nat.{ℕ, _+_, _-_, _*_, _≤_, _<_}
+use Prim.Native.Nat.{ℕ, _-_, _*_, _≤_}
 use native.Mathlib.Omega.{arith}
 use borrow.Author.Needs.{needs}
 use denote.Ref.{now}
@@ -45,7 +45,13 @@ add-from : tie.Need-add-from Inv-loop μ-loop
 add-from c =
     let s = c .before .before .before .before .before .before .before .before .before in
     let z = viewed-sized (now (s .args .file)) (s .args .view) (s .pre .0 .file) in
-    omega (arith, c .before .before .before .before .smaller .ensures, c .before .before .before .before .before .before .loop .inv .1, s .pre .0 .columns, z .columns)
+    omega (
+      arith,
+      c .before .before .before .before .smaller .ensures,
+      c .before .before .before .before .before .before .loop .inv .1,
+      s .pre .0 .columns,
+      z .columns,
+    )
 
 loop-less : tie.Need-loop-less Inv-loop μ-loop
 loop-less c = omega (arith, c .before .before .before .before .smaller .ensures, c .before .before .before .before .before .loop-test .taken)

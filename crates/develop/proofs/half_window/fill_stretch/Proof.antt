@@ -1,11 +1,10 @@
-use mathlib.Core.Path.{_≡_, sym, ap, _∙_}
+use mathlib.Core.Path.{_≡_}
 use Prim.Native.Nat.{ℕ, _+_, _-_, _*_, _≤_}
-use native.Mathlib.Nat.{mul-le-mul, mul-pos}
 use native.Mathlib.Omega.{arith}
 use borrow.Author.Needs.{needs}
 use denote.Ref.{now}
 use lib.ListN.{length}
-use Rattle.develop.proofs.Windows.{samples-is, viewed-sized, viewed-plain, copies-length, array-length, along-part}
+use Rattle.develop.proofs.Windows.{viewed-sized, viewed-plain, copies-length, array-length, along-part}
 use Rattle.develop.proofs.half_window.fill_stretch.Statement.{statement}
 use Rattle.develop.proofs.half_window.fill_stretch.Tie as tie
 
@@ -13,14 +12,16 @@ fits : (n m k : ℕ) → k ≡ m → n ≤ m → n ≤ k
 fits n m k e h = omega arith
 
 -- the blocks' columns lie in the active area, of which no side is over 16,384
-columns : (s : tie.Start) → (2 * (s .args .blocks .left + s .args .part .from) + 2 * s .args .part .count ≤ s .args .view .size .columns) × (s .args .view .size .columns ≤ 16384)
+columns : (s : tie.Start) → (2 * (s .args .blocks .left + s .args .part .from) + 2 * s .args .part .count ≤ s .args .view .size .columns)
+    × (s .args .view .size .columns ≤ 16384)
 columns s =
     let z = viewed-sized (now (s .args .file)) (s .args .view) (s .pre .0 .file) in
     (omega (arith, s .pre .0 .columns, s .pre .2 .inside), z .columns)
 
 -- the room was given back with as many numbers
 lent : (k : tie.After-space2) → let v = k .before .before .before .before .before .before .before .before .before .before .before .before .args .view in
-    length (k .before .fill-along .last .1 .1 .1 .1 .1 .0) ≡ (v .picture .raw .tags .levels .repeat .rows + 1) * k .before .before .before .before .piece .result
+    length (k .before .fill-along .last .1 .1 .1 .1 .1 .0) ≡
+    (v .picture .raw .tags .levels .repeat .rows + 1) * k .before .before .before .before .piece .result
 lent k = search needs
 
 add-e : tie.Need-add-e
@@ -40,7 +41,8 @@ piece-requires c κs =
     ((omega (arith, s .pre .2 .some), r .some-rows, r .rows, r .some-columns, r .columns), (t .frame .some-samples, t .frame .samples))
 
 add-e-2 : tie.Need-add-e-2
-add-e-2 c = let s = c .before .before .before .before .before .before .before .before .before in omega (arith, s .pre .0 .file .picture-in .raw .tags .levels .repeat .rows)
+add-e-2 c = let s = c .before .before .before .before .before .before .before .before .before in omega
+    (arith, s .pre .0 .file .picture-in .raw .tags .levels .repeat .rows)
 
 mul-e-2 : tie.Need-mul-e-2
 mul-e-2 c = omega (arith, c .before .piece .ensures .2)

@@ -1,11 +1,11 @@
-use mathlib.Core.Path.{_≡_, refl, sym, ap, _∙_, subst}
-use Prim.Native.Nat.{ℕ, _+_, _-_, _*_, _≤_, _<_, min}
+use mathlib.Core.Path.{_≡_, sym, ap, _∙_}
+use Prim.Native.Nat.{ℕ, _+_, _-_, _*_}
 use native.Mathlib.Nat.{mul-le-mul, mul-pos}
 use native.Mathlib.Omega.{arith}
 use borrow.Author.Needs.{needs}
 use denote.Ref.{now}
-use lib.Ieee.{Float, nan, binary64, ofInt}
-use lib.ListN.{length, List·getD-append}
+use lib.Ieee.{nan, binary64, ofInt}
+use lib.ListN.{List·getD-append}
 use Rattle.reading.specs.Reading.{run}
 use Rattle.raw.specs.Stored.{levelsReading}
 use Rattle.raw.proofs.StoredLaws.{repeat-columns-are}
@@ -33,7 +33,8 @@ first-cells-requires : tie.Need-first-cells-requires
 first-cells-requires c κs = search needs
 
 repeat-requires : tie.Need-repeat-requires
-repeat-requires c κs = let s = c .before .before .before .before .before .before .before .before .before in mul-pos (s .pre .0 .levels .repeat .some-columns) (s .pre .1)
+repeat-requires c κs = let s = c .before .before .before .before .before .before .before .before .before in mul-pos
+    (s .pre .0 .levels .repeat .some-columns) (s .pre .1)
 
 same-length : tie.Need-same-length
 same-length c = search needs
@@ -46,8 +47,10 @@ returns c k h =
     let m = c .before .before .before .before .before .before .before .before .smaller .ensures in
     let p : v .repeat-columns ≡ s .args .tags .levels .repeat .columns = repeat-columns-are (now (s .args .file)) (s .args .order) (s .args .tags) in
     c .before .before .repeat .ensures (λ j. ofInt binary64 (cellAlong v n (s .args .row .0) (s .args .column .0) j))
-    (λ j b l. List·getD-append (c .before .before .before .before .before .before .first-cells .last .1 .1 .1 .1 .1 .0) _ nan j (search needs) ∙ c .before .before .before .before .before .before .first-cells .ensures j (search needs))
-    (λ j. ap (ofInt binary64) (ap (λ (q : ℕ). cellAlong v n (s .args .row .0) (s .args .column .0) (j + q * n)) (sym p) ∙ cell-next v n (s .pre .1) _ _ j)) k (search needs)
+    (λ j b l. List·getD-append (c .before .before .before .before .before .before .first-cells .last .1 .1 .1 .1 .1 .0) _ nan j (search needs)
+    ∙ c .before .before .before .before .before .before .first-cells .ensures j (search needs))
+    (λ j. ap (ofInt binary64) (ap (λ (q : ℕ). cellAlong v n (s .args .row .0) (s .args .column .0) (j + q * n)) (sym p)
+    ∙ cell-next v n (s .pre .1) _ _ j)) k (search needs)
 
 pub cells-row-spec : {M : Type 1} → statement M
 cells-row-spec =

@@ -1,4 +1,4 @@
-use mathlib.Core.Path.{_≡_, sym, ap, _∙_}
+use mathlib.Core.Path.{_≡_, _∙_}
 use Prim.Native.Nat.{ℕ, _+_, _-_, _*_, _≤_, _<_}
 use native.Mathlib.Nat.{add-mul, mul-le-mul-right}
 use native.Mathlib.Omega.{arith}
@@ -66,7 +66,8 @@ returns c len again =
     along-filled v n (s .args .column .0) len q (t .levels .repeat .rows) (t .levels .repeat .columns) _ rows columns (search needs) (s .pre .2) (s .pre .3)
     (λ r k h b.
     let i : r * q + k < a = before r k h b in
-    put-before nan a (a + q - a) _ ys (r * q + k) (search needs) i ∙ List·getD-append xs _ nan (r * q + k) (omega arith) ∙ c .before .before .before .before .before .before .fill-cells .ensures r k h b)
+    put-before nan a (a + q - a) _ ys (r * q + k) (search needs) i ∙ List·getD-append xs _ nan (r * q + k) (omega arith)
+    ∙ c .before .before .before .before .before .before .fill-cells .ensures r k h b)
     (λ k b. put-inside nan a (a + q - a) _ ys k (search needs) (search needs) ∙ c .before .before .inverses-row .ensures k (search needs))
     again
   where

@@ -1,11 +1,11 @@
-use mathlib.Core.Path.{_≡_, refl, sym, ap, _∙_, subst}
+use mathlib.Core.Path.{_≡_, refl}
 use Prim.Native.Nat.{ℕ, _+_, _-_, _*_, _≤_, _<_}
-use native.Mathlib.Nat.{mul-le-mul-right, suc-mul, add-mul}
+use native.Mathlib.Nat.{mul-le-mul-right, add-mul}
 use native.Mathlib.Omega.{arith}
 use borrow.Author.Needs.{needs}
 use denote.Ref.{now}
-use lib.Ieee.{Float, nan, binary64, ofInt}
-use lib.ListN.{length, getD, take, drop, length-take}
+use lib.Ieee.{nan, binary64, ofInt}
+use lib.ListN.{length, getD, drop, length-take}
 use Rattle.reading.specs.Reading.{run}
 use Rattle.raw.specs.Stored.{levelsReading}
 use Rattle.rows.specs.Along.{cellAlong}
@@ -16,7 +16,8 @@ use Rattle.rows.proofs.along.fill_cells.Tie as tie
 abbrev Inv-loop : tie.InvT-loop
 Inv-loop file order tags column q out₀ rows r₀ a₀ out r a =
     (length out ≡ length out₀) × (r ≤ rows) × (a ≡ r * q)
-    × ((s k : ℕ) → s < r → k < q → getD out (s * q + k) nan ≡ ofInt binary64 (cellAlong (run file (levelsReading order tags)) (tags .frame .samples) s (column .0) k))
+    × ((s k : ℕ) → s < r → k < q → getD out (s * q + k) nan ≡ ofInt binary64
+    (cellAlong (run file (levelsReading order tags)) (tags .frame .samples) s (column .0) k))
 
 abbrev μ-loop : tie.MeasureT-loop
 μ-loop file order tags column q out₀ rows r₀ a₀ out r a = rows - r
@@ -74,7 +75,8 @@ loop-again c =
     let s = c .before .before .before .before .before .before .before .before in
     let l = c .before .before .before .before .before .loop in
     let v = run (now (s .args .file)) (levelsReading (s .args .order) (s .args .tags)) in
-    let i : l .r * s .args .q + s .args .q ≤ length (now (s .args .out)) = inside s (l .r) (omega (arith, c .before .before .before .before .loop-test .taken)) in (
+    let i : l .r * s .args .q + s .args .q ≤ length (now (s .args .out)) = inside s (l .r)
+    (omega (arith, c .before .before .before .before .loop-test .taken)) in (
       search needs,
       omega (arith, c .before .before .before .before .loop-test .taken),
       omega (arith, add-mul (l .r) 1 (s .args .q), l .inv .2),

@@ -1,10 +1,10 @@
-use mathlib.Core.Path.{_≡_, refl, sym, ap, _∙_}
-use Prim.Native.Nat.{ℕ, _+_, _-_, _/_, _≤_, _<_}
+use mathlib.Core.Path.{sym, ap, _∙_}
+use Prim.Native.Nat.{ℕ, _+_, _-_, _/_, _≤_}
 use native.Mathlib.Nat.{div-le-self}
 use native.Mathlib.Omega.{arith}
 use borrow.Author.Needs.{needs}
 use denote.Ref.{now}
-use lib.IntN.{ℤ, pos}
+use lib.IntN.{pos}
 use lib.ListN.{length, getD}
 use Rattle.reading.specs.Reading.{run}
 use Rattle.levels.proofs.Fills.{Filled, fill-start, fill-step, fill-end}
@@ -61,7 +61,8 @@ loop-again c =
     let l = c .before .before .loop in
     let z = c .delta-at in
     let e = held-short (z .result) (z .ensures .1) in
-    fill-step _ (l .i) (now (a .args .out)) (l .out) _ (omega (arith, c .before .loop-test .taken, l .inv .same)) (e ∙ z .ensures .0) (rw e (z .ensures .1)) (l .inv)
+    fill-step _ (l .i) (now (a .args .out)) (l .out) _ (omega (arith, c .before .loop-test .taken, l .inv .same)) (e ∙ z .ensures .0)
+    (rw e (z .ensures .1)) (l .inv)
 
 same-length : tie.Need-same-length Inv-loop μ-loop
 same-length c = search needs
@@ -72,7 +73,8 @@ returns c =
     let l = c .before .loop in
     let e = fill-end _ (l .i) (length (now (a .args .out))) (now (a .args .out)) (l .out) (omega (arith, c .loop-test .left, l .inv .same)) (l .inv) in
     record {
-      same = λ k h. e .0 k h ∙ ap (λ (ds : _). getD ds (a .args .column .0 + k / a .args .tags .frame .samples) (pos 0)) (sym (column-deltas-are (now (a .args .file)) (a .args .order) (a .args .tags)));
+      same = λ k h. e .0 k h ∙ ap (λ (ds : _). getD ds (a .args .column .0 + k / a .args .tags .frame .samples) (pos 0))
+          (sym (column-deltas-are (now (a .args .file)) (a .args .order) (a .args .tags)));
       small = e .1;
       long = λ h. omega (arith, l .inv .same);
     }

@@ -1,10 +1,10 @@
-use mathlib.Core.Path.{_≡_, refl, sym, ap, _∙_, subst}
-use Prim.Native.Nat.{ℕ, _+_, _-_, _*_, _≤_, _<_, min}
+use mathlib.Core.Path.{ap, _∙_}
+use Prim.Native.Nat.{_-_}
 use native.Mathlib.Omega.{arith}
 use borrow.Author.Needs.{needs}
 use denote.Ref.{now}
-use lib.Ieee.{Float, nan}
-use lib.ListN.{length, List·getD-append}
+use lib.Ieee.{nan}
+use lib.ListN.{List·getD-append}
 use Rattle.reading.specs.Reading.{run}
 use Rattle.levels.specs.Reciprocal.{inverseOf}
 use Rattle.raw.specs.Stored.{levelsReading}
@@ -41,7 +41,8 @@ returns c k h =
     let v = run (now (s .args .file)) (levelsReading (s .args .order) (s .args .raw .tags)) in
     let m = c .before .before .before .before .before .before .before .before .smaller .ensures in
     c .before .before .repeat .ensures (λ j. inverseOf (spanAlong v n j))
-    (λ j b l. List·getD-append (c .before .before .before .before .before .before .first-inverses .last .1 .1 .1 .0) _ nan j (search needs) ∙ c .before .before .before .before .before .before .first-inverses .ensures j (search needs))
+    (λ j b l. List·getD-append (c .before .before .before .before .before .before .first-inverses .last .1 .1 .1 .0) _ nan j (search needs)
+    ∙ c .before .before .before .before .before .before .first-inverses .ensures j (search needs))
     (λ j. ap inverseOf (span-next v n (s .pre .tags .frame .some-samples) j)) k (search needs)
 
 pub inverses-row-spec : {M : Type 1} → statement M

@@ -1,13 +1,13 @@
-use mathlib.Core.Path.{_≡_}
-use Prim.Native.Nat.{ℕ, _+_, _*_, _/_, _%_, _≤_, _<_, min}
-use native.Mathlib.Nat.{mul-le-mul, mul-pos, mul-mod-left, le-div-iff-mul-le, div-mul-le-self, div-le-self, mul-comm, mul-le-mul-left, le-trans, le-of-eq}
+use Prim.Native.Nat.{ℕ, _+_, _*_, _/_, _≤_, min}
+use native.Mathlib.Nat.{mul-le-mul, mul-pos, mul-mod-left, le-div-iff-mul-le, div-mul-le-self, mul-comm, mul-le-mul-left, le-trans, le-of-eq}
 use native.Mathlib.Omega.{arith}
 use borrow.Author.Needs.{needs}
 use Rattle.rows.proofs.along.piece.Statement.{statement}
 use Rattle.rows.proofs.along.piece.Tie as tie
 
 -- the repeat's numbers in a row
-period : (s : tie.Start) → (1 ≤ s .args .tags .levels .repeat .columns * s .args .tags .frame .samples) × (s .args .tags .levels .repeat .columns * s .args .tags .frame .samples ≤ 24)
+period : (s : tie.Start) → (1 ≤ s .args .tags .levels .repeat .columns * s .args .tags .frame .samples)
+    × (s .args .tags .levels .repeat .columns * s .args .tags .frame .samples ≤ 24)
 period s = (mul-pos (s .pre .0 .3) (s .pre .1 .0), mul-le-mul (s .pre .0 .4) (s .pre .1 .1))
 
 -- the most that a row may have, by the rows of the repeat
@@ -39,7 +39,11 @@ div-result c = omega (arith, period (c .before .before) .0)
 mul-result : tie.Need-mul-result
 mul-result c =
     let s = c .before .before in
-    omega (arith, div-mul-le-self (c .before .smaller .result) (s .args .tags .levels .repeat .columns * s .args .tags .frame .samples), c .before .smaller .ensures)
+    omega (
+      arith,
+      div-mul-le-self (c .before .smaller .result) (s .args .tags .levels .repeat .columns * s .args .tags .frame .samples),
+      c .before .smaller .ensures,
+    )
 
 returns : tie.Need-returns
 returns c =

@@ -1,13 +1,10 @@
 use mathlib.Core.Path.{_≡_, refl, sym, ap, _∙_}
-use mathlib.Core.Logic.{⊎-elim}
 use Prim.Native.Nat.{ℕ, _+_, _-_, _≤_, _<_}
 use native.Mathlib.Omega.{arith}
 use borrow.Author.Needs.{needs}
 use denote.Ref.{now}
 use lib.Ieee.{Float, nan}
 use lib.ListN.{length, getD}
-use Rattle.reading.proofs.Wholes.{le-or-lt}
-use Rattle.rows.specs.Line.{Filled}
 use Rattle.rows.proofs.Lines.{filled-more}
 use Rattle.rows.proofs.along.repeat.Statement.{statement}
 use Rattle.rows.proofs.along.repeat.Tie as tie

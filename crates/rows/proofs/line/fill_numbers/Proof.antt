@@ -1,10 +1,9 @@
 use mathlib.Core.Path.{_≡_, refl, ap, _∙_, subst}
-use Prim.Native.Nat.{ℕ, _+_, _-_, _*_, _≤_, _<_}
+use Prim.Native.Nat.{ℕ, _-_, _≤_}
 use native.Mathlib.Omega.{arith}
 use borrow.Author.Needs.{needs}
 use denote.Ref.{now}
-use lib.IntN.{ℤ, pos}
-use lib.Ieee.{Float, nan, binary64, ofInt}
+use lib.Ieee.{Float}
 use lib.ListN.{length}
 use Rattle.levels.specs.Table.{tableOf, throughOf}
 use Rattle.rows.specs.Line.{numberAt, Numbers}
@@ -70,7 +69,8 @@ loop-again c =
     let v = c .before .through in (
       search needs,
       omega (arith, c .before .before .before .loop-test .taken, l .inv .0),
-      λ down. numbers-more _ (l .i) (l .out) (v .result) (omega (arith, c .before .before .before .loop-test .taken)) (l .inv .2 down) (v .ensures ∙ ap (throughOf t) (c .before .before .sample-at .ensures)) (omega arith),
+      λ down. numbers-more _ (l .i) (l .out) (v .result) (omega (arith, c .before .before .before .loop-test .taken)) (l .inv .2 down)
+          (v .ensures ∙ ap (throughOf t) (c .before .before .sample-at .ensures)) (omega arith),
     )
 
 same-length : tie.Need-same-length Inv-loop μ-loop

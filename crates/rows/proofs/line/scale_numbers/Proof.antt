@@ -1,5 +1,5 @@
-use mathlib.Core.Path.{_≡_, refl, ap, _∙_}
-use Prim.Native.Nat.{ℕ, _+_, _-_, _≤_, _<_}
+use mathlib.Core.Path.{_≡_, refl, ap}
+use Prim.Native.Nat.{ℕ, _-_, _≤_, _<_}
 use native.Mathlib.Omega.{arith}
 use borrow.Author.Needs.{needs}
 use denote.Ref.{now}
@@ -70,7 +70,8 @@ loop-again c =
           let z = l .inv .2 number black span n w in
           scaling-more number black span i _ (l .out) _ (omega (arith, l .inv .0))
           (ap (λ (x : Float). div binary64 x most)
-          (c .level .ensures (differenceOf (number i) (black i)) (span i) (scaling-difference number black span i _ (l .out) _ h (w .black-is i h) z) (w .inverse-is i h))) z,
+          (c .level .ensures (differenceOf (number i) (black i)) (span i) (scaling-difference number black span i _ (l .out) _ h (w .black-is i h) z)
+          (w .inverse-is i h))) z,
     )
 
 same-length : tie.Need-same-length Inv-loop μ-loop

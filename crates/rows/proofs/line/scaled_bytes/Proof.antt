@@ -80,7 +80,8 @@ loop-again c =
           filled-more nan (plainValue (now (s .args .file)) (s .args .line .order) 1 (s .args .line .place) black span) i (l .out) _ (omega (arith, l .inv .0))
           (l .inv .2 black span w)
           (c .scaled-by .ensures (black i) (span i) (w .black-is i h) (w .inverse-is i h)
-          ∙ plain-is (now (s .args .file)) (s .args .line .order) 1 (s .args .line .place) black span i _ (c .before .before .before .byte .ensures .0 ∙ ap (λ (n : ℕ). numberOf (s .args .line .order) (part (now (s .args .file)) n 1)) e)),
+          ∙ plain-is (now (s .args .file)) (s .args .line .order) 1 (s .args .line .place) black span i _
+          (c .before .before .before .byte .ensures .0 ∙ ap (λ (n : ℕ). numberOf (s .args .line .order) (part (now (s .args .file)) n 1)) e)),
     )
 
 same-length : tie.Need-same-length Inv-loop μ-loop

@@ -4,7 +4,7 @@ use native.Mathlib.Omega.{arith}
 use borrow.Author.Needs.{needs}
 use denote.Ref.{now}
 use lib.IntN.{ℤ, pos}
-use lib.Ieee.{Float, nan, binary64, add, ofInt}
+use lib.Ieee.{nan, binary64, add, ofInt}
 use lib.ListN.{length, getD}
 use Rattle.rows.specs.Line.{Filled}
 use Rattle.rows.proofs.Lines.{back32, filled-more}
@@ -60,7 +60,8 @@ loop-again c =
       search needs,
       omega arith,
       filled-more nan _ (l .i) (l .out) _ (omega (arith, l .inv .0)) (l .inv .2)
-          (ap (λ (z : ℤ). add binary64 (getD (now (a .args .cells)) (l .i) nan) (ofInt binary64 z)) (back32 (getD (now (a .args .deltas)) (a .args .at + l .i) (pos 0)) (a .pre .2 (a .args .at + l .i)))),
+          (ap (λ (z : ℤ). add binary64 (getD (now (a .args .cells)) (l .i) nan) (ofInt binary64 z))
+          (back32 (getD (now (a .args .deltas)) (a .args .at + l .i) (pos 0)) (a .pre .2 (a .args .at + l .i)))),
     )
 
 same-length : tie.Need-same-length Inv-loop μ-loop

@@ -1,12 +1,12 @@
-use mathlib.Core.Path.{_≡_, refl, sym, ap, _∙_}
+use mathlib.Core.Path.{_≡_, _∙_}
 use Prim.Native.Nat.{ℕ, _+_, _-_, _≤_, _<_}
 use native.Mathlib.Omega.{arith}
 use borrow.Author.Needs.{needs}
 use denote.Ref.{now}
 use lib.IntN.{ℤ, pos}
-use lib.Ieee.{Float, nan}
+use lib.Ieee.{nan}
 use mathlib.Core.List.{List}
-use lib.ListN.{length, getD, take, length-take, List·getD-append, List·getD-eq-default}
+use lib.ListN.{length, getD, length-take, List·getD-append, List·getD-eq-default}
 use Rattle.rows.proofs.Lines.{levelled-plain, levelled-sums}
 use Rattle.rows.proofs.scaled.scaled_piece.Statement.{statement}
 use Rattle.rows.proofs.scaled.scaled_piece.Tie as tie
@@ -58,7 +58,8 @@ returns c = (
       let s = c .before .before .before .before .before .before .before .before .before .before in
       c .before .before .scaled-line .ensures _ span
       (levelled-plain cell span down (now (s .args .cells)) (now (s .args .inverses)) (s .args .line .down) _ w (length (now (s .args .out)))
-      (λ k. getD (now (s .args .deltas)) (s .args .at + k) (pos 0)) (s .pre .0 .1) (λ k. none (now (s .args .deltas)) (s .args .at + k) (c .before .before .before .before .if1 .taken))),
+      (λ k. getD (now (s .args .deltas)) (s .args .at + k) (pos 0)) (s .pre .0 .1)
+      (λ k. none (now (s .args .deltas)) (s .args .at + k) (c .before .before .before .before .if1 .taken))),
 )
 
 same-length-2 : tie.Need-same-length-2

@@ -1,14 +1,12 @@
 use mathlib.Core.Path.{_≡_, refl, sym, ap, _∙_}
-use Prim.Native.Nat.{ℕ, _+_, _-_, _*_, _≤_, _<_, min}
-use native.Mathlib.Nat.{mul-le-mul-left}
+use Prim.Native.Nat.{ℕ, _+_, _-_, _≤_, _<_}
 use native.Mathlib.Omega.{arith}
 use borrow.Author.Needs.{needs}
 use denote.Ref.{now}
 use lib.IntN.{ℤ, pos, _+ℤ_}
-use lib.Ieee.{Float, nan}
+use lib.Ieee.{nan}
 use lib.ListN.{length, getD, take, drop, length-take, length-drop}
 use Rattle.rows.specs.Line.{Filled, lineValue, Celled, Repeating}
-use Rattle.rows.specs.declared.line.Line.{Line}
 use Rattle.rows.proofs.Lines.{filled-part, line-from, value-from, Same, same-start, same-next}
 use Rattle.rows.proofs.scaled.scaled_pieces.Statement.{statement}
 use Rattle.rows.proofs.scaled.scaled_pieces.Tie as tie
@@ -81,7 +79,13 @@ scaled-piece-requires c κs =
 loop-less : tie.Need-loop-less Inv-loop μ-loop
 loop-less c =
     let s = c .before .before .before .before .before .before .before .before .before .before .before .before .before .before .before in
-    omega (arith, c .before .before .before .before .before .before .before .smaller .ensures, c .before .before .before .before .before .before .before .before .loop-test .taken, c .before .before .before .before .before .before .before .before .before .loop .inv .0, s .pre .0 .1)
+    omega (
+      arith,
+      c .before .before .before .before .before .before .before .smaller .ensures,
+      c .before .before .before .before .before .before .before .before .loop-test .taken,
+      c .before .before .before .before .before .before .before .before .before .loop .inv .0,
+      s .pre .0 .1,
+    )
 
 loop-again : tie.Need-loop-again Inv-loop μ-loop
 loop-again c =
@@ -99,9 +103,14 @@ loop-again c =
       omega (arith, e, l .inv .0, l .inv .2),
       λ cell span d w z.
           let v = l .inv .3 cell span d w z in
-          let m : i < length (now (s .args .out)) = omega (arith, c .before .before .before .before .before .before .before .before .loop-test .taken, l .inv .0) in (
+          let m : i < length (now (s .args .out)) = omega (
+            arith,
+            c .before .before .before .before .before .before .before .before .loop-test .taken,
+            l .inv .0,
+          ) in (
             same-next cell span (length (now (s .args .cells))) (length (now (s .args .out))) z i (i + r) (λ h. omega (arith, e, l .inv .0)) (v .0),
-            filled-part nan (lineValue f x (λ k. cell k +ℤ getD deltas k (pos 0) +ℤ d) span) i (i + r) (l .out) (p .last .1 .1 .1 .1 .1 .1 .1 .0) (omega arith) (omega (arith, e)) (search needs) (v .1)
+            filled-part nan (lineValue f x (λ k. cell k +ℤ getD deltas k (pos 0) +ℤ d) span) i (i + r) (l .out) (p .last .1 .1 .1 .1 .1 .1 .1 .0)
+                (omega arith) (omega (arith, e)) (search needs) (v .1)
                 (λ k b. p .ensures .1 cell span d w k (search needs)
                 ∙ value-from f x (λ k. cell k +ℤ getD deltas k (pos 0) +ℤ d) (λ k. cell k +ℤ getD deltas (i + k) (pos 0) +ℤ d) span span i k
                 (ap (λ (t : ℤ). t +ℤ getD deltas (i + k) (pos 0) +ℤ d) (sym (v .0 .cells m k))) (sym (v .0 .spans m k))),
