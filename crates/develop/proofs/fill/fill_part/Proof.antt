@@ -90,7 +90,8 @@ part-fill-columns-end-2 c = search needs
 
 fill-columns-requires : tie.Need-fill-columns-requires
 fill-columns-requires c κs =
-    let s = c .before .before .before .before .before .before .before .before .before .before .before .before .before .before .before .before .before .before .before in
+    let s = c .before .before .before .before .before .before .before .before .before .before
+    .before .before .before .before .before .before .before .before .before in
     let p = c .before .before .before .before .before .before .before .before .before .before .before .piece in
     let a = c .before .before .before .before .before .before .before .before .fill-along in
     let y = a .ensures (s .args .count * s .args .view .size .samples) (p .ensures .3) in (

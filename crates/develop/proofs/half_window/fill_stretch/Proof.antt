@@ -84,7 +84,8 @@ part-block-columns-end-2 c = search needs
 
 block-columns-requires : tie.Need-block-columns-requires
 block-columns-requires c κs =
-    let s = c .before .before .before .before .before .before .before .before .before .before .before .before .before .before .before .before .before .before .before in
+    let s = c .before .before .before .before .before .before .before .before .before .before
+    .before .before .before .before .before .before .before .before .before in
     let p = c .before .before .before .before .before .before .before .before .before .before .before .piece in
     let a = c .before .before .before .before .before .before .before .before .fill-along in
     let y = a .ensures (2 * s .args .part .count) (p .ensures .3) in

@@ -75,4 +75,19 @@ returns c len again =
     before {q} {R} r k h b = let g : (r + 1) * q ≤ R * q = mul-le-mul-right q (omega arith) in omega (arith, add-mul r 1 q)
 
 pub fill-along-spec : {M : Type 1} → statement M
-fill-along-spec = tie.close (tie.spec mul-a add-e sub-fill-cells part-fill-cells-start part-fill-cells-end fill-cells-requires mul-inverses-row sub-inverses-row part-inverses-row-start part-inverses-row-end inverses-row-requires same-length returns)
+fill-along-spec =
+    tie.close
+    (tie.spec
+    mul-a
+    add-e
+    sub-fill-cells
+    part-fill-cells-start
+    part-fill-cells-end
+    fill-cells-requires
+    mul-inverses-row
+    sub-inverses-row
+    part-inverses-row-start
+    part-inverses-row-end
+    inverses-row-requires
+    same-length
+    returns)
