@@ -4,7 +4,7 @@ use mathlib.Core.Path.{_≡_, refl, sym, ap, _∙_}
 use mathlib.Core.Logic.{_⊎_, inl, inr}
 use mathlib.Core.Bool.{true, false, cond, true≢false}
 use Prim.Native.Nat.{ℕ, zero, suc, _+_, _*_, _^_, _≤_, _<_, min}
-use native.Mathlib.Nat.{le-refl, zero-lt-suc, div-eq-of-lt}
+use native.Mathlib.Nat.{le-refl, zero-lt-suc}
 use native.Mathlib.Omega.{arith}
 use borrow.Author.Tests.{lt-ltb, lt-leb, le-leb}
 use lib.Dec.{leb}
@@ -17,7 +17,7 @@ use Rattle.levels.specs.Clip.{plusZero}
 use Rattle.levels.specs.Level.{differenceOf, levelOf, roundedOf, scaledOf, most}
 use Rattle.levels.specs.Reciprocal.{inverseOf, flooredOf, levelBy, SpanIn, DifferenceIs, BlackIs, InverseIs}
 use Rattle.levels.proofs.Values.{add-int, sub-int, lt-fractions}
-use Rattle.levels.proofs.Inverse.{rounded-full, level-by-reciprocal}
+use Rattle.levels.proofs.Inverse.{rounded-none, rounded-full, level-by-reciprocal}
 
 -- ---- the clip at 0
 abbrev lifted : ℤ → ℕ
@@ -51,17 +51,14 @@ floor-is (pos (suc n)) h =
 floor-is (negsuc n) h = rw (not-above (ofInt binary64 (negsuc n)) (suc n) 1 (int-value (negsuc n) h), is-zero)
 
 -- ---- the level of a clipped D
-rounded-none : (s : ℕ) → 0 < s → roundedOf (65535 * 0) s ≡ 0
-rounded-none s h = div-eq-of-lt {n = 2 * (65535 * 0) + s} {m = 2 * s} (omega arith)
-
 level-is : (z : ℤ) (s : ℕ) → 0 < s → levelOf z (pos s) ≡ roundedOf (65535 * min (lifted z) s) s
 unfolding levelOf
-level-is (negsuc n) s h = let e : min 0 s ≡ 0 = omega arith in sym (ap (λ (m : ℕ). roundedOf (65535 * m) s) e ∙ rounded-none s h)
-level-is (pos zero) s h = let e : min 0 s ≡ 0 = omega arith in sym (ap (λ (m : ℕ). roundedOf (65535 * m) s) e ∙ rounded-none s h)
+level-is (negsuc n) s h = let e : min 0 s ≡ 0 = omega arith in sym (ap (λ (m : ℕ). roundedOf (65535 * m) s) e ∙ rounded-none s 0 h)
+level-is (pos zero) s h = let e : min 0 s ≡ 0 = omega arith in sym (ap (λ (m : ℕ). roundedOf (65535 * m) s) e ∙ rounded-none s 0 h)
 level-is (pos (suc n)) s h = rw (lt-leb (suc n) 0 (omega arith)) (go (le-or-lt s (suc n)))
   where
     go : (s ≤ suc n) ⊎ (suc n < s) → cond (leb s (suc n)) 65535 (roundedOf (65535 * suc n) s) ≡ roundedOf (65535 * min (suc n) s) s
-    go (inl l) = let e : min (suc n) s ≡ s = omega arith in rw (le-leb s (suc n) l, e) (sym (rounded-full s h))
+    go (inl l) = let e : min (suc n) s ≡ s = omega arith in rw (le-leb s (suc n) l, e) (sym (rounded-full s 0 h))
     go (inr l) = let e : min (suc n) s ≡ suc n = omega arith in rw (lt-leb s (suc n) l, e)
 
 -- ---- the laws: L as f64, and the scaled value

@@ -1,5 +1,4 @@
--- Sums, differences, products and comparisons of f64, by the fractions that they equal; and a rounded fraction between two that the
--- format holds.
+-- Sums, differences, products and comparisons of f64, by the fractions that they equal; and the shape of a rounded fraction.
 -- Assumes nothing.
 use mathlib.Core.Path.{_≡_, refl, sym, ap, _∙_, subst}
 use mathlib.Core.Logic.{_⊎_, inl, inr, ⊎-elim}
@@ -19,7 +18,7 @@ use lib.Ieee.Exact.{HasValue, round-exact}
 use lib.Ieee.Order.{transfer, round-mono}
 use lib.Ieee.Scale.{round-same}
 use Rattle.reading.proofs.Wholes.{le-or-lt, negative, int-value}
-use Rattle.levels.specs.Level.{most}
+use Rattle.levels.specs.Reciprocal.{mostRaised}
 
 -- ---- the product
 mul-opened : (m : ℕ) (e : ℤ) (n : ℕ) (d : ℤ) → mul binary64 (fin false m e) (fin false n d) ≡ round binary64 false (m * up e * (n * up d)) (down e * down d)
@@ -41,8 +40,9 @@ mul-values (fin false m e) (fin false n g) a c b d C D h k =
     ∙ round-same binary64 false (m * up e * (n * up g)) (down e * down g) (a * b) (c * d) (mul-pos (down-pos e) (down-pos g)) (mul-pos C D)
     (mul-mul-mul-comm (m * up e) (n * up g) c d ∙ r ∙ mul-mul-mul-comm a (down e) b (down g))
 
--- ---- 65535.0 divided by a whole number
-div-opened : (n : ℕ) (d : ℤ) → div binary64 most (fin false n d) ≡ cond (eqb n 0) (inf false) (round binary64 false (65535 * 1 * down d) (n * up d * 1))
+-- ---- 65535 + 2 ^ -29, divided by a whole number
+div-opened : (n : ℕ) (d : ℤ) →
+    div binary64 mostRaised (fin false n d) ≡ cond (eqb n 0) (inf false) (round binary64 false (35183835217921 * 1 * down d) (n * up d * 536870912))
 unfolding div
 div-opened n d = refl
 
@@ -51,16 +51,18 @@ some-of n u b d B D h z =
     let l : n * u * 1 ≡ 0 = ap (λ (k : ℕ). k * u * 1) z ∙ ap (λ (k : ℕ). k * 1) (zero-mul u) in
     omega (arith, mul-pos B D)
 
-pub div-values : (y : Float) (b : ℕ) → 0 < b → HasValue y false b 1 → div binary64 most y ≡ round binary64 false 65535 b
+pub div-values : (y : Float) (b : ℕ) → 0 < b → HasValue y false b 1 → div binary64 mostRaised y ≡ round binary64 false 35183835217921 (b * 536870912)
 div-values nan b B h = absurd h
 div-values (inf s) b B h = absurd h
 div-values (fin true n d) b B h = absurd (true≢false (h .0))
 div-values (fin false n d) b B h =
-    let p : 0 < n * up d * 1 = subst (λ (z : ℕ). 0 < z) (sym (h .1)) (mul-pos B (down-pos d)) in
-    let r : Float = round binary64 false (65535 * 1 * down d) (n * up d * 1) in
+    let e : n * up d ≡ b * down d = sym (mul-one (n * up d)) ∙ h .1 in
+    let p : 0 < n * up d * 536870912 = mul-pos (subst (λ (z : ℕ). 0 < z) (sym e) (mul-pos B (down-pos d))) (zero-lt-suc _) in
+    let r : Float = round binary64 false (35183835217921 * 1 * down d) (n * up d * 536870912) in
+    let x : down d * (b * 536870912) ≡ b * down d * 536870912 = mul-left-comm (down d) b 536870912 ∙ sym (mul-assoc b (down d) 536870912) in
     div-opened n d ∙ ap (λ (t : Bool). cond t (inf false) r) (ne-eqb n 0 (some-of n (up d) b (down d) B (down-pos d) (h .1)))
-    ∙ round-same binary64 false (65535 * 1 * down d) (n * up d * 1) 65535 b p B
-    (mul-assoc 65535 (down d) b ∙ ap (λ (z : ℕ). 65535 * z) (mul-comm (down d) b ∙ sym (h .1)))
+    ∙ round-same binary64 false (35183835217921 * 1 * down d) (n * up d * 536870912) 35183835217921 (b * 536870912) p (mul-pos B (zero-lt-suc _))
+    (mul-assoc 35183835217921 (down d) (b * 536870912) ∙ ap (λ (z : ℕ). 35183835217921 * z) (x ∙ ap (λ (z : ℕ). z * 536870912) (sym e)))
 
 -- ---- the sum of fractions that are not negative
 add-opened : (s : Bool) (m : ℕ) (e : ℤ) (t : Bool) (n : ℕ) (d : ℤ) →
@@ -252,45 +254,3 @@ units-shape f s q k = go (ltb (q * 2 ^ k) (2 ^ (low f + suc (emax f))))
 
 pub round-shape : (f : Format) (s : Bool) (a c : ℕ) → Shape s (round f s a c)
 round-shape f s a c = subst (Shape s) (sym (round-is f s a c)) (units-shape f s _ _)
-
-not-inf : (y : Float) (b d : ℕ) → HasValue y false b d → T (le (inf false) y) → ⊥
-unfolding le
-not-inf nan b d h l = l
-not-inf (inf s) b d h l = h
-not-inf (fin s m e) b d h l = l
-
--- ---- x is a number from lo / c to hi / c
-pub record Between (x : Float) (lo hi c : ℕ) : Type 0 where
-  pub top : ℕ
-  pub bottom : ℕ
-  pub some : 0 < bottom
-  pub value : HasValue x false top bottom
-  pub above : lo * bottom ≤ top * c
-  pub under : top * c ≤ hi * bottom
-
--- a fraction between two that the format holds is rounded to a number between them
-pub round-between :
-    (num den lo hi c : ℕ) → 0 < den → 0 < c → HasValue (round binary64 false lo c) false lo c → HasValue (round binary64 false hi c) false hi c
-    → lo * den ≤ num * c → num * c ≤ hi * den → Between (round binary64 false num den) lo hi c
-round-between num den lo hi c D C l h a b =
-    let z : Float = round binary64 false num den in
-    let low : T (le (round binary64 false lo c) z) = round-mono binary64 lo c num den C D a in
-    let high : T (le z (round binary64 false hi c)) = round-mono binary64 num den hi c D C b in
-    ⊎-elim (λ q. absurd (not-inf (round binary64 false hi c) hi c h (subst (λ (x : Float). T (le x (round binary64 false hi c))) q high)))
-    (λ (m, e, q).
-    let v : HasValue z false (m * up e) (down e) = subst (λ (x : Float). HasValue x false (m * up e) (down e)) (sym q) (refl, refl) in
-    record {
-      top = m * up e;
-      bottom = down e;
-      some = down-pos e;
-      value = v;
-      above = le-values (round binary64 false lo c) z lo c (m * up e) (down e) l v low;
-      under = le-values z (round binary64 false hi c) (m * up e) (down e) hi c v h high;
-    }) (round-shape binary64 false num den)
-
--- ---- what the format holds: whole numbers of 2 ^ -30 below 2 ^ 53 of them
-pub exact-fine : (n : ℕ) → n < 2 ^ 53 → HasValue (round binary64 false n (2 ^ 30)) false n (2 ^ 30)
-exact-fine n h =
-    round-exact binary64 false n (2 ^ 30) n 1044 (zero-lt-suc _) h
-    (lt-of-lt-of-le (mul-lt-mul-of-pos-right h (pow-pos 1044)) (pow-mono {i = 1097} {j = 2098} (omega arith)))
-    (sym (mul-assoc n (2 ^ 1044) (2 ^ 30)))

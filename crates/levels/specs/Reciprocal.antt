@@ -8,17 +8,17 @@ use lib.Ieee.{Float, fin, binary64, add, sub, mul, div, lt, ofInt}
 use Rattle.levels.specs.Clip.{plusZero}
 use Rattle.levels.specs.Level.{most}
 
--- 2 ^ -29
-abbrev pub tiny : Float
-tiny = fin false 1 (negsuc 28)
+-- 65535 + 2 ^ -29
+abbrev pub mostRaised : Float
+mostRaised = fin false 35183835217921 (negsuc 28)
 
 -- 2 ^ 52
 abbrev pub big : Float
 big = fin false 1 (pos 52)
 
--- 65535 / S
+-- 65535 / S, raised by so little that a half goes up and no other number to another whole one
 abbrev pub inverseOf : ℤ → Float
-inverseOf s = div binary64 most (ofInt binary64 s)
+inverseOf s = div binary64 mostRaised (ofInt binary64 s)
 
 -- the number if above 0, else +0.0; and at most 65535.0
 abbrev pub flooredOf : Float → Float
@@ -27,9 +27,9 @@ flooredOf x = cond (lt plusZero x) x plusZero
 abbrev pub cappedOf : Float → Float
 cappedOf x = cond (lt x most) x most
 
--- the nearest whole number: from 2 ^ 52 on an f64 has no fraction, and 2 ^ -29 sends a half up
+-- the nearest whole number: from 2 ^ 52 on an f64 has no fraction
 abbrev pub wholeOf : Float → Float
-wholeOf y = sub binary64 (add binary64 (add binary64 y tiny) big) big
+wholeOf y = sub binary64 (add binary64 y big) big
 
 -- L as f64, from D and the reciprocal
 abbrev pub levelBy : Float → Float → Float

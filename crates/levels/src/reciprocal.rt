@@ -14,12 +14,12 @@ pub fn number_of(z: i64) -> f64
     z as f64
 }
 
-// 65535 / S.
+// 65535 / S, raised by 2^-45 of itself, so that the product with a D that lies halfway goes up.
 pub fn inverse(s: i64) -> f64
     requires { ⌜ natAbs s < 0x1_0000_0000 ⌝ }
     ensures { λ r. ⌜ r ≡ inverseOf s ⌝ }
 {
-    65535.0 / number_of(s)
+    65535.00000000186264514923095703125 / number_of(s)
 }
 
 fn floored(x: f64) -> f64
@@ -34,11 +34,11 @@ fn capped(x: f64) -> f64
     if x < 65535.0 { x } else { 65535.0 }
 }
 
-// The nearest whole number of one from 0 to 65535, halves up.
+// The nearest whole number of one from 0 to 65535.
 fn whole(y: f64) -> f64
     ensures { λ r. ⌜ r ≡ wholeOf y ⌝ }
 {
-    ((y + 0.00000000186264514923095703125) + 4503599627370496.0) - 4503599627370496.0
+    (y + 4503599627370496.0) - 4503599627370496.0
 }
 
 // L, from D and its plane's reciprocal.
