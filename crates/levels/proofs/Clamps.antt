@@ -9,14 +9,14 @@ use native.Mathlib.Omega.{arith}
 use borrow.Author.Tests.{lt-ltb, lt-leb, le-leb}
 use lib.Dec.{leb}
 use lib.IntN.{ℤ, pos, negsuc, natAbs, _+ℤ_}
-use lib.Ieee.{Float, nan, inf, fin, binary64, add, sub, div, lt, ofInt}
+use lib.Ieee.{Float, nan, inf, fin, binary64, round, add, sub, div, lt, ofInt}
 use lib.Ieee.Exact.{HasValue}
 use Rattle.reading.proofs.Magnitude.{natAbs-add, natAbs-sub}
-use Rattle.reading.proofs.Wholes.{le-or-lt, int-value}
+use Rattle.reading.proofs.Wholes.{le-or-lt}
 use Rattle.levels.specs.Clip.{plusZero}
 use Rattle.levels.specs.Level.{differenceOf, levelOf, roundedOf, scaledOf, most}
-use Rattle.levels.specs.Reciprocal.{inverseOf, flooredOf, levelBy, SpanIn, DifferenceIs, BlackIs, InverseIs}
-use Rattle.levels.proofs.Values.{add-int, sub-int, lt-fractions}
+use Rattle.levels.specs.Reciprocal.{ofParts, inverseOf, flooredOf, levelBy, SpanIn, DifferenceIs, BlackIs, InverseIs}
+use Rattle.levels.proofs.Values.{parts-value, add-parts, sub-parts, lt-fractions}
 use Rattle.levels.proofs.Inverse.{rounded-none, rounded-full, level-by-reciprocal}
 
 -- ---- the clip at 0
@@ -31,8 +31,8 @@ lifted-le (negsuc n) = omega arith
 zero-value : HasValue plusZero false 0 1
 zero-value = (refl, refl)
 
-is-zero : ofInt binary64 (pos 0) ≡ plusZero
-unfolding ofInt
+is-zero : ofParts (pos 0) ≡ plusZero
+unfolding ofParts round
 is-zero = refl
 
 not-above : (x : Float) (a c : ℕ) → HasValue x true a c → lt plusZero x ≡ false
@@ -43,12 +43,12 @@ not-above (inf false) a c h = absurd h
 not-above (fin true m e) a c h = refl
 not-above (fin false m e) a c h = absurd (true≢false (sym (h .0)))
 
-floor-is : (z : ℤ) → natAbs z ≤ 2 ^ 53 → flooredOf (ofInt binary64 z) ≡ ofInt binary64 (pos (lifted z))
-floor-is (pos zero) h = rw (lt-fractions plusZero (ofInt binary64 (pos 0)) 0 1 0 1 (zero-lt-suc 0) (zero-lt-suc 0) zero-value (int-value (pos 0) h), is-zero)
+floor-is : (z : ℤ) → natAbs z < 2 ^ 53 → flooredOf (ofParts z) ≡ ofParts (pos (lifted z))
+floor-is (pos zero) h = rw (lt-fractions plusZero (ofParts (pos 0)) 0 1 0 256 (zero-lt-suc 0) (zero-lt-suc _) zero-value (parts-value (pos 0) h), is-zero)
 floor-is (pos (suc n)) h =
-    let x : Float = ofInt binary64 (pos (suc n)) in
-    rw (lt-fractions plusZero x 0 1 (suc n) 1 (zero-lt-suc 0) (zero-lt-suc 0) zero-value (int-value (pos (suc n)) h), lt-ltb (0 * 1) (suc n * 1) (omega arith))
-floor-is (negsuc n) h = rw (not-above (ofInt binary64 (negsuc n)) (suc n) 1 (int-value (negsuc n) h), is-zero)
+    let x : Float = ofParts (pos (suc n)) in
+    rw (lt-fractions plusZero x 0 1 (suc n) 256 (zero-lt-suc 0) (zero-lt-suc _) zero-value (parts-value (pos (suc n)) h), lt-ltb (0 * 256) (suc n * 1) (omega arith))
+floor-is (negsuc n) h = rw (not-above (ofParts (negsuc n)) (suc n) 256 (parts-value (negsuc n) h), is-zero)
 
 -- ---- the level of a clipped D
 level-is : (z : ℤ) (s : ℕ) → 0 < s → levelOf z (pos s) ≡ roundedOf (65535 * min (lifted z) s) s
@@ -67,7 +67,7 @@ level-is-by z span d r p q =
     let s : ℕ = natAbs span in
     let i : SpanIn span = q .inside in
     let n : natAbs z ≤ 67107840 = p .small in
-    let f : flooredOf d ≡ ofInt binary64 (pos (lifted z)) = ap flooredOf (p .number) ∙ floor-is z (omega arith) in
+    let f : flooredOf d ≡ ofParts (pos (lifted z)) = ap flooredOf (p .number) ∙ floor-is z (omega arith) in
     let e : r ≡ inverseOf (pos s) = q .number ∙ ap inverseOf (i .whole) in
     rw (f, e) (level-by-reciprocal s (lifted z) (i .some) (omega (arith, i .small)) (omega (arith, lifted-le z)))
     ∙ ap (λ (m : ℕ). ofInt binary64 (pos m)) (sym (level-is z s (i .some)) ∙ ap (levelOf z) (sym (i .whole)))
@@ -76,11 +76,11 @@ difference-most : (v : ℕ) (black : ℤ) → v ≤ 65535 → natAbs black ≤ 5
 difference-most v black h k = omega (arith, natAbs-sub (pos (256 * v)) black)
 
 pub difference-is : (v : ℕ) (black : ℤ) (b : Float) → v ≤ 65535 → BlackIs black b
-    → DifferenceIs (differenceOf v black) (sub binary64 (ofInt binary64 (pos (256 * v))) b)
+    → DifferenceIs (differenceOf v black) (sub binary64 (ofInt binary64 (pos v)) b)
 difference-is v black b h p =
     record {
       small = difference-most v black h (p .small);
-      number = ap (sub binary64 (ofInt binary64 (pos (256 * v)))) (p .number) ∙ sub-int (256 * v) black (omega arith) (omega (arith, p .small));
+      number = ap (sub binary64 (ofInt binary64 (pos v))) (p .number) ∙ sub-parts v black (omega arith) (omega (arith, p .small));
     }
 
 pub scaled-is-by : (z span : ℤ) (d r : Float) → DifferenceIs z d → InverseIs span r → div binary64 (levelBy d r) most ≡ scaledOf (levelOf z span)
@@ -91,5 +91,5 @@ pub black-sum-is : (a b : ℤ) (x y : Float) → BlackIs a x → BlackIs b y →
 black-sum-is a b x y p q h =
     record {
       small = omega (arith, natAbs-add a b);
-      number = ap (λ (z : Float). add binary64 z y) (p .number) ∙ ap (add binary64 (ofInt binary64 a)) (q .number) ∙ add-int a b (omega arith) (omega arith);
+      number = ap (λ (z : Float). add binary64 z y) (p .number) ∙ ap (add binary64 (ofParts a)) (q .number) ∙ add-parts a b (omega arith) (omega arith);
     }

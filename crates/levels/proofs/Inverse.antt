@@ -5,7 +5,7 @@ use mathlib.Core.Path.{_≡_, refl, sym, ap, _∙_, subst}
 use mathlib.Core.Logic.{⊎-elim}
 use mathlib.Core.Bool.{false}
 use Prim.Native.Nat.{ℕ, _+_, _-_, _*_, _/_, _^_, _≤_, _<_, min}
-use native.Mathlib.Nat.{le-trans, le-of-eq, le-of-lt, lt-of-le-of-lt, mul-comm, mul-assoc, mul-left-comm, mul-right-comm, mul-one, add-mul}
+use native.Mathlib.Nat.{le-trans, le-of-eq, le-of-lt, lt-of-le-of-lt, mul-comm, mul-assoc, mul-left-comm, mul-right-comm, mul-mul-mul-comm, mul-one, add-mul}
 use native.Mathlib.Nat.{mul-le-mul-left, mul-le-mul-right, lt-of-mul-lt-mul-right, le-of-mul-le-mul-right, zero-mul, div-eq-of-lt}
 use native.Mathlib.Nat.{mul-pos, zero-lt-suc, div-mul-le-self, lt-div-mul-add, div-lt-iff-lt-mul, le-div-iff-mul-le}
 use native.Mathlib.Omega.{arith}
@@ -20,15 +20,15 @@ use lib.Ieee.Exact.{HasValue}
 use lib.Ieee.Order.{round-mono}
 use lib.Ieee.Scale.{grid, round-val, round-same, normal-of-fraction}
 use lib.Ieee.Nearest.{closest}
-use Rattle.reading.proofs.Wholes.{le-or-lt, int-value}
+use Rattle.reading.proofs.Wholes.{le-or-lt}
 use Rattle.levels.specs.Level.{roundedOf, most}
-use Rattle.levels.specs.Reciprocal.{big, wholeOf, cappedOf, inverseOf}
+use Rattle.levels.specs.Reciprocal.{ofParts, big, wholeOf, cappedOf, inverseOf}
 use Rattle.levels.proofs.Nearness.{Close, CloseTwice, close-most, close-least, close-cancel, product-close, closest-is, round-close, whole-of}
-use Rattle.levels.proofs.Values.{mul-values, add-values, sub-down, div-values, lt-fractions, le-values, Shape, round-shape}
+use Rattle.levels.proofs.Values.{parts-value, mul-values, add-values, sub-down, div-values, lt-fractions, le-values, Shape, round-shape}
 
 -- ---- 65535 / S, raised
 abbrev spanOf : ℕ → ℕ
-spanOf S = S * 536870912
+spanOf S = S * 2097152
 
 abbrev gridOf : ℕ → ℕ
 gridOf S = grid binary64 35183835217921 (spanOf S)
@@ -37,12 +37,11 @@ module _ (S : ℕ) (some : 0 < S) (small : S < 67108864) where
   span-some : 0 < spanOf S
   span-some = mul-pos some (zero-lt-suc _)
 
-  span-most : spanOf S ≤ 36028797018963968
+  span-most : spanOf S ≤ 140737488355328
   span-most = omega arith
 
   reciprocal-is : inverseOf (pos S) ≡ round binary64 false 35183835217921 (spanOf S)
-  unfolding ofInt
-  reciprocal-is = div-values (round binary64 false S 1) S some (round-whole binary64 false S (omega arith))
+  reciprocal-is = div-values (ofParts (pos S)) S some (parts-value (pos S) (omega arith))
 
   reciprocal-close : Close (35183835217921 * 2 ^ 1074) (gridOf S * spanOf S)
   reciprocal-close =
@@ -60,12 +59,12 @@ module _ (S : ℕ) (some : 0 < S) (small : S < 67108864) where
       subst (λ (x : Float). HasValue x false (gridOf S) (2 ^ 1074)) (sym reciprocal-is)
       (round-val binary64 35183835217921 (spanOf S) (lt-of-le-of-lt grid-most (lit< tt)))
 
-  grid-least : 4503599627370496 ≤ gridOf S
+  grid-least : 2 ^ 60 ≤ gridOf S
   grid-least =
-      let h : 35183835217921 * 2 ^ 1074 ≤ 2 * (gridOf S * 36028797018963968) =
+      let h : 35183835217921 * 2 ^ 1074 ≤ 2 * (gridOf S * 140737488355328) =
       le-trans (close-least (35183835217921 * 2 ^ 1074) (gridOf S * spanOf S) reciprocal-close) (mul-le-mul-left 2 (mul-le-mul-left (gridOf S) span-most)) in
-      let e : 2 * (gridOf S * 36028797018963968) ≡ gridOf S * 72057594037927936 = omega arith in
-      le-of-mul-le-mul-right {k = 72057594037927936} (le-trans (lit≤ tt) (le-trans h (le-of-eq e))) (zero-lt-suc _)
+      let e : 2 * (gridOf S * 140737488355328) ≡ gridOf S * 281474976710656 = omega arith in
+      le-of-mul-le-mul-right {k = 281474976710656} (le-trans (lit≤ tt) (le-trans h (le-of-eq e))) (zero-lt-suc _)
 
 -- ---- L is 65535 D / S, rounded
 module _ (S D : ℕ) (some : 0 < S) where
@@ -99,41 +98,45 @@ module _ (S D : ℕ) (some : 0 < S) where
 
 -- ---- D times the reciprocal of S
 abbrev productOf : ℕ → ℕ → Float
-productOf S D = mul binary64 (ofInt binary64 (pos D)) (inverseOf (pos S))
+productOf S D = mul binary64 (ofParts (pos D)) (inverseOf (pos S))
 
 abbrev productGrid : ℕ → ℕ → ℕ
-productGrid S D = grid binary64 (D * gridOf S) (1 * 2 ^ 1074)
+productGrid S D = grid binary64 (D * gridOf S) (256 * 2 ^ 1074)
 
-product-is : (S D : ℕ) → 0 < S → S < 67108864 → D ≤ 2 ^ 53 → productOf S D ≡ round binary64 false (D * gridOf S) (1 * 2 ^ 1074)
+unit-some : 0 < 256 * 2 ^ 1074
+unit-some = mul-pos (zero-lt-suc 255) (pow-pos 1074)
+
+product-is : (S D : ℕ) → 0 < S → S < 67108864 → D < 2 ^ 53 → productOf S D ≡ round binary64 false (D * gridOf S) (256 * 2 ^ 1074)
 product-is S D some small reach =
-    mul-values (ofInt binary64 (pos D)) (inverseOf (pos S)) D 1 (gridOf S) (2 ^ 1074) (zero-lt-suc 0) (pow-pos 1074)
-    (int-value (pos D) reach) (reciprocal-value S some small)
+    mul-values (ofParts (pos D)) (inverseOf (pos S)) D 256 (gridOf S) (2 ^ 1074) (zero-lt-suc _) (pow-pos 1074)
+    (parts-value (pos D) reach) (reciprocal-value S some small)
 
 module _ (S D : ℕ) (some : 0 < S) (small : S < 67108864) (any : 0 < D) (few : D < 67108864) where
-  product-least : 4503599627370496 ≤ D * gridOf S
+  product-least : 2 ^ 60 ≤ D * gridOf S
   product-least = le-trans (grid-least S some small) (le-trans (times-more S some small (gridOf S) D any) (le-of-eq (mul-comm (gridOf S) D)))
 
-  once : Close (D * gridOf S) (productGrid S D)
+  once : Close (D * gridOf S) (productGrid S D * 256)
   once =
-      close-cancel (D * gridOf S) (productGrid S D) (2 ^ 1074) (pow-pos 1074)
-      (round-close (D * gridOf S) (1 * 2 ^ 1074) (pow-pos 1074)
-      (normal-of-fraction binary64 (D * gridOf S) (1 * 2 ^ 1074) (pow-pos 1074) (mul-le-mul-right (2 ^ 1074) product-least)))
+      close-cancel (D * gridOf S) (productGrid S D * 256) (2 ^ 1074) (pow-pos 1074)
+      (subst (Close (D * gridOf S * 2 ^ 1074)) (sym (mul-assoc (productGrid S D) 256 (2 ^ 1074)))
+      (round-close (D * gridOf S) (256 * 2 ^ 1074) unit-some
+      (normal-of-fraction binary64 (D * gridOf S) (256 * 2 ^ 1074) unit-some (mul-le-mul-right (2 ^ 1074) product-least))))
 
   product-most : productGrid S D ≤ 2 * (67108864 * (2 * (35183835217921 * 2 ^ 1074)))
   product-most =
-      le-trans (close-most (D * gridOf S) (productGrid S D) once)
-      (mul-le-mul-left 2 (le-trans (mul-le-mul-right (gridOf S) (le-of-lt few)) (mul-le-mul-left 67108864 (grid-most S some small))))
+      le-trans (times-more S some small (productGrid S D) 256 (zero-lt-suc _)) (le-trans (close-most (D * gridOf S) (productGrid S D * 256) once)
+      (mul-le-mul-left 2 (le-trans (mul-le-mul-right (gridOf S) (le-of-lt few)) (mul-le-mul-left 67108864 (grid-most S some small)))))
 
   product-value : HasValue (productOf S D) false (productGrid S D) (2 ^ 1074)
   product-value =
       subst (λ (x : Float). HasValue x false (productGrid S D) (2 ^ 1074)) (sym (product-is S D some small (omega arith)))
-      (round-val binary64 (D * gridOf S) (1 * 2 ^ 1074) (lt-of-le-of-lt product-most (lit< tt)))
+      (round-val binary64 (D * gridOf S) (256 * 2 ^ 1074) (lt-of-le-of-lt product-most (lit< tt)))
 
   twice-over : CloseTwice (35183835217921 * (2 ^ 1074 * D)) (productGrid S D * S * 536870912)
   twice-over =
       subst (λ (n : ℕ). CloseTwice n (productGrid S D * S * 536870912)) (mul-assoc 35183835217921 (2 ^ 1074) D)
-      (subst (CloseTwice (35183835217921 * 2 ^ 1074 * D)) (sym (mul-assoc (productGrid S D) S 536870912))
-      (product-close (35183835217921 * 2 ^ 1074) (gridOf S) (spanOf S) D (productGrid S D) (reciprocal-close S some small) once))
+      (subst (CloseTwice (35183835217921 * 2 ^ 1074 * D)) (mul-mul-mul-comm (productGrid S D) 256 S 2097152)
+      (product-close (35183835217921 * 2 ^ 1074) (gridOf S) (spanOf S) D (productGrid S D * 256) (reciprocal-close S some small) once))
 
 -- ---- the product against 65535 D / S: above it, and by less than the distance of the next half from it. X is D, and Y the product times S,
 -- both in units of 1 / P
@@ -305,8 +308,8 @@ module _ (S D : ℕ) (some : 0 < S) (small : S < 67108864) where
   level-none e =
       let z : HasValue (round binary64 false 0 1) false 0 1 = round-whole binary64 false 0 (omega arith) in
       let q : productOf S 0 ≡ round binary64 false 0 1 = product-is S 0 some small (omega arith)
-      ∙ round-same binary64 false (0 * gridOf S) (1 * 2 ^ 1074) 0 1 (pow-pos 1074) (zero-lt-suc 0)
-      (ap (λ (z : ℕ). z * 1) (zero-mul (gridOf S)) ∙ sym (zero-mul (1 * 2 ^ 1074))) in
+      ∙ round-same binary64 false (0 * gridOf S) (256 * 2 ^ 1074) 0 1 unit-some (zero-lt-suc 0)
+      (ap (λ (z : ℕ). z * 1) (zero-mul (gridOf S)) ∙ sym (zero-mul (256 * 2 ^ 1074))) in
       subst (λ (x : Float). NearWhole x 0) (sym (ap (productOf S) e ∙ q))
       (record { top = 0; bottom = 1; some = zero-lt-suc 0; value = z; above = omega arith; under = omega arith })
 
@@ -330,20 +333,20 @@ module _ (S D : ℕ) (some : 0 < S) (small : S < 67108864) where
       (mul-pos (pow-pos 1074) some) in
       le-of-mul-le-mul-right (le-trans (le-of-eq (mul-assoc 65535 P S)) (le-of-lt l)) some
 
-  level-over : S ≤ D → D ≤ 2 ^ 53 → wholeOf (cappedOf (productOf S D)) ≡ ofInt binary64 (pos 65535)
+  level-over : S ≤ D → D < 2 ^ 53 → wholeOf (cappedOf (productOf S D)) ≡ ofInt binary64 (pos 65535)
   level-over over reach =
       let shape : Shape false (productOf S D) = subst (Shape false) (sym (product-is S D some small reach))
-      (round-shape binary64 false (D * gridOf S) (1 * 2 ^ 1074)) in
-      let more : S * gridOf S * (1 * 2 ^ 1074) ≤ D * gridOf S * (1 * 2 ^ 1074) = mul-le-mul-right (2 ^ 1074) (mul-le-mul-right (gridOf S) over) in
+      (round-shape binary64 false (D * gridOf S) (256 * 2 ^ 1074)) in
+      let more : S * gridOf S * (256 * 2 ^ 1074) ≤ D * gridOf S * (256 * 2 ^ 1074) = mul-le-mul-right (256 * 2 ^ 1074) (mul-le-mul-right (gridOf S) over) in
       let low : T (le (productOf S S) (productOf S D)) =
       subst (λ (x : Float). T (le x (productOf S D))) (sym (product-is S S some small (omega arith)))
-      (subst (λ (x : Float). T (le (round binary64 false (S * gridOf S) (1 * 2 ^ 1074)) x)) (sym (product-is S D some small reach))
-      (round-mono binary64 (S * gridOf S) (1 * 2 ^ 1074) (D * gridOf S) (1 * 2 ^ 1074) (pow-pos 1074) (pow-pos 1074) more)) in
+      (subst (λ (x : Float). T (le (round binary64 false (S * gridOf S) (256 * 2 ^ 1074)) x)) (sym (product-is S D some small reach))
+      (round-mono binary64 (S * gridOf S) (256 * 2 ^ 1074) (D * gridOf S) (256 * 2 ^ 1074) unit-some unit-some more)) in
       let e : cappedOf (productOf S D) ≡ most =
       capped-over (productOf S D) (productOf S S) (productGrid S S) (2 ^ 1074) shape (pow-pos 1074) (product-value S S some small some small) full-over low in
       ap wholeOf e ∙ whole-is 65535 (omega arith) most (most-near 65535 refl)
 
-  pub level-by-reciprocal : D ≤ 2 ^ 53 → wholeOf (cappedOf (productOf S D)) ≡ ofInt binary64 (pos (roundedOf (65535 * min D S) S))
+  pub level-by-reciprocal : D < 2 ^ 53 → wholeOf (cappedOf (productOf S D)) ≡ ofInt binary64 (pos (roundedOf (65535 * min D S) S))
   level-by-reciprocal reach =
       ⊎-elim (λ l. let e : min D S ≡ D = omega arith in level-inside l ∙ ap (λ (m : ℕ). ofInt binary64 (pos (roundedOf (65535 * m) S))) (sym e))
       (λ l. let e : min D S ≡ S = omega arith in

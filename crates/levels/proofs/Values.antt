@@ -4,7 +4,7 @@ use mathlib.Core.Path.{_≡_, refl, sym, ap, _∙_, subst}
 use mathlib.Core.Logic.{_⊎_, inl, inr, ⊎-elim}
 use mathlib.Core.Bool.{Bool, true, false, not, _&&_, _||_, cond, Bool·beq, true≢false}
 use Prim.Native.Nat.{ℕ, zero, suc, _+_, _-_, _*_, _^_, _≤_, _<_}
-use native.Mathlib.Nat.{lt-of-lt-of-le, le-of-eq, le-of-lt, mul-comm, mul-assoc, mul-left-comm, mul-mul-mul-comm, add-mul, mul-sub, mul-one, mul-pos}
+use native.Mathlib.Nat.{lt-of-lt-of-le, le-of-eq, le-of-lt, mul-comm, mul-assoc, mul-left-comm, mul-right-comm, mul-mul-mul-comm, add-mul, mul-sub, mul-one, mul-pos}
 use native.Mathlib.Nat.{zero-mul, zero-lt-suc}
 use native.Mathlib.Nat.{mul-le-mul-right, mul-lt-mul-of-pos-right}
 use native.Mathlib.Omega.{arith}
@@ -18,7 +18,7 @@ use lib.Ieee.Exact.{HasValue, round-exact}
 use lib.Ieee.Order.{transfer, round-mono}
 use lib.Ieee.Scale.{round-same}
 use Rattle.reading.proofs.Wholes.{le-or-lt, negative, int-value}
-use Rattle.levels.specs.Reciprocal.{mostRaised}
+use Rattle.levels.specs.Reciprocal.{mostRaised, parts, ofParts}
 
 -- ---- the product
 mul-opened : (m : ℕ) (e : ℤ) (n : ℕ) (d : ℤ) → mul binary64 (fin false m e) (fin false n d) ≡ round binary64 false (m * up e * (n * up d)) (down e * down d)
@@ -40,29 +40,33 @@ mul-values (fin false m e) (fin false n g) a c b d C D h k =
     ∙ round-same binary64 false (m * up e * (n * up g)) (down e * down g) (a * b) (c * d) (mul-pos (down-pos e) (down-pos g)) (mul-pos C D)
     (mul-mul-mul-comm (m * up e) (n * up g) c d ∙ r ∙ mul-mul-mul-comm a (down e) b (down g))
 
--- ---- 65535 + 2 ^ -29, divided by a whole number
+-- ---- 65535 + 2 ^ -29, divided by a number of 256ths
 div-opened : (n : ℕ) (d : ℤ) →
     div binary64 mostRaised (fin false n d) ≡ cond (eqb n 0) (inf false) (round binary64 false (35183835217921 * 1 * down d) (n * up d * 536870912))
 unfolding div
 div-opened n d = refl
 
-some-of : (n u b d : ℕ) → 0 < b → 0 < d → n * u * 1 ≡ b * d → n ≡ 0 → ⊥
+some-of : (n u b d : ℕ) → 0 < b → 0 < d → n * u * 256 ≡ b * d → n ≡ 0 → ⊥
 some-of n u b d B D h z =
-    let l : n * u * 1 ≡ 0 = ap (λ (k : ℕ). k * u * 1) z ∙ ap (λ (k : ℕ). k * 1) (zero-mul u) in
+    let l : n * u * 256 ≡ 0 = ap (λ (k : ℕ). k * u * 256) z ∙ ap (λ (k : ℕ). k * 256) (zero-mul u) in
     omega (arith, mul-pos B D)
 
-pub div-values : (y : Float) (b : ℕ) → 0 < b → HasValue y false b 1 → div binary64 mostRaised y ≡ round binary64 false 35183835217921 (b * 536870912)
+some-times : (x y : ℕ) → 0 < y → x * 256 ≡ y → 0 < x * 536870912
+some-times x y h e = omega arith
+
+cross-div : (x d b : ℕ) → x * 256 ≡ b * d → d * (b * 2097152) ≡ x * 536870912
+cross-div x d b e = omega (arith, mul-left-comm d b 2097152, sym (mul-assoc b d 2097152))
+
+pub div-values : (y : Float) (b : ℕ) → 0 < b → HasValue y false b 256 → div binary64 mostRaised y ≡ round binary64 false 35183835217921 (b * 2097152)
 div-values nan b B h = absurd h
 div-values (inf s) b B h = absurd h
 div-values (fin true n d) b B h = absurd (true≢false (h .0))
 div-values (fin false n d) b B h =
-    let e : n * up d ≡ b * down d = sym (mul-one (n * up d)) ∙ h .1 in
-    let p : 0 < n * up d * 536870912 = mul-pos (subst (λ (z : ℕ). 0 < z) (sym e) (mul-pos B (down-pos d))) (zero-lt-suc _) in
     let r : Float = round binary64 false (35183835217921 * 1 * down d) (n * up d * 536870912) in
-    let x : down d * (b * 536870912) ≡ b * down d * 536870912 = mul-left-comm (down d) b 536870912 ∙ sym (mul-assoc b (down d) 536870912) in
     div-opened n d ∙ ap (λ (t : Bool). cond t (inf false) r) (ne-eqb n 0 (some-of n (up d) b (down d) B (down-pos d) (h .1)))
-    ∙ round-same binary64 false (35183835217921 * 1 * down d) (n * up d * 536870912) 35183835217921 (b * 536870912) p (mul-pos B (zero-lt-suc _))
-    (mul-assoc 35183835217921 (down d) (b * 536870912) ∙ ap (λ (z : ℕ). 35183835217921 * z) (x ∙ ap (λ (z : ℕ). z * 536870912) (sym e)))
+    ∙ round-same binary64 false (35183835217921 * 1 * down d) (n * up d * 536870912) 35183835217921 (b * 2097152)
+    (some-times (n * up d) (b * down d) (mul-pos B (down-pos d)) (h .1)) (mul-pos B (zero-lt-suc _))
+    (mul-assoc 35183835217921 (down d) (b * 2097152) ∙ ap (λ (z : ℕ). 35183835217921 * z) (cross-div (n * up d) (down d) b (h .1)))
 
 -- ---- the sum of fractions that are not negative
 add-opened : (s : Bool) (m : ℕ) (e : ℤ) (t : Bool) (n : ℕ) (d : ℤ) →
@@ -100,100 +104,155 @@ add-values (fin false m e) (fin false n g) a c b d C D h k =
     ∙ round-same binary64 false (x + y) (down e * down g) (a * d + b * c) (c * d) (mul-pos (down-pos e) (down-pos g)) (mul-pos C D)
     (cross-add (m * up e) (n * up g) (down e) (down g) a b c d (h .1) (k .1))
 
--- ---- the sum of whole numbers, each with its sign
+-- ---- the sum of fractions over the same number, each with its sign
 times-sub : (a b w : ℕ) → a * w - b * w ≡ (a - b) * w
 times-sub a b w =
     sym (mul-comm (a - b) w ∙ mul-sub w a b ∙ ap (λ (z : ℕ). z - w * b) (mul-comm w a) ∙ ap (λ (z : ℕ). a * w - z) (mul-comm w b))
 
-module _ (w : ℕ) (some : 0 < w) where
-  ltb-scale : (a b : ℕ) → ltb (a * w) (b * w) ≡ ltb a b
-  ltb-scale a b =
-      ⊎-elim (λ l. le-ltb (a * w) (b * w) (mul-le-mul-right w l) ∙ sym (le-ltb a b l))
-      (λ l. lt-ltb (a * w) (b * w) (mul-lt-mul-of-pos-right l some) ∙ sym (lt-ltb a b l)) (le-or-lt b a)
+ltb-scale : (w : ℕ) → 0 < w → (a b : ℕ) → ltb (a * w) (b * w) ≡ ltb a b
+ltb-scale w some a b =
+    ⊎-elim (λ l. le-ltb (a * w) (b * w) (mul-le-mul-right w l) ∙ sym (le-ltb a b l))
+    (λ l. lt-ltb (a * w) (b * w) (mul-lt-mul-of-pos-right l some) ∙ sym (lt-ltb a b l)) (le-or-lt b a)
 
-  round-scale : (s : Bool) (x a : ℕ) → x ≡ a * w → round binary64 s x w ≡ round binary64 s a 1
-  round-scale s x a e = round-same binary64 s x w a 1 some (zero-lt-suc 0) (mul-one x ∙ e)
+module _ (c w : ℕ) (C : 0 < c) (some : 0 < w) where
+  module _ (x y a b : ℕ) (p : x * c ≡ a * w) (q : y * c ≡ b * w) where
+    ltb-cross : ltb x y ≡ ltb a b
+    ltb-cross = sym (ltb-scale c C x y) ∙ (λ i. ltb (p i) (q i)) ∙ ltb-scale w some a b
 
-  sum-scale : (s t : Bool) (a b : ℕ) → sum binary64 s (a * w) t (b * w) w ≡ sum binary64 s a t b 1
+    add-cross : (x + y) * c ≡ (a + b) * w
+    add-cross = add-mul x y c ∙ (λ i. p i + q i) ∙ sym (add-mul a b w)
+
+    sub-cross : (x - y) * c ≡ (a - b) * w
+    sub-cross = sym (times-sub x y c) ∙ (λ i. p i - q i) ∙ times-sub a b w
+
+  round-cross : (s : Bool) (x a : ℕ) → x * c ≡ a * w → round binary64 s x w ≡ round binary64 s a c
+  round-cross s x a e = round-same binary64 s x w a c some C e
+
+  sum-cross : (s t : Bool) (x y a b : ℕ) → x * c ≡ a * w → y * c ≡ b * w → sum binary64 s x t y w ≡ sum binary64 s a t b c
   unfolding sum
-  sum-scale s t a b =
-      let u = round-scale s (a * w + b * w) (a + b) (sym (add-mul a b w)) in
-      let v = round-scale t (b * w - a * w) (b - a) (times-sub b a w) in
-      let x = ap (λ (z : Bool). round binary64 (s && z) (a * w - b * w) w) (ltb-scale b a)
-      ∙ round-scale (s && ltb b a) (a * w - b * w) (a - b) (times-sub a b w) in
-      λ i. cond (Bool·beq s t) (u i) (cond (ltb-scale a b i) (v i) (x i))
+  sum-cross s t x y a b p q =
+      let u = round-cross s (x + y) (a + b) (add-cross x y a b p q) in
+      let v = round-cross t (y - x) (b - a) (sub-cross y x b a q p) in
+      let z = ap (λ (k : Bool). round binary64 (s && k) (x - y) w) (ltb-cross y x b a q p)
+      ∙ round-cross (s && ltb b a) (x - y) (a - b) (sub-cross x y a b p q) in
+      λ i. cond (Bool·beq s t) (u i) (cond (ltb-cross x y a b p q i) (v i) (z i))
 
-whole-cross : (x e g a : ℕ) → x * 1 ≡ a * e → x * g ≡ a * (e * g)
-whole-cross x e g a p = ap (λ (z : ℕ). z * g) (sym (mul-one x) ∙ p) ∙ mul-assoc a e g
+cross : (x e g a c : ℕ) → x * c ≡ a * e → x * g * c ≡ a * (e * g)
+cross x e g a c p = mul-right-comm x g c ∙ ap (λ (z : ℕ). z * g) p ∙ mul-assoc a e g
 
-whole-sum : (x y : Float) (s t : Bool) (a b : ℕ) → HasValue x s a 1 → HasValue y t b 1 → add binary64 x y ≡ sum binary64 s a t b 1
-whole-sum nan y s t a b h k = absurd h
-whole-sum (inf u) y s t a b h k = absurd h
-whole-sum (fin u m e) nan s t a b h k = absurd k
-whole-sum (fin u m e) (inf v) s t a b h k = absurd k
-whole-sum (fin u m e) (fin v n g) s t a b h k =
+same-sum : (x y : Float) (s t : Bool) (a b c : ℕ) → 0 < c → HasValue x s a c → HasValue y t b c → add binary64 x y ≡ sum binary64 s a t b c
+same-sum nan y s t a b c C h k = absurd h
+same-sum (inf u) y s t a b c C h k = absurd h
+same-sum (fin u m e) nan s t a b c C h k = absurd k
+same-sum (fin u m e) (inf v) s t a b c C h k = absurd k
+same-sum (fin u m e) (fin v n g) s t a b c C h k =
     let w : ℕ = down e * down g in
-    let p : m * up e * down g ≡ a * w = whole-cross (m * up e) (down e) (down g) a (h .1) in
-    let q : n * up g * down e ≡ b * w = whole-cross (n * up g) (down g) (down e) b (k .1) ∙ ap (λ (z : ℕ). b * z) (mul-comm (down g) (down e)) in
-    add-opened u m e v n g ∙ (λ i. sum binary64 ((h .0) i) (p i) ((k .0) i) (q i) w) ∙ sum-scale w (mul-pos (down-pos e) (down-pos g)) s t a b
+    let x : ℕ = m * up e * down g in
+    let y : ℕ = n * up g * down e in
+    let q : y * c ≡ b * w = cross (n * up g) (down g) (down e) b c (k .1) ∙ ap (λ (z : ℕ). b * z) (mul-comm (down g) (down e)) in
+    add-opened u m e v n g ∙ (λ i. sum binary64 ((h .0) i) x ((k .0) i) y w)
+    ∙ sum-cross c w C (mul-pos (down-pos e) (down-pos g)) s t x y a b (cross (m * up e) (down e) (down g) a c (h .1)) q
+
+-- z / c, rounded
+abbrev roundOf : ℕ → ℤ → Float
+roundOf c z = round binary64 (negative z) (natAbs z) c
 
 flip : (a b : ℕ) → a < b → b - a ≡ suc (b - suc a)
 flip a b l = omega arith
 
-sum-int : (a b : ℤ) → sum binary64 (negative a) (natAbs a) (negative b) (natAbs b) 1 ≡ ofInt binary64 (a +ℤ b)
-unfolding sum ofInt
-sum-int (pos a) (pos b) = refl
-sum-int (negsuc a) (negsuc b) = let e : suc a + suc b ≡ suc (suc (a + b)) = omega arith in ap (λ (n : ℕ). round binary64 true n 1) e
-sum-int (pos a) (negsuc b) =
+sum-is : (c : ℕ) (a b : ℤ) → sum binary64 (negative a) (natAbs a) (negative b) (natAbs b) c ≡ roundOf c (a +ℤ b)
+unfolding sum
+sum-is c (pos a) (pos b) = refl
+sum-is c (negsuc a) (negsuc b) = let e : suc a + suc b ≡ suc (suc (a + b)) = omega arith in ap (λ (n : ℕ). round binary64 true n c) e
+sum-is c (pos a) (negsuc b) =
     ⊎-elim (λ l. let t = le-ltb a (suc b) l in rw t)
-    (λ l. let t = lt-ltb a (suc b) l in rw t (ap (λ (n : ℕ). round binary64 true n 1) (flip a (suc b) l)))
+    (λ l. let t = lt-ltb a (suc b) l in rw t (ap (λ (n : ℕ). round binary64 true n c) (flip a (suc b) l)))
     (le-or-lt (suc b) a)
-sum-int (negsuc a) (pos b) =
+sum-is c (negsuc a) (pos b) =
     ⊎-elim
     (λ l. ⊎-elim
     (λ k. let t = le-ltb b (suc a) l in
     let u = le-ltb (suc a) b k in
     let e : suc a - b ≡ b - suc a = omega arith in
-    rw (t, u) (ap (λ (n : ℕ). round binary64 false n 1) e))
+    rw (t, u) (ap (λ (n : ℕ). round binary64 false n c) e))
     (λ k. let t = le-ltb b (suc a) l in
     let u = lt-ltb (suc a) b k in
     rw (t, u))
     (le-or-lt b (suc a)))
     (λ l. let t = lt-ltb b (suc a) l in
     let u = le-ltb (suc a) b (le-of-lt l) in
-    rw (t, u) (ap (λ (n : ℕ). round binary64 true n 1) (flip b (suc a) l)))
+    rw (t, u) (ap (λ (n : ℕ). round binary64 true n c) (flip b (suc a) l)))
     (le-or-lt (suc a) b)
 
-pub add-int : (a b : ℤ) → natAbs a ≤ 2 ^ 53 → natAbs b ≤ 2 ^ 53 → add binary64 (ofInt binary64 a) (ofInt binary64 b) ≡ ofInt binary64 (a +ℤ b)
-add-int a b h k = whole-sum (ofInt binary64 a) (ofInt binary64 b) (negative a) (negative b) (natAbs a) (natAbs b) (int-value a h) (int-value b k) ∙ sum-int a b
-
 -- ---- the difference
-neg-value : (y : Float) (t : Bool) (b : ℕ) → HasValue y t b 1 → HasValue (neg y) (not t) b 1
+neg-value : (y : Float) (t : Bool) (b c : ℕ) → HasValue y t b c → HasValue (neg y) (not t) b c
 unfolding neg
-neg-value nan t b h = h
-neg-value (inf u) t b h = h
-neg-value (fin u n g) t b h = (ap not (h .0), h .1)
+neg-value nan t b c h = h
+neg-value (inf u) t b c h = h
+neg-value (fin u n g) t b c h = (ap not (h .0), h .1)
 
-whole-difference : (x y : Float) (s t : Bool) (a b : ℕ) → HasValue x s a 1 → HasValue y t b 1 → sub binary64 x y ≡ sum binary64 s a (not t) b 1
+same-difference : (x y : Float) (s t : Bool) (a b c : ℕ) → 0 < c → HasValue x s a c → HasValue y t b c → sub binary64 x y ≡ sum binary64 s a (not t) b c
 unfolding sub
-whole-difference x y s t a b h k = whole-sum x (neg y) s (not t) a b h (neg-value y t b k)
+same-difference x y s t a b c C h k = same-sum x (neg y) s (not t) a b c C h (neg-value y t b c k)
 
-sum-minus : (a b : ℕ) → b ≤ a → sum binary64 false a true b 1 ≡ round binary64 false (a - b) 1
+sum-minus : (a b c : ℕ) → b ≤ a → sum binary64 false a true b c ≡ round binary64 false (a - b) c
 unfolding sum
-sum-minus a b l = rw (le-ltb a b l)
+sum-minus a b c l = rw (le-ltb a b l)
 
 pub sub-down : (x y : Float) (a b : ℕ) → HasValue x false a 1 → HasValue y false b 1 → b ≤ a → sub binary64 x y ≡ round binary64 false (a - b) 1
-sub-down x y a b h k l = whole-difference x y false false a b h k ∙ sum-minus a b l
+sub-down x y a b h k l = same-difference x y false false a b 1 (zero-lt-suc 0) h k ∙ sum-minus a b 1 l
 
-minus-int : (a : ℕ) (b : ℤ) → sum binary64 false a (not (negative b)) (natAbs b) 1 ≡ ofInt binary64 (pos a -ℤ b)
-unfolding ofInt
-minus-int a (pos zero) = let e : a - 0 ≡ a + 0 = omega arith in sum-minus a 0 (omega arith) ∙ ap (λ (n : ℕ). round binary64 false n 1) e
-minus-int a (pos (suc b)) = sum-int (pos a) (negsuc b)
-minus-int a (negsuc b) = sum-int (pos a) (pos (suc b))
+minus-is : (c a : ℕ) (b : ℤ) → sum binary64 false a (not (negative b)) (natAbs b) c ≡ roundOf c (pos a -ℤ b)
+minus-is c a (pos zero) = let e : a - 0 ≡ a + 0 = omega arith in sum-minus a 0 c (omega arith) ∙ ap (λ (n : ℕ). round binary64 false n c) e
+minus-is c a (pos (suc b)) = sum-is c (pos a) (negsuc b)
+minus-is c a (negsuc b) = sum-is c (pos a) (pos (suc b))
 
-pub sub-int : (a : ℕ) (b : ℤ) → a ≤ 2 ^ 53 → natAbs b ≤ 2 ^ 53 → sub binary64 (ofInt binary64 (pos a)) (ofInt binary64 b) ≡ ofInt binary64 (pos a -ℤ b)
-sub-int a b h k =
-    whole-difference (ofInt binary64 (pos a)) (ofInt binary64 b) false (negative b) a (natAbs b) (int-value (pos a) h) (int-value b k) ∙ minus-int a b
+-- ---- numbers of 256ths
+parts-are : (z : ℤ) → ofParts z ≡ roundOf 256 z
+unfolding ofParts
+parts-are (pos n) = refl
+parts-are (negsuc n) = refl
+
+pub parts-value : (z : ℤ) → natAbs z < 2 ^ 53 → HasValue (ofParts z) (negative z) (natAbs z) 256
+parts-value z h =
+    subst (λ (x : Float). HasValue x (negative z) (natAbs z) 256) (sym (parts-are z))
+    (round-exact binary64 (negative z) (natAbs z) 256 (natAbs z) 1066 (zero-lt-suc _) h
+    (lt-of-lt-of-le (mul-lt-mul-of-pos-right h (pow-pos 1066)) (pow-mono {i = 1119} {j = 2098} (omega arith)))
+    (sym (mul-assoc (natAbs z) (2 ^ 1066) 256)))
+
+pub add-parts : (a b : ℤ) → natAbs a < 2 ^ 53 → natAbs b < 2 ^ 53 → add binary64 (ofParts a) (ofParts b) ≡ ofParts (a +ℤ b)
+add-parts a b h k =
+    same-sum (ofParts a) (ofParts b) (negative a) (negative b) (natAbs a) (natAbs b) 256 (zero-lt-suc _) (parts-value a h) (parts-value b k)
+    ∙ sum-is 256 a b ∙ sym (parts-are (a +ℤ b))
+
+-- a whole number, divided by 256.0
+parts-opened : (s : Bool) (m : ℕ) (e : ℤ) → div binary64 (fin s m e) parts ≡ round binary64 s (m * up e * 1) (256 * down e)
+unfolding div
+parts-opened true m e = refl
+parts-opened false m e = refl
+
+whole-parts : (x : Float) (s : Bool) (a : ℕ) → HasValue x s a 1 → div binary64 x parts ≡ round binary64 s a 256
+whole-parts nan s a h = absurd h
+whole-parts (inf t) s a h = absurd h
+whole-parts (fin t m e) s a h =
+    parts-opened t m e ∙ ap (λ (z : Bool). round binary64 z (m * up e * 1) (256 * down e)) (h .0)
+    ∙ round-same binary64 s (m * up e * 1) (256 * down e) a 256 (mul-pos (zero-lt-suc _) (down-pos e)) (zero-lt-suc _)
+    (ap (λ (z : ℕ). z * 256) (h .1) ∙ mul-assoc a (down e) 256 ∙ ap (λ (z : ℕ). a * z) (mul-comm (down e) 256))
+
+pub parts-divided : (z : ℤ) → natAbs z ≤ 2 ^ 53 → div binary64 (ofInt binary64 z) parts ≡ ofParts z
+parts-divided z h = whole-parts (ofInt binary64 z) (negative z) (natAbs z) (int-value z h) ∙ sym (parts-are z)
+
+-- a whole number has 256 times as many
+finer : (x : Float) (s : Bool) (a : ℕ) → HasValue x s a 1 → HasValue x s (256 * a) 256
+finer nan s a h = h
+finer (inf t) s a h = h
+finer (fin t m e) s a h = (h .0, mul-comm (m * up e) 256 ∙ ap (λ (z : ℕ). 256 * z) (sym (mul-one (m * up e)) ∙ h .1) ∙ sym (mul-assoc 256 a (down e)))
+
+pub sub-parts : (v : ℕ) (b : ℤ) → v ≤ 2 ^ 53 → natAbs b < 2 ^ 53 → sub binary64 (ofInt binary64 (pos v)) (ofParts b) ≡ ofParts (pos (256 * v) -ℤ b)
+sub-parts v b h k =
+    same-difference (ofInt binary64 (pos v)) (ofParts b) false (negative b) (256 * v) (natAbs b) 256 (zero-lt-suc _)
+    (finer (ofInt binary64 (pos v)) false v (int-value (pos v) h)) (parts-value b k)
+    ∙ minus-is 256 (256 * v) b ∙ sym (parts-are (pos (256 * v) -ℤ b))
 
 -- ---- the order, as one of fractions
 pub lt-fractions : (x y : Float) (a c b d : ℕ) → 0 < c → 0 < d → HasValue x false a c → HasValue y false b d → lt x y ≡ ltb (a * d) (b * c)

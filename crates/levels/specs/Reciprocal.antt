@@ -1,10 +1,10 @@
 -- L by one product with the reciprocal of S, every operation rounded once. What the code works out so is `levelOf` (proofs, Clamps:
 -- `level-is-by`); a reader of the claim may pass over it.
 use mathlib.Core.Path.{_≡_}
-use mathlib.Core.Bool.{false, cond}
-use Prim.Native.Nat.{_<_, _≤_}
+use mathlib.Core.Bool.{true, false, cond}
+use Prim.Native.Nat.{suc, _<_, _≤_}
 use lib.IntN.{ℤ, pos, negsuc, natAbs}
-use lib.Ieee.{Float, fin, binary64, add, sub, mul, div, lt, ofInt}
+use lib.Ieee.{Float, fin, binary64, round, add, sub, mul, div, lt}
 use Rattle.levels.specs.Clip.{plusZero}
 use Rattle.levels.specs.Level.{most}
 
@@ -16,9 +16,18 @@ mostRaised = fin false 35183835217921 (negsuc 28)
 abbrev pub big : Float
 big = fin false 1 (pos 52)
 
+-- 256.0
+abbrev pub parts : Float
+parts = fin false 1 (pos 8)
+
+-- a number of 256ths as f64
+unfoldable pub ofParts : ℤ → Float
+ofParts (pos n) = round binary64 false n 256
+ofParts (negsuc n) = round binary64 true (suc n) 256
+
 -- 65535 / S, raised by so little that a half goes up and no other number to another whole one
 abbrev pub inverseOf : ℤ → Float
-inverseOf s = div binary64 mostRaised (ofInt binary64 s)
+inverseOf s = div binary64 mostRaised (ofParts s)
 
 -- the number if above 0, else +0.0; and at most 65535.0
 abbrev pub flooredOf : Float → Float
@@ -44,11 +53,11 @@ pub record SpanIn (s : ℤ) : Type 0 where
 -- d, b and r are a D, a B and the reciprocal of an S
 pub record DifferenceIs (difference : ℤ) (d : Float) : Type 0 where
   pub small : natAbs difference ≤ 67107840
-  pub number : d ≡ ofInt binary64 difference
+  pub number : d ≡ ofParts difference
 
 pub record BlackIs (black : ℤ) (b : Float) : Type 0 where
   pub small : natAbs black ≤ 50330880
-  pub number : b ≡ ofInt binary64 black
+  pub number : b ≡ ofParts black
 
 pub record InverseIs (span : ℤ) (r : Float) : Type 0 where
   pub inside : SpanIn span

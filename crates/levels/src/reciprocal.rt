@@ -4,14 +4,14 @@ ghost use Prim.Native.Nat.{_<_};
 ghost use lib.IntN.{ℤ, pos, natAbs};
 ghost use lib.Ieee.{binary64, ofInt};
 ghost use Rattle.levels.specs.Level.{differenceOf, levelOf, scaledOf};
-ghost use Rattle.levels.specs.Reciprocal.{inverseOf, flooredOf, cappedOf, wholeOf, DifferenceIs, BlackIs, InverseIs};
+ghost use Rattle.levels.specs.Reciprocal.{ofParts, inverseOf, flooredOf, cappedOf, wholeOf, DifferenceIs, BlackIs, InverseIs};
 
 // A number of 256ths as f64.
 pub fn number_of(z: i64) -> f64
     requires { ⌜ natAbs z < 0x1_0000_0000 ⌝ }
-    ensures { λ r. ⌜ r ≡ ofInt binary64 z ⌝ }
+    ensures { λ r. ⌜ r ≡ ofParts z ⌝ }
 {
-    z as f64
+    z as f64 / 256.0
 }
 
 // 65535 / S, raised by 2^-45 of itself, so that the product with a D that lies halfway goes up.
@@ -52,5 +52,5 @@ pub fn level(d: f64, r: f64) -> f64
 pub fn scaled_by(v: u16, b: f64, r: f64) -> f64
     ensures { λ x. ⌜ ((black span : ℤ) → BlackIs black b → InverseIs span r → x ≡ scaledOf (levelOf (differenceOf v black) span)) ⌝ }
 {
-    level((256 * (v as u32)) as f64 - b, r) / 65535.0
+    level(v as f64 - b, r) / 65535.0
 }

@@ -8,7 +8,7 @@ use native.Mathlib.Nat.{add-assoc, mul-assoc, mul-comm, mul-div-cancel, mod-lt, 
 use native.Mathlib.Nat.{add-mul-div-right}
 use native.Mathlib.Omega.{arith}
 use lib.IntN.{ℤ, pos, natAbs}
-use lib.Ieee.{Float, nan, binary64, ofInt}
+use lib.Ieee.{Float, nan}
 use lib.ListN.{length, getD, take, drop, length-take, length-drop, List·getD-eq-default}
 use Rattle.reading.specs.Bytes.{part}
 use Rattle.reading.specs.Reading.{run}
@@ -18,7 +18,7 @@ use Rattle.reading.proofs.Wholes.{le-or-lt}
 use Rattle.directory.specs.declared.tag.Values.{Values}
 use Rattle.levels.specs.Black.{blackOf, blackAt, valueOf, widthOf, partsOf}
 use Rattle.levels.specs.Levels.{Levels, cellFor, spanOf}
-use Rattle.levels.specs.Reciprocal.{inverseOf, SpanIn}
+use Rattle.levels.specs.Reciprocal.{ofParts, inverseOf, SpanIn}
 use Rattle.levels.specs.Run.{runOf}
 use Rattle.levels.specs.declared.black.Black.{Black}
 use Rattle.levels.specs.declared.black.Black.the-variants.{Parts, Illegal, NotCarried}
@@ -159,7 +159,7 @@ module _ (v : Levels) (n l len : ℕ) (some : 1 ≤ n) (along : List Float) (w :
 -- ---- rows of q numbers are what lies along
 pub along-filled :
     (v : Levels) (n l len q R C : ℕ) (new : List Float) → v .repeat-rows ≡ R → v .repeat-columns ≡ C → length new ≡ (R + 1) * q → 1 ≤ q → q ≤ 512
-    → ((r k : ℕ) → r < R → k < q → getD new (r * q + k) nan ≡ ofInt binary64 (cellAlong v n r l k))
+    → ((r k : ℕ) → r < R → k < q → getD new (r * q + k) nan ≡ ofParts (cellAlong v n r l k))
     → ((k : ℕ) → k < q → getD new (R * q + k) nan ≡ inverseOf (spanAlong v n k))
     → (q < len → q % (C * n) ≡ 0) → Along-in v n l len new
 along-filled v n l len q R C new er ec size some few cells inverses again =

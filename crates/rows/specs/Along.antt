@@ -3,11 +3,11 @@ use mathlib.Core.Path.{_≡_}
 use Prim.Native.Nat.{ℕ, _+_, _*_, _/_, _%_, _≤_, _<_}
 use mathlib.Core.List.{List}
 use lib.IntN.{ℤ, pos}
-use lib.Ieee.{Float, nan, binary64, ofInt}
+use lib.Ieee.{Float, nan}
 use lib.ListN.{length, getD}
 use Rattle.levels.specs.Black.{Small}
 use Rattle.levels.specs.Levels.{Levels, cellFor, spanOf}
-use Rattle.levels.specs.Reciprocal.{inverseOf}
+use Rattle.levels.specs.Reciprocal.{ofParts, inverseOf}
 
 -- the numbers of a row stand column by column, n samples to a column; of the k-th from column l on: its cell in row r
 abbrev pub cellAlong : Levels → ℕ → ℕ → ℕ → ℕ → ℤ
@@ -30,7 +30,7 @@ pub record Along-in (v : Levels) (n l len : ℕ) (along : List Float) : Type 0 w
   pub size : length along ≡ (v .repeat-rows + 1) * pieceOf v along
   pub some : 1 ≤ pieceOf v along
   pub few : pieceOf v along ≤ 512
-  pub cells : (r k : ℕ) → r < v .repeat-rows → k < pieceOf v along → getD along (r * pieceOf v along + k) nan ≡ ofInt binary64 (cellAlong v n r l k)
+  pub cells : (r k : ℕ) → r < v .repeat-rows → k < pieceOf v along → getD along (r * pieceOf v along + k) nan ≡ ofParts (cellAlong v n r l k)
   pub inverses : (k : ℕ) → k < pieceOf v along → getD along (v .repeat-rows * pieceOf v along + k) nan ≡ inverseOf (spanAlong v n k)
   pub again : pieceOf v along < len → pieceOf v along % (v .repeat-columns * n) ≡ 0
 

@@ -1,10 +1,10 @@
 // What the rows of a window share along a part of a row.
 ghost use mathlib.Core.Path.{_≡_};
 ghost use Prim.Native.Nat.{ℕ, _+_, _*_, _/_, _%_, _≤_, _<_};
-ghost use lib.Ieee.{Float, nan, binary64, ofInt};
+ghost use lib.Ieee.{Float, nan};
 ghost use lib.ListN.{length, getD};
 ghost use Rattle.levels.specs.Black.{Small};
-ghost use Rattle.levels.specs.Reciprocal.{inverseOf};
+ghost use Rattle.levels.specs.Reciprocal.{ofParts, inverseOf};
 ghost use Rattle.raw.specs.Front.{Raw-in};
 ghost use Rattle.raw.specs.Raw.{Tags-in};
 ghost use Rattle.raw.specs.Stored.{levelsReading};
@@ -60,7 +60,7 @@ fn first_cells(
     out: &mut [f64],
 )
     requires { ⌜ Tags-in (now file) order tags × (1 ≤ tags .frame .samples) × (column .0 ≤ 16384) × (length (now out) ≤ 512) ⌝ }
-    ensures { λ _. ⌜ Filled nan (λ (k : ℕ). ofInt binary64 (cellAlong (run (now (file .entry)) (levelsReading order tags)) (tags .frame .samples) (row .0) (column .0) k)) (length (now (out .entry))) (now (out .exit)) ⌝ }
+    ensures { λ _. ⌜ Filled nan (λ (k : ℕ). ofParts (cellAlong (run (now (file .entry)) (levelsReading order tags)) (tags .frame .samples) (row .0) (column .0) k)) (length (now (out .entry))) (now (out .exit)) ⌝ }
 {
     let samples = tags.frame.samples;
     let l = column.0;
@@ -83,7 +83,7 @@ fn cells_row(
     out: &mut [f64],
 )
     requires { ⌜ Tags-in (now file) order tags × (1 ≤ tags .frame .samples) × (column .0 ≤ 16384) × (length (now out) ≤ 512) ⌝ }
-    ensures { λ _. ⌜ Filled nan (λ (k : ℕ). ofInt binary64 (cellAlong (run (now (file .entry)) (levelsReading order tags)) (tags .frame .samples) (row .0) (column .0) k)) (length (now (out .entry))) (now (out .exit)) ⌝ }
+    ensures { λ _. ⌜ Filled nan (λ (k : ℕ). ofParts (cellAlong (run (now (file .entry)) (levelsReading order tags)) (tags .frame .samples) (row .0) (column .0) k)) (length (now (out .entry))) (now (out .exit)) ⌝ }
 {
     let period = tags.levels.repeat.columns * tags.frame.samples;
     let n = number::smaller(period, out.len());
@@ -125,7 +125,7 @@ fn fill_cells(
     out: &mut [f64],
 )
     requires { ⌜ Tags-in (now file) order tags × (1 ≤ tags .frame .samples) × (column .0 ≤ 16384) × (q ≤ 512) × (length (now out) ≡ tags .levels .repeat .rows * q) ⌝ }
-    ensures { λ _. ⌜ ((r k : ℕ) → r < tags .levels .repeat .rows → k < q → getD (now (out .exit)) (r * q + k) nan ≡ ofInt binary64 (cellAlong (run (now (file .entry)) (levelsReading order tags)) (tags .frame .samples) r (column .0) k)) ⌝ }
+    ensures { λ _. ⌜ ((r k : ℕ) → r < tags .levels .repeat .rows → k < q → getD (now (out .exit)) (r * q + k) nan ≡ ofParts (cellAlong (run (now (file .entry)) (levelsReading order tags)) (tags .frame .samples) r (column .0) k)) ⌝ }
 {
     let rows = tags.levels.repeat.rows;
     let mut r = 0;

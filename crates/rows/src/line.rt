@@ -56,7 +56,7 @@ fn scaled_bytes(line: Line, file: &[u8], blacks: &[f64], inverses: &[f64], out: 
     }
 }
 
-// 256 times each sample's number, through the table.
+// Each sample's number, through the table.
 fn fill_numbers(line: Line, file: &[u8], out: &mut [f64])
     requires { ⌜ Line-in (now file) line (length (now out)) ⌝ }
     ensures { λ _. ⌜ Numbers (numberAt (now (file .entry)) line) (length (now (out .entry))) (now (out .exit)) ⌝ }
@@ -70,7 +70,7 @@ fn fill_numbers(line: Line, file: &[u8], out: &mut [f64])
     while i < out.len() {
         let stored = sample::sample_at(file, order, bytes, place + bytes * i);
         let v = table::through(file, order, table, count, stored);
-        out[i] = (256 * (v as u32)) as f64;
+        out[i] = v as f64;
         i += 1;
     }
 }

@@ -9,7 +9,7 @@ use lib.Ieee.Back.{unsigned-back}
 use mir.Facts.{toZ-ofZ}
 use Rattle.reading.proofs.Wholes.{in-float}
 use Rattle.levels.specs.Level.{levelOf}
-use Rattle.levels.specs.Reciprocal.{inverseOf}
+use Rattle.levels.specs.Reciprocal.{ofParts, inverseOf}
 use Rattle.levels.proofs.Rounding.{level-most}
 use Rattle.board.proofs.level.Statement.{statement}
 use Rattle.board.proofs.level.Tie as tie
@@ -19,7 +19,7 @@ found : (k : tie.After-level) → let a = k .before .before .before .args in k .
 found k =
     let s = k .before .before .before in
     k .level .ensures (s .args .d) (s .args .s)
-    (record { small = s .pre .0; number = k .before .before .number-of .ensures ∙ ap (ofInt binary64) (toZ-ofZ (s .fits .d)) })
+    (record { small = s .pre .0; number = k .before .before .number-of .ensures ∙ ap ofParts (toZ-ofZ (s .fits .d)) })
     (record { inside = s .pre .1; number = k .before .inverse .ensures ∙ ap inverseOf (toZ-ofZ (s .fits .s)) })
 
 -- is a whole number

@@ -8,9 +8,6 @@ use Rattle.levels.proofs.Clamps.{difference-is}
 use Rattle.levels.proofs.reciprocal.scaled_by.Statement.{statement}
 use Rattle.levels.proofs.reciprocal.scaled_by.Tie as tie
 
-mul-level : tie.Need-mul-level
-mul-level c = search needs
-
 int-to-float-level : tie.Need-int-to-float-level
 int-to-float-level c = search needs
 
@@ -25,4 +22,4 @@ returns c black span p q =
     ap (λ (x : Float). div binary64 x most) (c .level .ensures (differenceOf (a .v) black) span (difference-is (a .v) black (a .b) h p) q)
 
 pub scaled-by-spec : {M : Type 1} → statement M
-scaled-by-spec = tie.close (tie.spec mul-level int-to-float-level level-requires returns)
+scaled-by-spec = tie.close (tie.spec int-to-float-level level-requires returns)

@@ -4,8 +4,9 @@ use native.Mathlib.Nat.{mul-le-mul, mul-pos}
 use native.Mathlib.Omega.{arith}
 use borrow.Author.Needs.{needs}
 use denote.Ref.{now}
-use lib.Ieee.{nan, binary64, ofInt}
+use lib.Ieee.{nan}
 use lib.ListN.{List·getD-append}
+use Rattle.levels.specs.Reciprocal.{ofParts}
 use Rattle.reading.specs.Reading.{run}
 use Rattle.raw.specs.Stored.{levelsReading}
 use Rattle.raw.proofs.StoredLaws.{repeat-columns-are}
@@ -46,10 +47,10 @@ returns c k h =
     let v = run (now (s .args .file)) (levelsReading (s .args .order) (s .args .tags)) in
     let m = c .before .before .before .before .before .before .before .before .smaller .ensures in
     let p : v .repeat-columns ≡ s .args .tags .levels .repeat .columns = repeat-columns-are (now (s .args .file)) (s .args .order) (s .args .tags) in
-    c .before .before .repeat .ensures (λ j. ofInt binary64 (cellAlong v n (s .args .row .0) (s .args .column .0) j))
+    c .before .before .repeat .ensures (λ j. ofParts (cellAlong v n (s .args .row .0) (s .args .column .0) j))
     (λ j b l. List·getD-append (c .before .before .before .before .before .before .first-cells .last .1 .1 .1 .1 .1 .0) _ nan j (search needs)
     ∙ c .before .before .before .before .before .before .first-cells .ensures j (search needs))
-    (λ j. ap (ofInt binary64) (ap (λ (q : ℕ). cellAlong v n (s .args .row .0) (s .args .column .0) (j + q * n)) (sym p)
+    (λ j. ap ofParts (ap (λ (q : ℕ). cellAlong v n (s .args .row .0) (s .args .column .0) (j + q * n)) (sym p)
     ∙ cell-next v n (s .pre .1) _ _ j)) k (search needs)
 
 pub cells-row-spec : {M : Type 1} → statement M

@@ -4,8 +4,9 @@ use native.Mathlib.Nat.{mul-le-mul-right, add-mul}
 use native.Mathlib.Omega.{arith}
 use borrow.Author.Needs.{needs}
 use denote.Ref.{now}
-use lib.Ieee.{nan, binary64, ofInt}
+use lib.Ieee.{nan}
 use lib.ListN.{length, getD, drop, length-take}
+use Rattle.levels.specs.Reciprocal.{ofParts}
 use Rattle.reading.specs.Reading.{run}
 use Rattle.raw.specs.Stored.{levelsReading}
 use Rattle.rows.specs.Along.{cellAlong}
@@ -16,7 +17,7 @@ use Rattle.rows.proofs.along.fill_cells.Tie as tie
 abbrev Inv-loop : tie.InvT-loop
 Inv-loop file order tags column q out₀ rows r₀ a₀ out r a =
     (length out ≡ length out₀) × (r ≤ rows) × (a ≡ r * q)
-    × ((s k : ℕ) → s < r → k < q → getD out (s * q + k) nan ≡ ofInt binary64
+    × ((s k : ℕ) → s < r → k < q → getD out (s * q + k) nan ≡ ofParts
     (cellAlong (run file (levelsReading order tags)) (tags .frame .samples) s (column .0) k))
 
 abbrev μ-loop : tie.MeasureT-loop
@@ -80,7 +81,7 @@ loop-again c =
       search needs,
       omega (arith, c .before .before .before .before .loop-test .taken),
       omega (arith, add-mul (l .r) 1 (s .args .q), l .inv .2),
-      rows-more nan (λ r k. ofInt binary64 (cellAlong v (s .args .tags .frame .samples) r (s .args .column .0) k)) (s .args .q) (l .r) (l .a) (l .out)
+      rows-more nan (λ r k. ofParts (cellAlong v (s .args .tags .frame .samples) r (s .args .column .0) k)) (s .args .q) (l .r) (l .a) (l .out)
           (c .before .before .cells-row .last .1 .1 .1 .1 .1 .0) (l .inv .2) (omega (arith, i, l .inv .2, l .inv .0)) (search needs) (l .inv .3)
           (λ k b. c .before .before .cells-row .ensures k (search needs)),
     )

@@ -4,8 +4,9 @@ use native.Mathlib.Nat.{div-le-self, mod-lt}
 use native.Mathlib.Omega.{arith}
 use borrow.Author.Needs.{needs}
 use denote.Ref.{now}
-use lib.Ieee.{nan, binary64, ofInt}
+use lib.Ieee.{nan}
 use lib.ListN.{length}
+use Rattle.levels.specs.Reciprocal.{ofParts}
 use Rattle.reading.specs.Reading.{run}
 use Rattle.raw.specs.Stored.{levelsReading}
 use Rattle.rows.specs.Along.{cellAlong}
@@ -17,7 +18,7 @@ use Rattle.rows.proofs.along.first_cells.Tie as tie
 abbrev Inv-loop : tie.InvT-loop
 Inv-loop file order tags row out₀ samples l i₀ out i =
     (length out ≡ length out₀) × (i ≤ length out₀)
-    × Filled nan (λ (k : ℕ). ofInt binary64 (cellAlong (run file (levelsReading order tags)) samples (row .0) l k)) i out
+    × Filled nan (λ (k : ℕ). ofParts (cellAlong (run file (levelsReading order tags)) samples (row .0) l k)) i out
 
 abbrev μ-loop : tie.MeasureT-loop
 μ-loop file order tags row out₀ samples l i₀ out i = length out₀ - i
@@ -63,7 +64,7 @@ loop-again c =
     let l = c .before .before .before .loop in
     let h : l .i < length (now (a .args .out)) = omega (arith, c .before .before .loop-test .taken, l .inv .0) in
     let z = c .before .cell-at in
-    let e = c .number-of .ensures ∙ ap (ofInt binary64) (back (z .result) (omega (arith, z .ensures .1)) ∙ z .ensures .0) in
+    let e = c .number-of .ensures ∙ ap ofParts (back (z .result) (omega (arith, z .ensures .1)) ∙ z .ensures .0) in
     (search needs, omega arith, filled-more nan _ (l .i) (l .out) _ (omega (arith, l .inv .0)) (l .inv .2) e)
 
 same-length : tie.Need-same-length Inv-loop μ-loop

@@ -40,17 +40,11 @@ sample-at-requires c κs =
 through-requires : tie.Need-through-requires Inv-loop μ-loop
 through-requires c κs = c .before .before .before .before .before .pre .table
 
-cast-out : tie.Need-cast-out Inv-loop μ-loop
-cast-out c = search needs
-
-mul-out : tie.Need-mul-out Inv-loop μ-loop
-mul-out c = search needs
-
 int-to-float-out : tie.Need-int-to-float-out Inv-loop μ-loop
 int-to-float-out c = search needs
 
-mul-out-2 : tie.Need-mul-out-2 Inv-loop μ-loop
-mul-out-2 c = search needs
+mul-out : tie.Need-mul-out Inv-loop μ-loop
+mul-out c = search needs
 
 slice-write-out : tie.Need-slice-write-out Inv-loop μ-loop
 slice-write-out c = search needs
@@ -94,10 +88,8 @@ fill-numbers-spec =
     add-sample-at
     sample-at-requires
     through-requires
-    cast-out
-    mul-out
     int-to-float-out
-    mul-out-2
+    mul-out
     slice-write-out
     add-i
     loop-less

@@ -1,9 +1,9 @@
 use mathlib.Core.Path.{refl, sym, ap, _∙_}
 use native.Mathlib.Omega.{arith}
 use denote.Ref.{now}
-use lib.Ieee.{binary64, ofInt}
 use lib.IntN.{ℤ, pos}
 use lib.ListN.{getD}
+use Rattle.levels.specs.Reciprocal.{ofParts}
 use mathlib.Core.List.{List}
 use Rattle.reading.specs.Reading.{run}
 use Rattle.raw.specs.Sample.{placeOf}
@@ -62,7 +62,7 @@ returns c =
       count = refl;
       down = record {
         small = rw (← e) (d .ensures .1);
-        number = c .number-of .ensures ∙ ap (ofInt binary64) (back (d .result) (omega (arith, d .ensures .1)) ∙ e);
+        number = c .number-of .ensures ∙ ap ofParts (back (d .result) (omega (arith, d .ensures .1)) ∙ e);
       };
     }
 
