@@ -6,42 +6,29 @@ use denote.Ref.{now}
 use lib.Ieee.{Float}
 use lib.ListN.{length}
 use Rattle.levels.specs.Table.{tableOf, throughOf}
-use Rattle.rows.specs.Line.{numberAt, Numbers}
-use Rattle.rows.proofs.Lines.{numbers-none, numbers-more}
+use Rattle.rows.specs.Line.{Filled, numberAt}
+use Rattle.rows.proofs.Lines.{filled-more}
 use Rattle.rows.proofs.line.fill_numbers.Statement.{statement}
 use Rattle.rows.proofs.line.fill_numbers.Tie as tie
 
 abbrev Inv-loop : tie.InvT-loop
 Inv-loop file out₀ order bytes place table count i₀ out i =
     (length out ≡ length out₀) × (i ≤ length out₀)
-    × ((down : Float) → Numbers (numberAt file (record { order = order; bytes = bytes; place = place; table = table; count = count; down = down })) i out)
+    × ((down : Float) → Filled 0 (numberAt file (record { order = order; bytes = bytes; place = place; table = table; count = count; down = down })) i out)
 
 abbrev μ-loop : tie.MeasureT-loop
 μ-loop file out₀ order bytes place table count i₀ out i = length out₀ - i
 
 loop-holds : tie.Need-loop-holds Inv-loop μ-loop
-loop-holds c = (refl, omega arith, λ down. numbers-none _ _)
+loop-holds c = (refl, omega arith, λ down k h. absurd (omega arith))
 
-mul-sample-at : tie.Need-mul-sample-at Inv-loop μ-loop
-mul-sample-at c =
-    let a = c .before .before .before .before in
-    omega (arith, a .pre .inside (c .before .loop .i) (omega (arith, c .loop-test .taken, c .before .loop .inv .0)), a .good .1 .0 .1)
-
-add-sample-at : tie.Need-add-sample-at Inv-loop μ-loop
-add-sample-at c =
-    let a = c .before .before .before .before in
-    omega (arith, a .pre .inside (c .before .loop .i) (omega (arith, c .loop-test .taken, c .before .loop .inv .0)), a .good .1 .0 .1)
-
-sample-at-requires : tie.Need-sample-at-requires Inv-loop μ-loop
-sample-at-requires c κs =
+stored-at-requires : tie.Need-stored-at-requires Inv-loop μ-loop
+stored-at-requires c κs =
     let a = c .before .before .before .before in
     (a .pre .inside (c .before .loop .i) (omega (arith, c .loop-test .taken, c .before .loop .inv .0)), a .pre .some, a .pre .few)
 
 through-requires : tie.Need-through-requires Inv-loop μ-loop
 through-requires c κs = c .before .before .before .before .before .pre .table
-
-int-to-float-out : tie.Need-int-to-float-out Inv-loop μ-loop
-int-to-float-out c = search needs
 
 mul-out : tie.Need-mul-out Inv-loop μ-loop
 mul-out c = search needs
@@ -57,14 +44,14 @@ loop-less c = search needs
 
 loop-again : tie.Need-loop-again Inv-loop μ-loop
 loop-again c =
-    let a = c .before .before .before .before .before .before .before in
-    let l = c .before .before .before .before .loop in
+    let a = c .before .before .before .before .before .before in
+    let l = c .before .before .before .loop in
     let t = tableOf (a .args .line .order) (now (a .args .file)) (a .args .line .table) (a .args .line .count) in
-    let v = c .before .through in (
+    let v = c .through in (
       search needs,
-      omega (arith, c .before .before .before .loop-test .taken, l .inv .0),
-      λ down. numbers-more _ (l .i) (l .out) (v .result) (omega (arith, c .before .before .before .loop-test .taken)) (l .inv .2 down)
-          (v .ensures ∙ ap (throughOf t) (c .before .before .sample-at .ensures)) (omega arith),
+      omega (arith, c .before .before .loop-test .taken, l .inv .0),
+      λ down. filled-more 0 _ (l .i) (l .out) (v .result) (omega (arith, c .before .before .loop-test .taken)) (l .inv .2 down)
+          (v .ensures ∙ ap (throughOf t) (c .before .stored-at .ensures)),
     )
 
 same-length : tie.Need-same-length Inv-loop μ-loop
@@ -75,7 +62,7 @@ returns c =
     let a = c .before .before .before .before in
     let l = c .before .loop in
     let e : l .i ≡ length (now (a .args .out)) = omega (arith, c .loop-test .left, l .inv .1, l .inv .0) in
-    subst (λ (n : ℕ). Numbers (numberAt (now (a .args .file)) (a .args .line)) n (l .out)) e (l .inv .2 (a .args .line .down))
+    subst (λ (n : ℕ). Filled 0 (numberAt (now (a .args .file)) (a .args .line)) n (l .out)) e (l .inv .2 (a .args .line .down))
 
 pub fill-numbers-spec : {M : Type 1} → statement M
 fill-numbers-spec =
@@ -84,11 +71,8 @@ fill-numbers-spec =
     Inv-loop
     μ-loop
     loop-holds
-    mul-sample-at
-    add-sample-at
-    sample-at-requires
+    stored-at-requires
     through-requires
-    int-to-float-out
     mul-out
     slice-write-out
     add-i

@@ -15,30 +15,28 @@ two l f n h k = go (l .bytes) (h .some) (h .few) k
     go : (b : ℕ) → 1 ≤ b → b ≤ 2 → (b ≡ 1 → ⊥) → b ≡ 2
     go b s m k = omega arith
 
-scaled-through-requires : tie.Need-scaled-through-requires
-scaled-through-requires c κs = search needs
+scaled-by-numbers-requires : tie.Need-scaled-by-numbers-requires
+scaled-by-numbers-requires c κs = search needs
 
 same-length : tie.Need-same-length
 same-length c = search needs
 
 returns : tie.Need-returns
-returns c = c .before .before .scaled-through .ensures
+returns c = c .before .before .scaled-by-numbers .ensures
 
-scaled-bytes-requires : tie.Need-scaled-bytes-requires
-scaled-bytes-requires c κs =
-    let s = c .before .before .before .before .before .before .before .before .before in
-    ((s .pre .0, c .before .if2 .taken, c .before .before .before .if1 .left), s .pre .1)
+scaled-by-numbers-requires-2 : tie.Need-scaled-by-numbers-requires-2
+scaled-by-numbers-requires-2 c κs = search needs
 
 scaled-shorts-requires : tie.Need-scaled-shorts-requires
 scaled-shorts-requires c κs =
     let s = c .before .before .before .before .before .before .before .before .before in
-    ((s .pre .0, two (s .args .line) (now (s .args .file)) _ (s .pre .0) (c .before .if2 .left), c .before .before .before .if1 .left), s .pre .1)
+    ((s .pre .0 .0, two (s .args .line) (now (s .args .file)) _ (s .pre .0 .0) (c .before .if2 .left), c .before .before .before .if1 .left), s .pre .1)
 
 same-length-2 : tie.Need-same-length-2
 same-length-2 c = search needs
 
 returns-2 : tie.Need-returns-2
-returns-2 c = c .before .before .scaled-bytes .ensures
+returns-2 c = c .before .before .scaled-by-numbers2 .ensures
 
 same-length-3 : tie.Need-same-length-3
 same-length-3 c = search needs
@@ -50,10 +48,10 @@ pub scaled-line-spec : {M : Type 1} → statement M
 scaled-line-spec =
     tie.close
     (tie.spec
-    scaled-through-requires
+    scaled-by-numbers-requires
     same-length
     returns
-    scaled-bytes-requires
+    scaled-by-numbers-requires-2
     scaled-shorts-requires
     same-length-2
     returns-2

@@ -7,7 +7,7 @@ use lib.IntN.{ℤ, pos}
 use lib.Ieee.{nan}
 use mathlib.Core.List.{List}
 use lib.ListN.{length, getD, length-take, List·getD-append, List·getD-eq-default}
-use Rattle.rows.proofs.Lines.{levelled-plain, levelled-sums}
+use Rattle.rows.proofs.Lines.{fits, levelled-plain, levelled-sums}
 use Rattle.rows.proofs.scaled.scaled_piece.Statement.{statement}
 use Rattle.rows.proofs.scaled.scaled_piece.Tie as tie
 
@@ -19,11 +19,10 @@ some n h = omega arith
 none : (xs : List ℤ) (k : ℕ) → length xs ≡ 0 → getD xs k (pos 0) ≡ pos 0
 none xs k h = List·getD-eq-default xs (pos 0) (omega arith)
 
-fits : (n m k : ℕ) → k ≡ m → n ≤ m → n ≤ k
-fits n m k e h = omega arith
-
 scaled-line-requires : tie.Need-scaled-line-requires
-scaled-line-requires c κs = search needs
+scaled-line-requires c κs =
+    let s = c .before .before .before .before .before .before .before in
+    ((s .pre .0 .0, omega (arith, s .pre .0 .1, s .pre .0 .2)), (s .pre .0 .1, omega (arith, s .pre .0 .1, s .pre .0 .3)))
 
 sub-add-deltas : tie.Need-sub-add-deltas
 sub-add-deltas c = search needs
@@ -45,8 +44,10 @@ add-deltas-requires c κs =
 scaled-line-requires-2 : tie.Need-scaled-line-requires-2
 scaled-line-requires-2 c κs =
     let s = c .before .before .before .before .before .before .before .before .before .before .before .before in
-    let l = s .pre .1 .2 (some _ (c .before .before .before .before .before .before .if1 .left)) in
-    (s .pre .0 .0, (fits _ (length (now (s .args .sums))) _ (search needs) (omega (arith, s .pre .0 .1)), omega (arith, s .pre .0 .1, s .pre .0 .2)))
+    let l = s .pre .1 .2 (some _ (c .before .before .before .before .before .before .if1 .left)) in (
+      (s .pre .0 .0, omega (arith, s .pre .0 .1, s .pre .0 .2)),
+      (fits _ (length (now (s .args .sums))) _ (search needs) (omega (arith, s .pre .0 .1)), omega (arith, s .pre .0 .1, s .pre .0 .3)),
+    )
 
 same-length : tie.Need-same-length
 same-length c = search needs

@@ -72,6 +72,7 @@ scaled-piece-requires c κs =
         line-from (now (s .args .file)) (s .args .line) i _ (length (now (s .args .out))) (omega (arith, n, e, l .inv .0, l .inv .2)) (s .pre .0 .0),
         omega (arith, n, e),
         s .pre .0 .2,
+        s .pre .0 .3,
       ),
       (s .pre .1 .0, λ h. omega (arith, n, e, s .pre .1 .1 h, l .inv .0, l .inv .2), λ h. omega (arith, s .pre .1 .2 h, l .inv .1)),
     )

@@ -9,7 +9,7 @@ slice-aggregate-scaled-pieces c = search needs
 scaled-pieces-requires : tie.Need-scaled-pieces-requires
 scaled-pieces-requires c κs =
     let s = c .before .before .before .before .before .before .before in
-    ((s .pre .0 .0, s .pre .0 .1, s .pre .0 .3), (s .pre .1 .0, s .pre .1 .1, λ h. absurd (omega (arith, c .before .before .if1 .taken))))
+    (s .pre .0, (s .pre .1 .0, s .pre .1 .1, λ h. absurd (omega (arith, c .before .before .if1 .taken))))
 
 slice-aggregate-scaled-pieces-2 : tie.Need-slice-aggregate-scaled-pieces-2
 slice-aggregate-scaled-pieces-2 c = search needs
@@ -17,7 +17,7 @@ slice-aggregate-scaled-pieces-2 c = search needs
 scaled-pieces-requires-2 : tie.Need-scaled-pieces-requires-2
 scaled-pieces-requires-2 c κs =
     let s = c .before .before .before .before .before .before .before in
-    ((s .pre .0 .0, s .pre .0 .1, s .pre .0 .3), (s .pre .1 .0, s .pre .1 .1, λ h. s .pre .0 .2))
+    (s .pre .0, (s .pre .1 .0, s .pre .1 .1, λ h. s .pre .0 .2))
 
 same-length : tie.Need-same-length
 same-length c = search needs
