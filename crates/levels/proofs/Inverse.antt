@@ -22,16 +22,19 @@ use lib.Ieee.Scale.{grid, round-val, round-same, normal-of-fraction}
 use lib.Ieee.Nearest.{closest}
 use Rattle.reading.proofs.Wholes.{le-or-lt}
 use Rattle.levels.specs.Level.{roundedOf, most}
-use Rattle.levels.specs.Reciprocal.{ofParts, big, wholeOf, cappedOf, inverseOf}
+use Rattle.levels.specs.Reciprocal.{ofParts, raisedUnits, mostRaised, bigWhole, big, wholeOf, cappedOf, inverseOf}
 use Rattle.levels.proofs.Nearness.{Close, CloseTwice, close-most, close-least, close-cancel, product-close, closest-is, round-close, whole-of}
 use Rattle.levels.proofs.Values.{parts-value, mul-values, add-values, sub-down, div-values, lt-fractions, le-values, Shape, round-shape}
 
 -- ---- 65535 / S, raised
+raised-value : HasValue mostRaised false raisedUnits 536870912
+raised-value = (refl, refl)
+
 abbrev spanOf : ℕ → ℕ
 spanOf S = S * 2097152
 
 abbrev gridOf : ℕ → ℕ
-gridOf S = grid binary64 35183835217921 (spanOf S)
+gridOf S = grid binary64 raisedUnits (spanOf S)
 
 module _ (S : ℕ) (some : 0 < S) (small : S < 67108864) where
   span-some : 0 < spanOf S
@@ -40,29 +43,32 @@ module _ (S : ℕ) (some : 0 < S) (small : S < 67108864) where
   span-most : spanOf S ≤ 140737488355328
   span-most = omega arith
 
-  reciprocal-is : inverseOf (pos S) ≡ round binary64 false 35183835217921 (spanOf S)
-  reciprocal-is = div-values (ofParts (pos S)) S some (parts-value (pos S) (omega arith))
+  reciprocal-is : inverseOf (pos S) ≡ round binary64 false raisedUnits (spanOf S)
+  reciprocal-is =
+      let e : raisedUnits * 256 * (S * 2097152) ≡ raisedUnits * (536870912 * S) = omega arith in
+      div-values mostRaised (ofParts (pos S)) false raisedUnits 536870912 S 256 (zero-lt-suc _) some raised-value (parts-value (pos S) (omega arith))
+      ∙ round-same binary64 false (raisedUnits * 256) (536870912 * S) raisedUnits (S * 2097152) (mul-pos (zero-lt-suc _) some) span-some e
 
-  reciprocal-close : Close (35183835217921 * 2 ^ 1074) (gridOf S * spanOf S)
+  reciprocal-close : Close (raisedUnits * 2 ^ 1074) (gridOf S * spanOf S)
   reciprocal-close =
-      round-close 35183835217921 (spanOf S) span-some
-      (normal-of-fraction binary64 35183835217921 (spanOf S) span-some (le-trans (mul-le-mul-left (2 ^ 52) span-most) (lit≤ tt)))
+      round-close raisedUnits (spanOf S) span-some
+      (normal-of-fraction binary64 raisedUnits (spanOf S) span-some (le-trans (mul-le-mul-left (2 ^ 52) span-most) (lit≤ tt)))
 
   times-more : (g k : ℕ) → 0 < k → g ≤ g * k
   times-more g k h = le-trans (le-of-eq (sym (mul-one g))) (mul-le-mul-left g h)
 
-  grid-most : gridOf S ≤ 2 * (35183835217921 * 2 ^ 1074)
-  grid-most = le-trans (times-more (gridOf S) (spanOf S) span-some) (close-most (35183835217921 * 2 ^ 1074) (gridOf S * spanOf S) reciprocal-close)
+  grid-most : gridOf S ≤ 2 * (raisedUnits * 2 ^ 1074)
+  grid-most = le-trans (times-more (gridOf S) (spanOf S) span-some) (close-most (raisedUnits * 2 ^ 1074) (gridOf S * spanOf S) reciprocal-close)
 
   reciprocal-value : HasValue (inverseOf (pos S)) false (gridOf S) (2 ^ 1074)
   reciprocal-value =
       subst (λ (x : Float). HasValue x false (gridOf S) (2 ^ 1074)) (sym reciprocal-is)
-      (round-val binary64 35183835217921 (spanOf S) (lt-of-le-of-lt grid-most (lit< tt)))
+      (round-val binary64 raisedUnits (spanOf S) (lt-of-le-of-lt grid-most (lit< tt)))
 
   grid-least : 2 ^ 60 ≤ gridOf S
   grid-least =
-      let h : 35183835217921 * 2 ^ 1074 ≤ 2 * (gridOf S * 140737488355328) =
-      le-trans (close-least (35183835217921 * 2 ^ 1074) (gridOf S * spanOf S) reciprocal-close) (mul-le-mul-left 2 (mul-le-mul-left (gridOf S) span-most)) in
+      let h : raisedUnits * 2 ^ 1074 ≤ 2 * (gridOf S * 140737488355328) =
+      le-trans (close-least (raisedUnits * 2 ^ 1074) (gridOf S * spanOf S) reciprocal-close) (mul-le-mul-left 2 (mul-le-mul-left (gridOf S) span-most)) in
       let e : 2 * (gridOf S * 140737488355328) ≡ gridOf S * 281474976710656 = omega arith in
       le-of-mul-le-mul-right {k = 281474976710656} (le-trans (lit≤ tt) (le-trans h (le-of-eq e))) (zero-lt-suc _)
 
@@ -122,7 +128,7 @@ module _ (S D : ℕ) (some : 0 < S) (small : S < 67108864) (any : 0 < D) (few : 
       (round-close (D * gridOf S) (256 * 2 ^ 1074) unit-some
       (normal-of-fraction binary64 (D * gridOf S) (256 * 2 ^ 1074) unit-some (mul-le-mul-right (2 ^ 1074) product-least))))
 
-  product-most : productGrid S D ≤ 2 * (67108864 * (2 * (35183835217921 * 2 ^ 1074)))
+  product-most : productGrid S D ≤ 2 * (67108864 * (2 * (raisedUnits * 2 ^ 1074)))
   product-most =
       le-trans (times-more S some small (productGrid S D) 256 (zero-lt-suc _)) (le-trans (close-most (D * gridOf S) (productGrid S D * 256) once)
       (mul-le-mul-left 2 (le-trans (mul-le-mul-right (gridOf S) (le-of-lt few)) (mul-le-mul-left 67108864 (grid-most S some small)))))
@@ -132,16 +138,16 @@ module _ (S D : ℕ) (some : 0 < S) (small : S < 67108864) (any : 0 < D) (few : 
       subst (λ (x : Float). HasValue x false (productGrid S D) (2 ^ 1074)) (sym (product-is S D some small (omega arith)))
       (round-val binary64 (D * gridOf S) (256 * 2 ^ 1074) (lt-of-le-of-lt product-most (lit< tt)))
 
-  twice-over : CloseTwice (35183835217921 * (2 ^ 1074 * D)) (productGrid S D * S * 536870912)
+  twice-over : CloseTwice (raisedUnits * (2 ^ 1074 * D)) (productGrid S D * S * 536870912)
   twice-over =
-      subst (λ (n : ℕ). CloseTwice n (productGrid S D * S * 536870912)) (mul-assoc 35183835217921 (2 ^ 1074) D)
-      (subst (CloseTwice (35183835217921 * 2 ^ 1074 * D)) (mul-mul-mul-comm (productGrid S D) 256 S 2097152)
-      (product-close (35183835217921 * 2 ^ 1074) (gridOf S) (spanOf S) D (productGrid S D * 256) (reciprocal-close S some small) once))
+      subst (λ (n : ℕ). CloseTwice n (productGrid S D * S * 536870912)) (mul-assoc raisedUnits (2 ^ 1074) D)
+      (subst (CloseTwice (raisedUnits * 2 ^ 1074 * D)) (mul-mul-mul-comm (productGrid S D) 256 S 2097152)
+      (product-close (raisedUnits * 2 ^ 1074) (gridOf S) (spanOf S) D (productGrid S D * 256) (reciprocal-close S some small) once))
 
 -- ---- the product against 65535 D / S: above it, and by less than the distance of the next half from it. X is D, and Y the product times S,
 -- both in units of 1 / P
 abbrev raised : ℕ → ℕ
-raised X = 35183835217921 * X
+raised X = raisedUnits * X
 
 module _ (X Y : ℕ) (twice : CloseTwice (raised X) (Y * 536870912)) where
   error-small : 0 < X → 3 * raised X < 9007199254740992 * X
@@ -217,11 +223,11 @@ product-near S D L some small any few above under =
     }
 
 -- ---- the whole number nearest to a number
-big-value : HasValue big false 4503599627370496 1
+big-value : HasValue big false bigWhole 1
 big-value = (refl, refl)
 
 abbrev sumTop : ℕ → ℕ → ℕ
-sumTop t b = t * 1 + 4503599627370496 * b
+sumTop t b = t * 1 + bigWhole * b
 
 module _ (L : ℕ) (least : L ≤ 65535) (z : Float) (w : NearWhole z L) where
   abbrev t : ℕ
@@ -233,30 +239,30 @@ module _ (L : ℕ) (least : L ≤ 65535) (z : Float) (w : NearWhole z L) where
   level-fits : L * b ≤ 65535 * b
   level-fits = mul-le-mul-right b least
 
-  near-low : 2 * ((4503599627370496 + L) * b) < 2 * sumTop t b + b
-  near-low = omega (arith, add-mul 4503599627370496 L b, w .above)
+  near-low : 2 * ((bigWhole + L) * b) < 2 * sumTop t b + b
+  near-low = omega (arith, add-mul bigWhole L b, w .above)
 
-  near-high : 2 * sumTop t b < 2 * ((4503599627370496 + L) * b) + b
-  near-high = omega (arith, add-mul 4503599627370496 L b, w .under)
+  near-high : 2 * sumTop t b < 2 * ((bigWhole + L) * b) + b
+  near-high = omega (arith, add-mul bigWhole L b, w .under)
 
   in-reach : sumTop t b < 9007199254740992 * b
   in-reach = omega (arith, w .some, w .under, level-fits)
 
-  plus-big : HasValue (add binary64 z big) false (4503599627370496 + L) 1
+  plus-big : HasValue (add binary64 z big) false (bigWhole + L) 1
   plus-big =
-      subst (λ (v : Float). HasValue v false (4503599627370496 + L) 1)
-      (sym (add-values z big t b 4503599627370496 1 (w .some) (zero-lt-suc 0) (w .value) big-value
+      subst (λ (v : Float). HasValue v false (bigWhole + L) 1)
+      (sym (add-values z big t b bigWhole 1 (w .some) (zero-lt-suc 0) (w .value) big-value
       ∙ ap (λ (k : ℕ). round binary64 false (sumTop t b) k) (mul-one b)))
-      (whole-of (sumTop t b) b (4503599627370496 + L) (w .some) (omega arith) in-reach
-      (closest-is (sumTop t b) b (4503599627370496 + L) (w .some) near-low near-high) (omega arith))
+      (whole-of (sumTop t b) b (bigWhole + L) (w .some) (omega arith) in-reach
+      (closest-is (sumTop t b) b (bigWhole + L) (w .some) near-low near-high) (omega arith))
 
   whole-is : wholeOf z ≡ ofInt binary64 (pos L)
   unfolding ofInt
   whole-is =
-      sub-down (add binary64 z big) big (4503599627370496 + L) 4503599627370496 plus-big big-value (omega arith)
+      sub-down (add binary64 z big) big (bigWhole + L) bigWhole plus-big big-value (omega arith)
       ∙ ap (λ (k : ℕ). round binary64 false k 1) (back L)
     where
-      back : (k : ℕ) → 4503599627370496 + k - 4503599627370496 ≡ k
+      back : (k : ℕ) → bigWhole + k - bigWhole ≡ k
       back k = omega arith
 
 -- ---- at most 65535.0

@@ -12,13 +12,13 @@ use borrow.Author.Tests.{lt-ltb, le-ltb, ne-eqb}
 use lib.IntN.{ℤ, pos, negsuc, natAbs, _+ℤ_, _-ℤ_}
 use lib.Dec.{T, ltb, eqb, eqb→eq, ltb→lt}
 use lib.Pow.{pow-pos, pow-mono}
-use lib.Ieee.{Float, nan, inf, fin, Format, binary64, prec, emax, low, up, down, odd, units, round, neg, sum, add, mul, sub, div, lt, le, ofInt}
+use lib.Ieee.{Float, nan, inf, fin, Format, binary64, prec, emax, low, up, down, odd, units, unlike, round, neg, sum, add, mul, sub, div, lt, le, ofInt}
 use lib.Ieee.Fits.{down-pos, and-l, round-is}
 use lib.Ieee.Exact.{HasValue, round-exact}
 use lib.Ieee.Order.{transfer, round-mono}
 use lib.Ieee.Scale.{round-same}
 use Rattle.reading.proofs.Wholes.{le-or-lt, negative, int-value}
-use Rattle.levels.specs.Reciprocal.{mostRaised, parts, ofParts}
+use Rattle.levels.specs.Reciprocal.{ofParts}
 
 -- ---- the product
 mul-opened : (m : ℕ) (e : ℤ) (n : ℕ) (d : ℤ) → mul binary64 (fin false m e) (fin false n d) ≡ round binary64 false (m * up e * (n * up d)) (down e * down d)
@@ -40,33 +40,42 @@ mul-values (fin false m e) (fin false n g) a c b d C D h k =
     ∙ round-same binary64 false (m * up e * (n * up g)) (down e * down g) (a * b) (c * d) (mul-pos (down-pos e) (down-pos g)) (mul-pos C D)
     (mul-mul-mul-comm (m * up e) (n * up g) c d ∙ r ∙ mul-mul-mul-comm a (down e) b (down g))
 
--- ---- 65535 + 2 ^ -29, divided by a number of 256ths
-div-opened : (n : ℕ) (d : ℤ) →
-    div binary64 mostRaised (fin false n d) ≡ cond (eqb n 0) (inf false) (round binary64 false (35183835217921 * 1 * down d) (n * up d * 536870912))
+-- ---- the quotient by a number above 0
+unlike-plus : (s : Bool) → unlike s false ≡ s
+unlike-plus true = refl
+unlike-plus false = refl
+
+div-opened : (s : Bool) (m : ℕ) (e : ℤ) (n : ℕ) (d : ℤ) → div binary64 (fin s m e) (fin false n d)
+    ≡ cond (eqb n 0) (cond (eqb m 0) nan (inf (unlike s false))) (round binary64 (unlike s false) (m * up e * down d) (n * up d * down e))
 unfolding div
-div-opened n d = refl
+div-opened s m e n d = refl
 
-some-of : (n u b d : ℕ) → 0 < b → 0 < d → n * u * 256 ≡ b * d → n ≡ 0 → ⊥
-some-of n u b d B D h z =
-    let l : n * u * 256 ≡ 0 = ap (λ (k : ℕ). k * u * 256) z ∙ ap (λ (k : ℕ). k * 256) (zero-mul u) in
-    omega (arith, mul-pos B D)
+some-of : (x d y : ℕ) → 0 < y → x * d ≡ y → 0 < x
+some-of x d y h e =
+    ⊎-elim (λ l. let z : x ≡ 0 = omega arith in absurd (let n : x * d ≡ 0 = ap (λ (k : ℕ). k * d) z ∙ zero-mul d in omega arith)) (λ l. l) (le-or-lt x 0)
 
-some-times : (x y : ℕ) → 0 < y → x * 256 ≡ y → 0 < x * 536870912
-some-times x y h e = omega arith
+cross-div : (x y e g a b c d : ℕ) → x * c ≡ a * e → y * d ≡ b * g → x * g * (c * b) ≡ a * d * (y * e)
+cross-div x y e g a b c d p q =
+    let r : a * e * (b * g) ≡ a * e * (g * b) = ap (λ (z : ℕ). a * e * z) (mul-comm b g) in
+    let t : a * e * (y * d) ≡ a * d * (y * e) = simp (mul-assoc, mul-comm, mul-left-comm) in
+    mul-mul-mul-comm x g c b ∙ ap (λ (z : ℕ). z * (g * b)) p ∙ sym r ∙ ap (λ (z : ℕ). a * e * z) (sym q) ∙ t
 
-cross-div : (x d b : ℕ) → x * 256 ≡ b * d → d * (b * 2097152) ≡ x * 536870912
-cross-div x d b e = omega (arith, mul-left-comm d b 2097152, sym (mul-assoc b d 2097152))
-
-pub div-values : (y : Float) (b : ℕ) → 0 < b → HasValue y false b 256 → div binary64 mostRaised y ≡ round binary64 false 35183835217921 (b * 2097152)
-div-values nan b B h = absurd h
-div-values (inf s) b B h = absurd h
-div-values (fin true n d) b B h = absurd (true≢false (h .0))
-div-values (fin false n d) b B h =
-    let r : Float = round binary64 false (35183835217921 * 1 * down d) (n * up d * 536870912) in
-    div-opened n d ∙ ap (λ (t : Bool). cond t (inf false) r) (ne-eqb n 0 (some-of n (up d) b (down d) B (down-pos d) (h .1)))
-    ∙ round-same binary64 false (35183835217921 * 1 * down d) (n * up d * 536870912) 35183835217921 (b * 2097152)
-    (some-times (n * up d) (b * down d) (mul-pos B (down-pos d)) (h .1)) (mul-pos B (zero-lt-suc _))
-    (mul-assoc 35183835217921 (down d) (b * 2097152) ∙ ap (λ (z : ℕ). 35183835217921 * z) (cross-div (n * up d) (down d) b (h .1)))
+pub div-values : (x y : Float) (s : Bool) (a c b d : ℕ) → 0 < c → 0 < b → HasValue x s a c → HasValue y false b d
+    → div binary64 x y ≡ round binary64 s (a * d) (c * b)
+div-values nan y s a c b d C B h k = absurd h
+div-values (inf u) y s a c b d C B h k = absurd h
+div-values (fin u m e) nan s a c b d C B h k = absurd k
+div-values (fin u m e) (inf v) s a c b d C B h k = absurd k
+div-values (fin u m e) (fin true n g) s a c b d C B h k = absurd (true≢false (k .0))
+div-values (fin u m e) (fin false n g) s a c b d C B h k =
+    let X : ℕ = n * up g in
+    let p : 0 < X = some-of X d (b * down g) (mul-pos B (down-pos g)) (k .1) in
+    let q : 0 < n = some-of n (up g) X p refl in
+    let r : Float = round binary64 (unlike u false) (m * up e * down g) (X * down e) in
+    div-opened u m e n g ∙ ap (λ (t : Bool). cond t (cond (eqb m 0) nan (inf (unlike u false))) r) (ne-eqb n 0 (λ z. absurd (omega arith)))
+    ∙ ap (λ (t : Bool). round binary64 t (m * up e * down g) (X * down e)) (unlike-plus u ∙ h .0)
+    ∙ round-same binary64 s (m * up e * down g) (X * down e) (a * d) (c * b) (mul-pos p (down-pos e)) (mul-pos C B)
+    (cross-div (m * up e) X (down e) (down g) a b c d (h .1) (k .1))
 
 -- ---- the sum of fractions that are not negative
 add-opened : (s : Bool) (m : ℕ) (e : ℤ) (t : Bool) (n : ℕ) (d : ℤ) →
@@ -226,21 +235,13 @@ add-parts a b h k =
     ∙ sum-is 256 a b ∙ sym (parts-are (a +ℤ b))
 
 -- a whole number, divided by 256.0
-parts-opened : (s : Bool) (m : ℕ) (e : ℤ) → div binary64 (fin s m e) parts ≡ round binary64 s (m * up e * 1) (256 * down e)
-unfolding div
-parts-opened true m e = refl
-parts-opened false m e = refl
-
-whole-parts : (x : Float) (s : Bool) (a : ℕ) → HasValue x s a 1 → div binary64 x parts ≡ round binary64 s a 256
-whole-parts nan s a h = absurd h
-whole-parts (inf t) s a h = absurd h
-whole-parts (fin t m e) s a h =
-    parts-opened t m e ∙ ap (λ (z : Bool). round binary64 z (m * up e * 1) (256 * down e)) (h .0)
-    ∙ round-same binary64 s (m * up e * 1) (256 * down e) a 256 (mul-pos (zero-lt-suc _) (down-pos e)) (zero-lt-suc _)
-    (ap (λ (z : ℕ). z * 256) (h .1) ∙ mul-assoc a (down e) 256 ∙ ap (λ (z : ℕ). a * z) (mul-comm (down e) 256))
+abbrev pub parts : Float
+parts = fin false 1 (pos 8)
 
 pub parts-divided : (z : ℤ) → natAbs z ≤ 2 ^ 53 → div binary64 (ofInt binary64 z) parts ≡ ofParts z
-parts-divided z h = whole-parts (ofInt binary64 z) (negative z) (natAbs z) (int-value z h) ∙ sym (parts-are z)
+parts-divided z h =
+    div-values (ofInt binary64 z) parts (negative z) (natAbs z) 1 256 1 (zero-lt-suc 0) (zero-lt-suc _) (int-value z h) (refl, refl)
+    ∙ ap (λ (n : ℕ). round binary64 (negative z) n 256) (mul-one (natAbs z)) ∙ sym (parts-are z)
 
 -- a whole number has 256 times as many
 finer : (x : Float) (s : Bool) (a : ℕ) → HasValue x s a 1 → HasValue x s (256 * a) 256

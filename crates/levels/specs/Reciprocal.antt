@@ -2,23 +2,25 @@
 -- `level-is-by`); a reader of the claim may pass over it.
 use mathlib.Core.Path.{_≡_}
 use mathlib.Core.Bool.{true, false, cond}
-use Prim.Native.Nat.{suc, _<_, _≤_}
+use Prim.Native.Nat.{ℕ, suc, _<_, _≤_}
 use lib.IntN.{ℤ, pos, negsuc, natAbs}
 use lib.Ieee.{Float, fin, binary64, round, add, sub, mul, div, lt}
 use Rattle.levels.specs.Clip.{plusZero}
 use Rattle.levels.specs.Level.{most}
 
--- 65535 + 2 ^ -29
+-- 65535 + 2 ^ -29, and in units of 2 ^ -29
+abbrev pub raisedUnits : ℕ
+raisedUnits = 35183835217921
+
 abbrev pub mostRaised : Float
-mostRaised = fin false 35183835217921 (negsuc 28)
+mostRaised = fin false raisedUnits (negsuc 28)
 
 -- 2 ^ 52
+abbrev pub bigWhole : ℕ
+bigWhole = 4503599627370496
+
 abbrev pub big : Float
 big = fin false 1 (pos 52)
-
--- 256.0
-abbrev pub parts : Float
-parts = fin false 1 (pos 8)
 
 -- a number of 256ths as f64
 unfoldable pub ofParts : ℤ → Float

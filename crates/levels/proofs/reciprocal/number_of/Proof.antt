@@ -5,8 +5,7 @@ use lib.IntN.{ℤ, natAbs}
 use lib.Ieee.{binary64, div, ofInt, ofBits}
 use mir.Facts.{toZ-ofZ}
 use Rattle.reading.proofs.Wholes.{casts}
-use Rattle.levels.specs.Reciprocal.{parts}
-use Rattle.levels.proofs.Values.{parts-divided}
+use Rattle.levels.proofs.Values.{parts, parts-divided}
 use Rattle.levels.proofs.reciprocal.number_of.Statement.{statement}
 use Rattle.levels.proofs.reciprocal.number_of.Tie as tie
 
