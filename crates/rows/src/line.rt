@@ -101,7 +101,7 @@ fn scaled_with_room(
     scaled_numbers(room, down, blacks, inverses, out);
 }
 
-// The same.
+// The same, with room of its own.
 fn scaled_by_numbers(line: Line, file: &[u8], blacks: &[f64], inverses: &[f64], out: &mut [f64])
     requires { ⌜ Line-in (now file) line (length (now out)) × (length (now out) ≤ 512) ⌝ }
     requires { ⌜ (length (now out) ≤ length (now blacks)) × (length (now out) ≤ length (now inverses)) ⌝ }
