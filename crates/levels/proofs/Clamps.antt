@@ -7,7 +7,7 @@ use Prim.Native.Nat.{ℕ, zero, suc, _+_, _*_, _^_, _≤_, _<_, min}
 use native.Mathlib.Nat.{le-refl, zero-lt-suc}
 use native.Mathlib.Omega.{arith}
 use borrow.Author.Tests.{lt-ltb, lt-leb, le-leb}
-use lib.Dec.{leb}
+use lib.Dec.{leb, ltb}
 use lib.IntN.{ℤ, pos, negsuc, natAbs, _+ℤ_}
 use lib.Ieee.{Float, nan, inf, fin, binary64, round, add, sub, div, lt, ofInt}
 use lib.Ieee.Exact.{HasValue}
@@ -47,7 +47,8 @@ floor-is : (z : ℤ) → natAbs z < 2 ^ 53 → flooredOf (ofParts z) ≡ ofParts
 floor-is (pos zero) h = rw (lt-fractions plusZero (ofParts (pos 0)) 0 1 0 256 (zero-lt-suc 0) (zero-lt-suc _) zero-value (parts-value (pos 0) h), is-zero)
 floor-is (pos (suc n)) h =
     let x : Float = ofParts (pos (suc n)) in
-    rw (lt-fractions plusZero x 0 1 (suc n) 256 (zero-lt-suc 0) (zero-lt-suc _) zero-value (parts-value (pos (suc n)) h), lt-ltb (0 * 256) (suc n * 1) (omega arith))
+    let above : ltb (0 * 256) (suc n * 1) ≡ true = lt-ltb (0 * 256) (suc n * 1) (omega arith) in
+    rw (lt-fractions plusZero x 0 1 (suc n) 256 (zero-lt-suc 0) (zero-lt-suc _) zero-value (parts-value (pos (suc n)) h), above)
 floor-is (negsuc n) h = rw (not-above (ofParts (negsuc n)) (suc n) 256 (parts-value (negsuc n) h), is-zero)
 
 -- ---- the level of a clipped D

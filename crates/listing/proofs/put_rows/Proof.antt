@@ -14,6 +14,26 @@ use borrow.Author.Needs.{needs}
 use Rattle.listing.proofs.put_rows.Statement.{statement}
 use Rattle.listing.proofs.put_rows.Tie as tie
 
+-- how many values the block has
+abbrev count : tie.Start → ℕ
+count s = let z = s .args .view .size in s .args .height * (z .columns * z .samples)
+
+lent : (s : tie.Start) → length (take (count s) (now (s .args .values))) ≡ count s
+lent s = length-take-le (count s) (now (s .args .values)) (omega (arith, s .pre .1 .2, s .pre .0 .1))
+
+-- they came back, as many, in their place
+abbrev start : tie.After-opened-window → tie.Start
+start g = g .before .before .before .before .before .before .before
+
+abbrev values : tie.After-opened-window → List Float
+values g = g .opened-window .last .1 .1 .1 .1 .1 .1 .0
+
+came : (g : tie.After-opened-window) → length (values g) ≡ count (start g)
+came g = g .opened-window .kept .1 .1 .1 .1 .1 .1 .0 ∙ lent (start g)
+
+in-place : (g : tie.After-opened-window) → let s = start g in take (count s) (values g ++ drop (count s) (now (s .args .values))) ≡ values g
+in-place g = let s = start g in take-at (values g) (drop (count s) (now (s .args .values))) (count s) (came g)
+
 mul-width : tie.Need-mul-width
 mul-width c =
     let s = c .before .before .before .before .before in
@@ -26,9 +46,7 @@ slice-relend-prefix-opened-window : tie.Need-slice-relend-prefix-opened-window
 slice-relend-prefix-opened-window c = search needs
 
 slice-aggregate-opened-window : tie.Need-slice-aggregate-opened-window
-slice-aggregate-opened-window c =
-    let s = c .before .before .before .before .before .before in
-    sym (length-take-le _ (now (s .args .values)) (omega (arith, s .pre .1 .2, s .pre .0 .1)))
+slice-aggregate-opened-window c = sym (lent (c .before .before .before .before .before .before))
 
 opened-window-requires : tie.Need-opened-window-requires
 opened-window-requires c κs = c .before .before .before .before .before .before .pre .0 .3
@@ -37,37 +55,18 @@ slice-reshare-prefix-put-lines : tie.Need-slice-reshare-prefix-put-lines
 slice-reshare-prefix-put-lines c = search needs
 
 slice-aggregate-put-lines : tie.Need-slice-aggregate-put-lines
-slice-aggregate-put-lines c =
-    let s = c .before .before .before .before .before .before .before .before .before .before .before in
-    let w = c .before .before .before .before .opened-window in
-    let a = s .args in
-    let z = a .view .size in
-    let p = s .pre .1 in
-    let m = a .height * (z .columns * z .samples) in
-    let old = take m (now (a .values)) in
-    let new = w .last .1 .1 .1 .1 .1 .1 .0 in
-    let k : length old ≡ m = length-take-le m (now (a .values)) (omega (arith, p .2, s .pre .0 .1)) in
-    let n : length new ≡ m = w .kept .1 .1 .1 .1 .1 .1 .0 ∙ k in
-    let e : take m (new ++ drop m (now (a .values))) ≡ new = take-at new (drop m (now (a .values))) m n in
-    sym n ∙ ap length (sym e)
+slice-aggregate-put-lines c = let g = c .before .before .before .before in sym (came g) ∙ ap length (sym (in-place g))
 
 put-lines-requires : tie.Need-put-lines-requires
 put-lines-requires c κs =
-    let s = c .before .before .before .before .before .before .before .before .before .before .before in
-    let w = c .before .before .before .before .opened-window in
+    let g = c .before .before .before .before in
+    let s = start g in
     let a = s .args in
-    let z = a .view .size in
     let p = s .pre .1 in
-    let m = a .height * (z .columns * z .samples) in
-    let old = take m (now (a .values)) in
-    let new = w .last .1 .1 .1 .1 .1 .1 .0 in
-    let k : length old ≡ m = length-take-le m (now (a .values)) (omega (arith, p .2, s .pre .0 .1)) in
-    let n : length new ≡ m = w .kept .1 .1 .1 .1 .1 .1 .0 ∙ k in
-    let e : take m (new ++ drop m (now (a .values))) ≡ new = take-at new (drop m (now (a .values))) m n in
     let q = s .pre .0 .2 in
-    let j : length (take m (new ++ drop m (now (a .values)))) ≡ m = ap length e ∙ n in
-    let u = block-units (now (a .file)) z q (a .top) (a .height) old (p .0) (p .1) k _ new (w .ensures) in
-    (width-some z (q .sized) (q .some-columns), j, omega (arith, j, p .2, s .pre .0 .0), subst Units (sym e) u)
+    let j : length (take (count s) (values g ++ drop (count s) (now (a .values)))) ≡ count s = ap length (in-place g) ∙ came g in
+    let u = block-units (now (a .file)) (a .view .size) q (a .top) (a .height) _ (p .0) (p .1) (lent s) _ (values g) (g .opened-window .ensures) in
+    (width-some (a .view .size) (q .sized) (q .some-columns), j, omega (arith, j, p .2, s .pre .0 .0), subst Units (sym (in-place g)) u)
 
 same-length : tie.Need-same-length
 same-length c = search needs
@@ -77,22 +76,16 @@ same-length-2 c = search needs
 
 returns : tie.Need-returns
 returns c =
-    let s = c .before .before .before .before .before .before .before .before .before .before .before .before .before .before in
-    let w = c .before .before .before .before .before .before .before .opened-window in
+    let g = c .before .before .before .before .before .before .before in
+    let s = start g in
     let a = s .args in
     let z = a .view .size in
     let p = s .pre .1 in
-    let m = a .height * (z .columns * z .samples) in
-    let old = take m (now (a .values)) in
-    let new = w .last .1 .1 .1 .1 .1 .1 .0 in
-    let k : length old ≡ m = length-take-le m (now (a .values)) (omega (arith, p .2, s .pre .0 .1)) in
-    let n : length new ≡ m = w .kept .1 .1 .1 .1 .1 .1 .0 ∙ k in
-    let e : take m (new ++ drop m (now (a .values))) ≡ new = take-at new (drop m (now (a .values))) m n in
-    let t = c .before .before .put-lines .ensures in
     let f = now (a .file) in
-    let g = block-body f z (s .pre .0 .2) (a .top) (a .height) old (p .0) (p .1) k _ new (w .ensures) in
-    let l = t .1 ∙ ap (λ (xs : List Float). linesText (z .columns * z .samples) (a .height) xs) e in
-    (t .0, ap (λ (xs : List ℕ). xs ++ bodyText f (a .top + a .height) (listedOf f)) l ∙ g)
+    let t = c .before .before .put-lines .ensures in
+    let b = block-body f z (s .pre .0 .2) (a .top) (a .height) _ (p .0) (p .1) (lent s) _ (values g) (g .opened-window .ensures) in
+    let l = t .1 ∙ ap (λ (xs : List Float). linesText (z .columns * z .samples) (a .height) xs) (in-place g) in
+    (t .0, ap (λ (xs : List ℕ). xs ++ bodyText f (a .top + a .height) (listedOf f)) l ∙ b)
 
 pub put-rows-spec : {M : Type 1} → statement M
 put-rows-spec =
