@@ -1,5 +1,5 @@
 use mathlib.Core.Path.{ap, _∙_}
-use Prim.Native.Nat.{_-_}
+use Prim.Native.Nat.{_-_, _<_}
 use native.Mathlib.Omega.{arith}
 use borrow.Author.Needs.{needs}
 use denote.Ref.{now}
@@ -29,7 +29,7 @@ first-inverses-requires : tie.Need-first-inverses-requires
 first-inverses-requires c κs = search needs
 
 repeat-requires : tie.Need-repeat-requires
-repeat-requires c κs = c .before .before .before .before .before .before .before .before .pre .tags .frame .some-samples
+repeat-requires c κs = omega (arith, c .before .before .before .before .before .before .before .before .pre .tags .frame .some-samples)
 
 same-length : tie.Need-same-length
 same-length c = search needs
@@ -39,11 +39,15 @@ returns c k h =
     let s = c .before .before .before .before .before .before .before .before .before .before .before in
     let n = s .args .raw .tags .frame .samples in
     let v = run (now (s .args .file)) (levelsReading (s .args .order) (s .args .raw .tags)) in
+    let some = s .pre .tags .frame .some-samples in
     let m = c .before .before .before .before .before .before .before .before .smaller .ensures in
+    let y = c .before .before .before .before .before .before .first-inverses in
+    let ys = y .last .1 .1 .1 .0 in
     c .before .before .repeat .ensures (λ j. inverseOf (spanAlong v n j))
-    (λ j b l. List·getD-append (c .before .before .before .before .before .before .first-inverses .last .1 .1 .1 .0) _ nan j (search needs)
-    ∙ c .before .before .before .before .before .before .first-inverses .ensures j (search needs))
-    (λ j. ap inverseOf (span-next v n (s .pre .tags .frame .some-samples) j)) k (search needs)
+    (λ j b l.
+    let i : j < n = omega (arith, some) in
+    List·getD-append ys _ nan j (search needs) ∙ y .ensures j (search needs))
+    (λ j. ap inverseOf (span-next v n some j)) k (search needs)
 
 pub inverses-row-spec : {M : Type 1} → statement M
 inverses-row-spec =
