@@ -21,7 +21,7 @@ use Rattle.colour.specs.declared.Colour.{Colour}
 use Rattle.opcodes.specs.Frame.{standing, alone}
 use Rattle.opcodes.specs.declared.grid.Size.{Size}
 use Rattle.opcodes.proofs.OpcodeLists.{and-true}
-use Rattle.rows.specs.Line.{scaledIn}
+use Rattle.samples.specs.Line.{scaledIn}
 use Rattle.develop.specs.Calls.{Opened, sizeOf, frameOf, within, refusedSpot, spotOf, spotCall, inside, valuesOf, windowWith, refusedWindow, filledOf}
 use Rattle.develop.specs.Calls.{windowOf, windowCall, colourFor, pixelIn, colouredOf, colourWindowOf, colourWindowCall}
 use Rattle.develop.specs.Demand.{aloneIn}

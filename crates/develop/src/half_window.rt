@@ -9,7 +9,7 @@ ghost use Rattle.raw.specs.Pattern.{Pattern-in};
 ghost use Rattle.colour.specs.Bounds.{All, Developed, Finite};
 ghost use Rattle.colour.specs.Tags.{Colour-in};
 ghost use Rattle.raw.specs.Stored.{levelsReading};
-ghost use Rattle.rows.specs.Along.{Along-in, Deltas-in};
+ghost use Rattle.samples.specs.Along.{Along-in, Deltas-in};
 ghost use Rattle.develop.specs.Calls.{valuesOf, windowWith, halfFor, blocksOf, blockAt, blockXyz, blockIn, halvedOf, halfWindowCall};
 ghost use Rattle.develop.specs.Demand.{aloneIn};
 ghost use Rattle.develop.specs.View.{Viewed};
@@ -32,7 +32,7 @@ use raw::pattern;
 use raw::pattern::Pattern;
 use raw::pattern::Patterned;
 use reading::number;
-use rows::along;
+use samples::along;
 
 // What a block's colour needs besides its four samples.
 pub struct Half {

@@ -32,7 +32,7 @@ use Rattle.opcodes.proofs.GainMaps.{map-accepted, fault-map, fault-plain}
 use Rattle.rows.specs.Sweep.{planesOf, overPart}
 use Rattle.rows.specs.GainMap.{columnAt, gainLine}
 use Rattle.rows.specs.Part.{Kept-in, Plain-in, keptOf, gainedOf}
-use Rattle.rows.proofs.Eaches.{each-same, each-none}
+use Rattle.samples.proofs.Eaches.{each-same, each-none}
 use Rattle.rows.proofs.Hits.{whole}
 use Rattle.rows.proofs.Sweeps.{every-told, line-first, line-more}
 

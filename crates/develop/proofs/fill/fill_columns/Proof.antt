@@ -9,7 +9,7 @@ use lib.ListN.{length, take, drop}
 use mathlib.Core.List.{List}
 use Rattle.reading.specs.Reading.{run}
 use Rattle.raw.specs.Stored.{levelsReading}
-use Rattle.rows.specs.Along.{Along-in, Deltas-in}
+use Rattle.samples.specs.Along.{Along-in, Deltas-in}
 use Rattle.develop.specs.Demand.{aloneIn}
 use Rattle.develop.specs.Fill.{Upto}
 use Rattle.develop.specs.View.{Viewed}

@@ -12,7 +12,7 @@ use Rattle.develop.specs.Fill.{Fill-in, numberOf, Upto}
 use Rattle.develop.specs.declared.fill.Rectangle.{Rectangle}
 use Rattle.reading.specs.Reading.{run}
 use Rattle.raw.specs.Stored.{levelsReading}
-use Rattle.rows.specs.Along.{Along-in, Deltas-in}
+use Rattle.samples.specs.Along.{Along-in, Deltas-in}
 use Rattle.develop.specs.View.{Viewed}
 use Rattle.develop.proofs.Windows.{part-length, window-length, upto-values, viewed-sized}
 use Rattle.develop.proofs.BlockLaws.{pair-blocks}

@@ -5,7 +5,7 @@ use native.Mathlib.Omega.{arith}
 use borrow.Author.Needs.{needs}
 use denote.Ref.{now}
 use lib.IntN.{pos}
-use Rattle.rows.proofs.Lines.{zeros-part}
+use Rattle.samples.proofs.Lines.{zeros-part}
 use Rattle.develop.proofs.Windows.{viewed-sized, viewed-wide, copies-length, array-length, deltas-part}
 use Rattle.develop.proofs.half_window.blocks_with_deltas.Statement.{statement}
 use Rattle.develop.proofs.half_window.blocks_with_deltas.Tie as tie

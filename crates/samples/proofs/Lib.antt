@@ -1,0 +1,4 @@
+pub mod Eaches
+pub mod Lines
+pub mod Alongs
+pub mod Planes
