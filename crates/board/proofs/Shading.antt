@@ -60,17 +60,20 @@ abbrev pub gainThere : Float
 gainThere = gainOf (gainMapOf shading) four-by-four 1 2 0
 
 pub gain-numbers :
-    Number (four-gains .«upper_left») × Number (four-gains .«upper_right») × Number (four-gains .«lower_left») × Number (four-gains .«lower_right»)
+    Number (four-gains .«upper_left») × Number (four-gains .«upper_right») × Number (four-gains .«lower_left»)
+        × Number (four-gains .«lower_right»)
 unfolding isNan cornersOf gainMapOf numberOf bigOf realOf ofBits pick
 gain-numbers = (tt, tt, tt, tt)
 
 pub gained-numbers : Number gainThere × Number (appliedOf (Scale gainThere) shading quarter)
-unfolding isNan appliedOf resultOf clipOf gainOf alongOf betweenOf placeOf gainMapOf numberOf bigOf realOf ofBits ofInt toUnsigned add sub mul div le pick
+unfolding isNan appliedOf resultOf clipOf gainOf alongOf betweenOf placeOf gainMapOf numberOf bigOf realOf ofBits ofInt toUnsigned add sub
+    mul div le pick
 gained-numbers = (tt, tt)
 
 pub values-hold :
     bits (four-gains .«upper_left») ∷ bits (four-gains .«upper_right») ∷ bits (four-gains .«lower_left») ∷ bits (four-gains .«lower_right»)
     ∷ bits gainThere ∷ bits (appliedOf (Scale gainThere) shading quarter) ∷ [] ≡ example 12
-unfolding board example cornersOf appliedOf resultOf clipOf gainOf alongOf betweenOf placeOf gainMapOf numberOf bigOf realOf ofBits toBits ofInt toUnsigned
+unfolding board example cornersOf appliedOf resultOf clipOf gainOf alongOf betweenOf placeOf gainMapOf numberOf bigOf realOf ofBits toBits
+    ofInt toUnsigned
     add sub mul div le pick
 values-hold = refl

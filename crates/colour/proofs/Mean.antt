@@ -14,7 +14,8 @@ use lib.Ieee.Order.{round-mono}
 use lib.Ieee.Scale.{grid}
 use Rattle.colour.specs.Bounds.{Within, Plus, Developed}
 use Rattle.colour.specs.Pixel.{half, meanOf}
-use Rattle.colour.proofs.Magnitudes.{Exact, exact-0, exact-1, below-power, round-within, round-value, mul-opened, add-opened, sum-opened, summed}
+use Rattle.colour.proofs.Magnitudes.{Exact, exact-0, exact-1, below-power, round-within, round-value, mul-opened, add-opened}
+use Rattle.colour.proofs.Magnitudes.{sum-opened, summed}
 use Rattle.colour.proofs.FinitePixel.{unit-within}
 
 plus-of : (x : Float) (a c : ℕ) → HasValue x false a c → Plus x
@@ -26,7 +27,8 @@ plus-of (fin false m e) a c h = tt
 -- what is rounded from a fraction up to a power of two
 round-plus : (j : ℕ) → Exact j → (a c : ℕ) → 0 < c → a ≤ 2 ^ j * c → Plus (round binary64 false a c)
 round-plus j x a c C h =
-    plus-of (round binary64 false a c) (grid binary64 a c) (2 ^ 1074) (round-value false a c (fin false 1 (pos j)) tt (below-power j x a c C h))
+    plus-of (round binary64 false a c) (grid binary64 a c) (2 ^ 1074)
+        (round-value false a c (fin false 1 (pos j)) tt (below-power j x a c C h))
 
 from-zero : round binary64 false 0 1 ≡ fin false 0 (pos 0)
 unfolding round
@@ -37,7 +39,8 @@ round-developed : (a c : ℕ) → 0 < c → a ≤ c → Developed (round binary6
 round-developed a c C h =
     let k : a ≤ 2 ^ 0 * c = omega (arith, one-mul c) in
     let low : T (le (round binary64 false 0 1) (round binary64 false a c)) = round-mono binary64 0 1 a c (zero-lt-suc 0) C (omega arith) in
-    ((subst (λ (z : Float). T (le z (round binary64 false a c))) from-zero low, below-power 0 exact-0 a c C k), round-plus 0 exact-0 a c C k)
+    ((subst (λ (z : Float). T (le z (round binary64 false a c))) from-zero low, below-power 0 exact-0 a c C k),
+        round-plus 0 exact-0 a c C k)
 
 halved : (x : Float) → Within 2 x → Plus x → Developed (mul binary64 x half)
 halved nan w p = absurd p
@@ -53,7 +56,8 @@ added (fin false m e) (fin false n d) v p w q =
     let c = down e * down d in
     let C : 0 < c = mul-pos (down-pos e) (down-pos d) in
     let h : a ≤ 2 ^ 1 * c = summed (m * up e) (n * up d) (down e) (down d) 1 1 2 v w (omega arith) in
-    let o : add binary64 (fin false m e) (fin false n d) ≡ round binary64 false a c = add-opened false m e false n d ∙ sum-opened false _ false _ c in
+    let o : add binary64 (fin false m e) (fin false n d) ≡ round binary64 false a c = add-opened false m e false n d
+        ∙ sum-opened false _ false _ c in
     (subst (Within 2) (sym o) (round-within 1 exact-1 false a c C h), subst Plus (sym o) (round-plus 1 exact-1 a c C h))
 added nan y v p w q = absurd p
 added (inf s) y v p w q = absurd p

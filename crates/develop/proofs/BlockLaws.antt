@@ -33,7 +33,8 @@ use Rattle.colour.proofs.Mean.{mean-developed}
 use Rattle.opcodes.specs.Frame.{standing}
 use Rattle.opcodes.specs.declared.grid.Size.{Size}
 use Rattle.rows.specs.Part.{Sized-in}
-use Rattle.develop.specs.Calls.{Opened, halfFor, sizeOf, frameOf, inside, joined, valuesOf, windowWith, filledOf, channelOf, blocksOf, blockAt}
+use Rattle.develop.specs.Calls.{Opened, halfFor, sizeOf, frameOf, inside, joined, valuesOf, windowWith, filledOf, channelOf, blocksOf}
+use Rattle.develop.specs.Calls.{blockAt}
 use Rattle.develop.specs.Calls.{blockXyz, blockIn, halvedOf, halfWindowOf, halfWindowCall}
 use Rattle.develop.specs.Demand.{developedIn, aloneIn}
 use Rattle.develop.specs.View.{Viewed}
@@ -79,7 +80,8 @@ module _ (x : ℕ → ℕ → ℕ → Float) (t l w : ℕ) (xs rest : List Float
       let i : r * w + c ≡ r * (w * 1) + (c * 1 + 0) = ap (λ (n : ℕ). r * n + c) (sym (mul-one w)) ∙ omega (arith, mul-one c) in
       let m : r * w ≤ 1 * w = mul-le-mul-right w (omega arith) in
       let b : r * w + c < length (valuesOf x t l 2 w 1) = omega (arith, m, window-length x t l 2 w 1, mul-one w) in
-      pair-at xs w r c 0 ∙ ap (λ (ys : List Float). getD ys (r * w + c) nan) e ∙ List·getD-append (valuesOf x t l 2 w 1) rest nan (r * w + c) b
+      pair-at xs w r c 0 ∙ ap (λ (ys : List Float). getD ys (r * w + c) nan) e
+          ∙ List·getD-append (valuesOf x t l 2 w 1) rest nan (r * w + c) b
       ∙ ap (λ (n : ℕ). getD (valuesOf x t l 2 w 1) n nan) i ∙ values-at x t l 2 w 1 r c 0 nan hr hc (omega arith)
 
 -- their blocks are those of the window
@@ -121,7 +123,8 @@ block-row-at x l w r k h =
     let p : k % 3 < 3 = mod-lt k (zero-lt-suc 2) in
     let z : 0 + 1 * (k % 3) ≡ k % 3 = omega (arith, one-mul (k % 3)) in
     ap (λ (n : ℕ). getD (blockRow x l w r) n nan) (sym (div-add-mod' k 3))
-    ∙ joined-at (λ (c : ℕ). runOf (x r c) 1 0 3) 3 (block-length x r) l w (k / 3) (k % 3) nan c p ∙ run-at (x r (l + k / 3)) 1 0 3 (k % 3) nan p
+    ∙ joined-at (λ (c : ℕ). runOf (x r c) 1 0 3) 3 (block-length x r) l w (k / 3) (k % 3) nan c p
+        ∙ run-at (x r (l + k / 3)) 1 0 3 (k % 3) nan p
     ∙ ap (x r (l + k / 3)) z
 
 pub block-row-length : (x : ℕ → ℕ → ℕ → Float) (l w r : ℕ) → length (blockRow x l w r) ≡ w * 3
@@ -143,12 +146,14 @@ module _ (f : List ℕ) (p : Picture) where
       unfolding halfFor
       half-unpatterned n d h = rw (eq-eqb _ 1 e, pick-yes) (bind-refused f _ _ n d h ∙ sym (bind-is f _ _ m em))
 
-      pub half-is : (x : Pattern) → is x ≡ run f (patternReading (p .directory)) → is (record { colour = m; pattern = x }) ≡ run f (halfFor p)
+      pub half-is : (x : Pattern) → is x ≡ run f (patternReading (p .directory)) →
+          is (record { colour = m; pattern = x }) ≡ run f (halfFor p)
       unfolding halfFor
       half-is x ex = rw (eq-eqb _ 1 e, pick-yes) (sym (bind-is f _ _ m em ∙ bind-is f _ _ x ex ∙ run-answer f _))
 
 -- they are of a mosaic, and the pattern's places lie in the block
-pub half-inverse : (f : List ℕ) (p : Picture) (m : Half) → is m ≡ run f (halfFor p) → (p .raw .tags .frame .samples ≡ 1) × Pattern-in (m .pattern)
+pub half-inverse : (f : List ℕ) (p : Picture) (m : Half) → is m ≡ run f (halfFor p) → (p .raw .tags .frame .samples ≡ 1)
+    × Pattern-in (m .pattern)
 unfolding halfFor
 half-inverse f p m e = go (eqb (p .raw .tags .frame .samples) 1) refl
   where
@@ -174,7 +179,8 @@ pub half-finite :
 half-finite f o m e c i j a b =
     let h = half-inverse f (o .picture) m e in
     block-finite m c (h .1) (developedIn f o) i j (λ k n.
-    let d = developed-alone f o (2 * i + k / 2) (2 * j + k % 2) 0 (record { row = omega arith; column = omega arith; plane = omega (arith, h .0) }) in
+    let d = developed-alone f o (2 * i + k / 2) (2 * j + k % 2) 0
+        (record { row = omega arith; column = omega arith; plane = omega (arith, h .0) }) in
     subst Developed (sym d) (unit-developed _ (alone-is-unit f o (2 * i + k / 2) (2 * j + k % 2) 0)))
 
 -- ---- the half window's answer
@@ -191,7 +197,8 @@ module _ (f : List ℕ) (v : View) (q : Viewed f v) (t l h w : ℕ) (old : List 
       record { rows = omega (arith, s .rows); columns = omega (arith, s .columns); some = omega arith; few = omega arith }
 
   module _ (one : v .size .samples ≡ 1) where
-    pub blocks-in : 0 ≡ windowFault (blocksOf (v .size)) 3 t l h w (length old) → Blocks-in f v (record { top = t; left = l; height = h; width = w }) old
+    pub blocks-in : 0 ≡ windowFault (blocksOf (v .size)) 3 t l h w (length old) →
+        Blocks-in f v (record { top = t; left = l; height = h; width = w }) old
     blocks-in e =
         let k = none-inside (blocksOf (v .size)) t l h w 3 (length old) e in
         let i = inside-fits (blocksOf (v .size)) t l h w (k .0) in
@@ -211,12 +218,14 @@ module _ (f : List ℕ) (v : View) (q : Viewed f v) (t l h w : ℕ) (old : List 
           sym (developed-alone f file _ _ 0 (record { row = omega (arith, k .0); column = omega (arith, k .1); plane = omega arith })))))
 
       pub halved-none :
-          (new : List Float) → 0 ≡ windowFault (blocksOf (v .size)) 3 t l h w (length old) → new ≡ valuesOf (blockIn m (aloneIn f file)) t l h w 3 →
+          (new : List Float) → 0 ≡ windowFault (blocksOf (v .size)) 3 t l h w (length old) →
+              new ≡ valuesOf (blockIn m (aloneIn f file)) t l h w 3 →
           windowWith (record { number = 0; detail = 0 }) new ≡ halvedOf f t l h w old file (is m)
       halved-none new e d =
           let k = none-inside (blocksOf (v .size)) t l h w 3 (length old) e in
           let x = blockIn m (standing (frameOf f file)) in
-          filled-none (blocksOf (v .size)) t l h w 3 old x new e (d ∙ blocks-alone (k .0)) ∙ ap (λ (z : Size). filledOf z 3 t l h w old x) (sym blocks-is)
+          filled-none (blocksOf (v .size)) t l h w 3 old x new e (d ∙ blocks-alone (k .0))
+              ∙ ap (λ (z : Size). filledOf z 3 t l h w old x) (sym blocks-is)
 
   pub halved-fault :
       (m : Half) (n : ℕ) → n ≡ windowFault (blocksOf (v .size)) 3 t l h w (length old) → (n ≡ 0 → ⊥) →
@@ -227,4 +236,5 @@ module _ (f : List ℕ) (v : View) (q : Viewed f v) (t l h w : ℕ) (old : List 
 
   pub half-called : (x : Out Half) → x ≡ run f (halfFor (v .picture)) → halvedOf f t l h w old file x ≡ halfWindowCall f t l h w old
   half-called x e =
-      ap (halvedOf f t l h w old file) (e ∙ ap (λ (p : Picture). run f (halfFor p)) (sym (q .picture))) ∙ ap (halfWindowOf f t l h w old) (q .accepted)
+      ap (halvedOf f t l h w old file) (e ∙ ap (λ (p : Picture). run f (halfFor p)) (sym (q .picture)))
+          ∙ ap (halfWindowOf f t l h w old) (q .accepted)

@@ -22,7 +22,8 @@ use Rattle.opcodes.specs.Frame.{standing, alone}
 use Rattle.opcodes.specs.declared.grid.Size.{Size}
 use Rattle.opcodes.proofs.OpcodeLists.{and-true}
 use Rattle.samples.specs.Line.{scaledIn}
-use Rattle.develop.specs.Calls.{Opened, sizeOf, frameOf, within, refusedSpot, spotOf, spotCall, inside, valuesOf, windowWith, refusedWindow, filledOf}
+use Rattle.develop.specs.Calls.{Opened, sizeOf, frameOf, within, refusedSpot, spotOf, spotCall, inside, valuesOf, windowWith}
+use Rattle.develop.specs.Calls.{refusedWindow, filledOf}
 use Rattle.develop.specs.Calls.{windowOf, windowCall, colourFor, pixelIn, colouredOf, colourWindowOf, colourWindowCall}
 use Rattle.develop.specs.Demand.{aloneIn}
 use Rattle.develop.specs.View.{Viewed}
@@ -45,12 +46,14 @@ module _ (f : List ℕ) (v : View) (h : Viewed f v) (r c p : ℕ) where
   viewed-active t = within-active (v .picture) r c p (ap (λ (z : Size). within z r c p) (sym (h .size)) ∙ t)
 
   pub spot-viewed :
-      within (v .size) r c p ≡ true → (y : Float) → y ≡ alone (o .opcodes) r c p (scaledIn f (v .picture .order) (v .picture .raw .tags) r c p) →
+      within (v .size) r c p ≡ true → (y : Float) →
+          y ≡ alone (o .opcodes) r c p (scaledIn f (v .picture .order) (v .picture .raw .tags) r c p) →
       record { number = 0; detail = 0; value = y } ≡ spotCall f r c p
   spot-viewed t y e =
       let a : ActiveIn (o .picture .raw .tags) r c p = within-active (o .picture) r c p (within-is ∙ t) in
       let d : y ≡ standing (frameOf f o) r c p = e ∙ sym (viewed-alone f v h r c p) ∙ sym (developed-alone f o r c p a) in
-      let s : spotOf f r c p (is o) ≡ record { number = 0; detail = 0; value = standing (frameOf f o) r c p } = simp (within-is, t, pick-yes) in
+      let s : spotOf f r c p (is o) ≡ record { number = 0; detail = 0; value = standing (frameOf f o) r c p } = simp
+          (within-is, t, pick-yes) in
       ap (λ (x : Float). record { number = 0; detail = 0; value = x }) d ∙ sym s ∙ ap (spotOf f r c p) (h .accepted)
 
   pub spot-outside : within (v .size) r c p ≡ false → refusedSpot 13 0 ≡ spotCall f r c p
@@ -96,24 +99,30 @@ module _ (z : Size) (t l h w : ℕ) where
     unfolding windowFault pick
     none-inside e = go (inside z t l h w) (eqb len (h * w * n)) refl refl e
       where
-        go : (a b : Bool) → inside z t l h w ≡ a → eqb len (h * w * n) ≡ b → _≡_ {A = ℕ} 0 (pick a (pick b 0 14) 13) → (inside z t l h w ≡ true) × (len ≡ h * w * n)
+        go : (a b : Bool) → inside z t l h w ≡ a → eqb len (h * w * n) ≡ b → _≡_ {A = ℕ} 0 (pick a (pick b 0 14) 13) →
+            (inside z t l h w ≡ true) × (len ≡ h * w * n)
         go true true ea eb k = (ea, eqb-true len (h * w * n) eb)
         go true false ea eb k = absurd (let q : _≡_ {A = ℕ} 0 14 = k in omega arith)
         go false b ea eb k = absurd (let q : _≡_ {A = ℕ} 0 13 = k in omega arith)
 
   -- the whole answer from its number
   module _ (n : ℕ) (old : List Float) (x : ℕ → ℕ → ℕ → Float) where
-    pub filled-none : (new : List Float) → 0 ≡ windowFault z n t l h w (length old) → new ≡ valuesOf x t l h w n → windowWith (record { number = 0; detail = 0 }) new ≡ filledOf z n t l h w old x
+    pub filled-none : (new : List Float) → 0 ≡ windowFault z n t l h w (length old) → new ≡ valuesOf x t l h w n →
+        windowWith (record { number = 0; detail = 0 }) new ≡ filledOf z n t l h w old x
     unfolding filledOf
     filled-none new e q =
         let k = none-inside n (length old) e in
-        ap (λ (xs : List Float). windowWith (record { number = 0; detail = 0 }) xs) q ∙ sym (simp (k .0, eq-eqb (length old) (h * w * n) (k .1), pick-yes))
+        ap (λ (xs : List Float). windowWith (record { number = 0; detail = 0 }) xs) q
+            ∙ sym (simp (k .0, eq-eqb (length old) (h * w * n) (k .1), pick-yes))
 
-    pub filled-fault : (m : ℕ) → m ≡ windowFault z n t l h w (length old) → (m ≡ 0 → ⊥) → windowWith (record { number = m; detail = 0 }) old ≡ filledOf z n t l h w old x
+    pub filled-fault : (m : ℕ) → m ≡ windowFault z n t l h w (length old) → (m ≡ 0 → ⊥) →
+        windowWith (record { number = m; detail = 0 }) old ≡ filledOf z n t l h w old x
     unfolding windowFault filledOf pick
     filled-fault m e s = go (inside z t l h w) (eqb (length old) (h * w * n)) e
       where
-        go : (a b : Bool) → m ≡ pick a (pick b 0 14) 13 → windowWith (record { number = m; detail = 0 }) old ≡ pick a (pick b (record { number = 0; detail = 0; slice = valuesOf x t l h w n }) (refusedWindow 14 0 old)) (refusedWindow 13 0 old)
+        go : (a b : Bool) → m ≡ pick a (pick b 0 14) 13 →
+            windowWith (record { number = m; detail = 0 }) old ≡ pick a
+            (pick b (record { number = 0; detail = 0; slice = valuesOf x t l h w n }) (refusedWindow 14 0 old)) (refusedWindow 13 0 old)
         go true true q = absurd (s q)
         go true false q = ap (λ (k : ℕ). refusedWindow k 0 old) q
         go false b q = ap (λ (k : ℕ). refusedWindow k 0 old) q
@@ -143,7 +152,8 @@ module _ (f : List ℕ) (v : View) (q : Viewed f v) (t l h w : ℕ) (old : List 
       }
 
   -- inside, each value of the frame is that of its sample alone
-  values-alone : (n : ℕ) → n ≡ v .size .samples → inside (v .size) t l h w ≡ true → valuesOf (aloneIn f file) t l h w n ≡ valuesOf (standing (frameOf f file)) t l h w n
+  values-alone : (n : ℕ) → n ≡ v .size .samples → inside (v .size) t l h w ≡ true →
+      valuesOf (aloneIn f file) t l h w n ≡ valuesOf (standing (frameOf f file)) t l h w n
   values-alone n en i =
       let k = inside-fits (v .size) t l h w i in
       let zr : sizeOf (file .picture) .rows ≡ v .size .rows = ap (λ (z : Size). z .rows) size-is in
@@ -153,16 +163,19 @@ module _ (f : List ℕ) (v : View) (q : Viewed f v) (t l h w : ℕ) (old : List 
       sym (developed-alone f file r c p (record { row = omega arith; column = omega arith; plane = omega arith })))
 
   pub window-none :
-      (new : List Float) → 0 ≡ windowFault (v .size) (v .size .samples) t l h w (length old) → new ≡ valuesOf (aloneIn f file) t l h w (v .size .samples) →
+      (new : List Float) → 0 ≡ windowFault (v .size) (v .size .samples) t l h w (length old) →
+          new ≡ valuesOf (aloneIn f file) t l h w (v .size .samples) →
       windowWith (record { number = 0; detail = 0 }) new ≡ windowCall f t l h w old
   window-none new e d =
       let k = none-inside (v .size) t l h w (v .size .samples) (length old) e in
-      filled-none (v .size) t l h w (v .size .samples) old (standing (frameOf f file)) new e (d ∙ values-alone (v .size .samples) refl (k .0))
+      filled-none (v .size) t l h w (v .size .samples) old (standing (frameOf f file)) new e
+          (d ∙ values-alone (v .size .samples) refl (k .0))
       ∙ ap (λ (z : Size). filledOf z (z .samples) t l h w old (standing (frameOf f file))) (sym size-is)
       ∙ ap (windowOf f t l h w old) (q .accepted)
 
   pub window-fault :
-      (m : ℕ) → m ≡ windowFault (v .size) (v .size .samples) t l h w (length old) → (m ≡ 0 → ⊥) → windowWith (record { number = m; detail = 0 }) old ≡ windowCall f t l h w old
+      (m : ℕ) → m ≡ windowFault (v .size) (v .size .samples) t l h w (length old) → (m ≡ 0 → ⊥) →
+          windowWith (record { number = m; detail = 0 }) old ≡ windowCall f t l h w old
   window-fault m e s =
       filled-fault (v .size) t l h w (v .size .samples) old (standing (frameOf f file)) m e s
       ∙ ap (λ (z : Size). filledOf z (z .samples) t l h w old (standing (frameOf f file))) (sym size-is)
@@ -175,17 +188,21 @@ module _ (f : List ℕ) (v : View) (q : Viewed f v) (t l h w : ℕ) (old : List 
     sized x = ap (λ (z : Size). filledOf z 3 t l h w old x) (sym (size-is f v q t l h w old))
 
     pub coloured-none :
-        (mid new : List Float) → 0 ≡ windowFault (v .size) 3 t l h w (length old) → mid ≡ valuesOf (aloneIn f (q .file)) t l h w (v .size .samples) → new ≡ passOf m mid →
+        (mid new : List Float) → 0 ≡ windowFault (v .size) 3 t l h w (length old) →
+            mid ≡ valuesOf (aloneIn f (q .file)) t l h w (v .size .samples) → new ≡ passOf m mid →
         windowWith (record { number = 0; detail = 0 }) new ≡ colouredOf f t l h w old (q .file) (is m)
     coloured-none mid new e d p =
         let k = none-inside (v .size) t l h w 3 (length old) e in
         filled-none (v .size) t l h w 3 old (pixelIn m (frameOf f (q .file))) new e
-        (p ∙ ap (passOf m) (d ∙ ap (valuesOf (aloneIn f (q .file)) t l h w) three ∙ values-alone f v q t l h w old 3 (sym three) (k .0)) ∙ pass-values m (frameOf f (q .file)) t l h w)
+        (p ∙ ap (passOf m) (d ∙ ap (valuesOf (aloneIn f (q .file)) t l h w) three ∙ values-alone f v q t l h w old 3 (sym three) (k .0))
+            ∙ pass-values m (frameOf f (q .file)) t l h w)
         ∙ sized (pixelIn m (frameOf f (q .file)))
 
     pub coloured-fault :
-        (n : ℕ) → n ≡ windowFault (v .size) 3 t l h w (length old) → (n ≡ 0 → ⊥) → windowWith (record { number = n; detail = 0 }) old ≡ colouredOf f t l h w old (q .file) (is m)
-    coloured-fault n e s = filled-fault (v .size) t l h w 3 old (pixelIn m (frameOf f (q .file))) n e s ∙ sized (pixelIn m (frameOf f (q .file)))
+        (n : ℕ) → n ≡ windowFault (v .size) 3 t l h w (length old) → (n ≡ 0 → ⊥) →
+            windowWith (record { number = n; detail = 0 }) old ≡ colouredOf f t l h w old (q .file) (is m)
+    coloured-fault n e s = filled-fault (v .size) t l h w 3 old (pixelIn m (frameOf f (q .file))) n e s
+        ∙ sized (pixelIn m (frameOf f (q .file)))
 
   samples-is : v .size .samples ≡ q .file .picture .raw .tags .frame .samples
   samples-is = sym (ap (λ (z : Size). z .samples) (size-is f v q t l h w old))
@@ -194,7 +211,8 @@ module _ (f : List ℕ) (v : View) (q : Viewed f v) (t l h w : ℕ) (old : List 
   pub colour-tags : v .size .samples ≡ 3 → (x : Out Colour) → x ≡ run f (colourReading (v .picture .first)) →
       colouredOf f t l h w old (q .file) x ≡ colourWindowCall f t l h w old
   colour-tags e x d =
-      let s : run f (colourFor (q .file .picture)) ≡ run f (colourReading (q .file .picture .first)) = simp (eq-eqb _ 3 (sym samples-is ∙ e), pick-yes) in
+      let s : run f (colourFor (q .file .picture)) ≡ run f (colourReading (q .file .picture .first)) = simp
+          (eq-eqb _ 3 (sym samples-is ∙ e), pick-yes) in
       let e = d ∙ ap (λ (p : Picture). run f (colourReading (p .first))) (sym (q .picture)) ∙ sym s in
       ap (colouredOf f t l h w old (q .file)) e ∙ ap (colourWindowOf f t l h w old) (q .accepted)
 

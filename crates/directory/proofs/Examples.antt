@@ -11,8 +11,10 @@ use Rattle.directory.specs.Out.{Out.refused, Out.is, bind}
 use Rattle.directory.specs.Widths.{classic, bigTiff}
 use Rattle.directory.specs.Entry.{kindOf, plainOf, sizeOf, headerOf}
 use Rattle.directory.specs.Shape.{placeTest, entryReading, orderTest, shapeFrom, ifd, ifdReading}
-use Rattle.directory.specs.Tag.{findFrom, wholeReading, valueReading, testedReading, absentOf, valuesReading, faultOf, judgedOf, firstReading, oneReading}
-use Rattle.directory.specs.Tree.{lookReading, backwardReading, versionReading, childrenReading, visitReading, roots, walkReading, rootReading}
+use Rattle.directory.specs.Tag.{findFrom, wholeReading, valueReading, testedReading, absentOf, valuesReading, faultOf, judgedOf}
+use Rattle.directory.specs.Tag.{firstReading, oneReading}
+use Rattle.directory.specs.Tree.{lookReading, backwardReading, versionReading, childrenReading, visitReading, roots, walkReading}
+use Rattle.directory.specs.Tree.{rootReading}
 use Rattle.directory.specs.Tree.{offsetReading, bigTiffReading, treeReading}
 
 -- IFD 0 is the raw one: 254 (0), 256 (SHORT, in its entry), 262 (unknown type), 50706 (1.4.0.0)
@@ -88,7 +90,8 @@ record Worked : Type 0 where
   not-zero : runWhole (take 6 big-one ++ (1 ∷ drop 7 big-one)) treeReading ≡ refused 2 0
 
 worked : Worked
-unfolding trace run andThen pick numberAt numberOf littleOf bigOf bind kindOf plainOf sizeOf headerOf placeTest entryReading orderTest shapeFrom
+unfolding trace run andThen pick numberAt numberOf littleOf bigOf bind kindOf plainOf sizeOf headerOf placeTest entryReading orderTest
+    shapeFrom
     ifdReading findFrom wholeReading valueReading testedReading absentOf valuesReading faultOf judgedOf firstReading oneReading lookReading
     backwardReading versionReading childrenReading visitReading walkReading rootReading offsetReading bigTiffReading treeReading
 worked =

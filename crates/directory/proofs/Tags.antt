@@ -20,8 +20,10 @@ use Rattle.directory.specs.Out.{Out, Out.refused, Out.is}
 use Rattle.directory.specs.Widths.{headWidth, entryWidth}
 use Rattle.directory.specs.Entry.{codeOf, plainOf, sizes, sizeOf, bytesOf, headerOf}
 use Rattle.directory.specs.Shape.{entryReading, shapeFrom}
-use Rattle.directory.specs.Tag.{findFrom, foundReading, allowsOf, valuesAt, noValues, wholeReading, valueReading, testedReading, valuesFound}
-use Rattle.directory.specs.Tag.{valuesOut, valuesReading, ValuesIn, Placed, Long, SizeIn, Numeric, Placed-values, required, optional, faultOf}
+use Rattle.directory.specs.Tag.{findFrom, foundReading, allowsOf, valuesAt, noValues, wholeReading, valueReading, testedReading}
+use Rattle.directory.specs.Tag.{valuesFound}
+use Rattle.directory.specs.Tag.{valuesOut, valuesReading, ValuesIn, Placed, Long, SizeIn, Numeric, Placed-values, required, optional}
+use Rattle.directory.specs.Tag.{faultOf}
 use Rattle.directory.specs.Tag.{judgedOf, firstReading, eachReading, InRange, NumberIn}
 use Rattle.directory.specs.declared.Ifd.{Ifd}
 use Rattle.directory.specs.declared.Widths.{Widths}
@@ -63,7 +65,8 @@ PlacedIn w f o found.Absent = Unit {0}
 PlacedIn w f o (found.At p e) = Placed w f o p e
 
 module _ (w : Widths) (f : List ℕ) (o : Order) where
-  entry-placed : (at t : ℕ) → is t ≡ run f (entryReading w (length f) o at) → Placed w f o (at + headWidth w) (headerOf w o (part f at (headWidth w)))
+  entry-placed : (at t : ℕ) → is t ≡ run f (entryReading w (length f) o at) →
+      Placed w f o (at + headWidth w) (headerOf w o (part f at (headWidth w)))
   unfolding Placed
   entry-placed at t r b = go (leb (p + bytesOf e) (length f)) refl
     where
@@ -79,17 +82,21 @@ module _ (w : Widths) (f : List ℕ) (o : Order) where
 
   module _ (tag : ℕ) where
     found-step : (n at low z : ℕ) →
-        ((t : ℕ) → is z ≡ run f (shapeFrom w (length f) o n (at + entryWidth w) t) → PlacedIn w f o (run f (findFrom w o n (at + entryWidth w) tag))) →
+        ((t : ℕ) → is z ≡ run f (shapeFrom w (length f) o n (at + entryWidth w) t) →
+            PlacedIn w f o (run f (findFrom w o n (at + entryWidth w) tag))) →
         is z ≡ run f (shapeFrom w (length f) o (suc n) at low) →
         (r : Out ℕ) → r ≡ run f (entryReading w (length f) o at) → (b : Bool) → eqb (headerOf w o (part f at (headWidth w)) .tag) tag ≡ b →
         PlacedIn w f o (run f (findFrom w o (suc n) at tag))
     unfolding PlacedIn
-    found-step n at low z rec s (refused k d) e b q = absurd (not-refused z k d (s ∙ sym (shape-refused w f (length f) o at low (suc n) n (omega arith) k d e)))
+    found-step n at low z rec s (refused k d) e b q = absurd
+        (not-refused z k d (s ∙ sym (shape-refused w f (length f) o at low (suc n) n (omega arith) k d e)))
     found-step n at low z rec s (is t) e true q =
-        subst (PlacedIn w f o) (find-here w f o at tag (suc n) n (omega arith) (headerOf w o (part f at (headWidth w))) refl (eqb-true _ _ q))
+        subst (PlacedIn w f o) (find-here w f o at tag (suc n) n (omega arith) (headerOf w o (part f at (headWidth w))) refl
+            (eqb-true _ _ q))
         (entry-placed at t e)
     found-step n at low z rec s (is t) e false q =
-        subst (PlacedIn w f o) (sym (find-later w f o at tag (suc n) n (omega arith) (headerOf w o (part f at (headWidth w))) refl (eqb-false _ _ q)))
+        subst (PlacedIn w f o) (sym (find-later w f o at tag (suc n) n (omega arith) (headerOf w o (part f at (headWidth w))) refl
+            (eqb-false _ _ q)))
         (rec (t + 1) (go (ltb t low) refl))
       where
         go : (c : Bool) → ltb t low ≡ c → is z ≡ run f (shapeFrom w (length f) o n (at + entryWidth w) (t + 1))
@@ -225,7 +232,8 @@ module _ (w : Widths) (f : List ℕ) (o : Order) (r : Rule) (p : ℕ) (e : Entry
         unfolding testedReading valueReading
         in-entry b = simp (running, run-whole, k, le-leb _ _ l, le-leb _ _ m, le-leb _ _ b)
 
-        pub elsewhere : w .word < bytesOf e → (v : ℕ) → v ≡ numberOf o (part f p (w .word)) → is (valuesAt v e) ≡ run f (testedReading w o r p e)
+        pub elsewhere : w .word < bytesOf e → (v : ℕ) → v ≡ numberOf o (part f p (w .word)) →
+            is (valuesAt v e) ≡ run f (testedReading w o r p e)
         unfolding testedReading valueReading
         elsewhere b v q = simp (running, run-whole, k, le-leb _ _ l, le-leb _ _ m, lt-leb _ _ b, ← q)
 
@@ -237,7 +245,8 @@ module _ (w : Widths) (f : List ℕ) (o : Order) (r : Rule) (p : ℕ) (e : Entry
         pub inside-entry : (size : ℕ) → p + w .word ≤ size → bytesOf e ≤ w .word → Placed-values size r (valuesAt p e)
         inside-entry size h b = values-in size p (omega arith)
 
-        pub inside-file : w .word < bytesOf e → Placed w f o p e → (v : ℕ) → v ≡ numberOf o (part f p (w .word)) → Placed-values (length f) r (valuesAt v e)
+        pub inside-file : w .word < bytesOf e → Placed w f o p e → (v : ℕ) → v ≡ numberOf o (part f p (w .word)) →
+            Placed-values (length f) r (valuesAt v e)
         unfolding Placed
         inside-file b h v q = values-in (length f) v (rw q (h b))
 
@@ -317,7 +326,8 @@ module _ (f : List ℕ) (o : Order) (tag default : ℕ) (r : Range) (v : Values)
   unfolding firstReading
   first-default e = simp (eq-eqb _ _ e, pick-yes, run-answer)
 
-  pub first-is : (v .count ≡ 0 → ⊥) → (n : ℕ) → n ≡ numberOf o (part f (v .place) (v .size)) → judgedOf tag r n ≡ run f (firstReading o tag default r v)
+  pub first-is : (v .count ≡ 0 → ⊥) → (n : ℕ) → n ≡ numberOf o (part f (v .place) (v .size)) →
+      judgedOf tag r n ≡ run f (firstReading o tag default r v)
   unfolding firstReading
   first-is c n q = simp (ne-eqb _ _ c, running, ← q)
 

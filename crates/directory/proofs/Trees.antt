@@ -20,8 +20,10 @@ use Rattle.directory.specs.Out.{Out.refused, Out.is}
 use Rattle.directory.specs.Widths.{classic, bigTiff, Laid}
 use Rattle.directory.specs.Shape.{ifdReading}
 use Rattle.directory.specs.Tag.{valuesReading}
-use Rattle.directory.specs.Tree.{Seen, raw-one, parent, childrenRule, subfileReading, lookReading, versionRule, backwardRule, backwardReading}
-use Rattle.directory.specs.Tree.{versionReading, Walked, left, afterLook, afterChild, childrenReading, visitReading, listVisit, rootReading}
+use Rattle.directory.specs.Tree.{Seen, raw-one, parent, childrenRule, subfileReading, lookReading, versionRule, backwardRule}
+use Rattle.directory.specs.Tree.{backwardReading}
+use Rattle.directory.specs.Tree.{versionReading, Walked, left, afterLook, afterChild, childrenReading, visitReading, listVisit}
+use Rattle.directory.specs.Tree.{rootReading}
 use Rattle.directory.specs.Tree.{sameBytes, classicMark, bigTiffMark, offsetReading, bigTiffReading, treeReading}
 use Rattle.directory.specs.declared.Ifd.{Ifd}
 use Rattle.directory.specs.declared.Widths.{Widths}
@@ -51,11 +53,13 @@ module _ (f : List ℕ) (d : Ifd) where
     module _ (b : Values) (given : is b ≡ run f (valuesReading d backwardRule)) (n : ℕ) (number : n ≡ run f (backwardReading v b)) where
       pub version-above : 0x0107_0100 < n → refused 7 0 ≡ run f (versionReading d)
       unfolding versionReading
-      version-above h = sym (bind-is f _ _ v version ∙ bind-is f _ _ b given ∙ run-then f _ _ n number ∙ run-answer f _ ∙ rw (lt-ltb _ _ h, pick-yes))
+      version-above h = sym (bind-is f _ _ v version ∙ bind-is f _ _ b given ∙ run-then f _ _ n number ∙ run-answer f _
+          ∙ rw (lt-ltb _ _ h, pick-yes))
 
       pub version-is : n ≤ 0x0107_0100 → is n ≡ run f (versionReading d)
       unfolding versionReading
-      version-is h = sym (bind-is f _ _ v version ∙ bind-is f _ _ b given ∙ run-then f _ _ n number ∙ run-answer f _ ∙ rw (le-ltb _ _ h, pick-no))
+      version-is h = sym (bind-is f _ _ v version ∙ bind-is f _ _ b given ∙ run-then f _ _ n number ∙ run-answer f _
+          ∙ rw (le-ltb _ _ h, pick-no))
 
 -- ---- one directory
 module _ (f : List ℕ) (d : Ifd) where
@@ -73,7 +77,8 @@ module _ (f : List ℕ) (d : Ifd) where
       unfolding lookReading
       children-refused k e h = sym (bind-is f _ _ t subfile ∙ rw (ne-eqb _ _ other, pick-no) (sym (bind-refused f _ _ k e h)))
 
-      pub look-into : (v : Values) → is v ≡ run f (valuesReading d childrenRule) → is (parent (v .place) (v .size) (v .count)) ≡ run f (lookReading d)
+      pub look-into : (v : Values) → is v ≡ run f (valuesReading d childrenRule) →
+          is (parent (v .place) (v .size) (v .count)) ≡ run f (lookReading d)
       unfolding lookReading
       look-into v h = sym (bind-is f _ _ t subfile ∙ rw (ne-eqb _ _ other, pick-no) (bind-is f _ _ v h ∙ run-answer f _))
 
@@ -129,12 +134,14 @@ four (a ∷ b ∷ c ∷ []) h = absurd (omega arith)
 four (a ∷ b ∷ c ∷ d ∷ l) h = refl
 
 pub start-is : (f m : List ℕ) → 4 ≤ length f → length m ≡ 4 →
-    (eqb (getD f 0 0) (getD m 0 0) && (eqb (getD f 1 0) (getD m 1 0) && (eqb (getD f 2 0) (getD m 2 0) && (eqb (getD f 3 0) (getD m 3 0) && true))))
+    (eqb (getD f 0 0) (getD m 0 0) &&
+        (eqb (getD f 1 0) (getD m 1 0) && (eqb (getD f 2 0) (getD m 2 0) && (eqb (getD f 3 0) (getD m 3 0) && true))))
     ≡ sameBytes (take 4 f) m
 start-is f m h e = rw (four f h) (go m e)
   where
     go : (m : List ℕ) → length m ≡ 4 →
-        (eqb (getD f 0 0) (getD m 0 0) && (eqb (getD f 1 0) (getD m 1 0) && (eqb (getD f 2 0) (getD m 2 0) && (eqb (getD f 3 0) (getD m 3 0) && true))))
+        (eqb (getD f 0 0) (getD m 0 0) &&
+            (eqb (getD f 1 0) (getD m 1 0) && (eqb (getD f 2 0) (getD m 2 0) && (eqb (getD f 3 0) (getD m 3 0) && true))))
         ≡ sameBytes (getD f 0 0 ∷ getD f 1 0 ∷ getD f 2 0 ∷ getD f 3 0 ∷ []) m
     go [] q = absurd (omega arith)
     go (a ∷ []) q = absurd (omega arith)
@@ -187,22 +194,26 @@ module _ (f : List ℕ) (size : ℕ) where
     tree-large h = simp (le-ltb _ _ s, lt-ltb _ _ h, running)
 
     module _ (h : size ≤ 67108864) where
-      pub tree-classic-little : sameBytes (take 4 f) (classicMark Little) ≡ true → run f (treeReading size) ≡ run f (offsetReading classic size Little 4)
+      pub tree-classic-little : sameBytes (take 4 f) (classicMark Little) ≡ true →
+          run f (treeReading size) ≡ run f (offsetReading classic size Little 4)
       unfolding treeReading
       tree-classic-little e = simp (le-ltb _ _ s, le-ltb _ _ h, running, e)
 
       module _ (n : sameBytes (take 4 f) (classicMark Little) ≡ false) where
-        pub tree-classic-big : sameBytes (take 4 f) (classicMark Big) ≡ true → run f (treeReading size) ≡ run f (offsetReading classic size Big 4)
+        pub tree-classic-big : sameBytes (take 4 f) (classicMark Big) ≡ true →
+            run f (treeReading size) ≡ run f (offsetReading classic size Big 4)
         unfolding treeReading
         tree-classic-big e = simp (le-ltb _ _ s, le-ltb _ _ h, running, n, e)
 
         module _ (m : sameBytes (take 4 f) (classicMark Big) ≡ false) where
-          pub tree-big-tiff-little : sameBytes (take 4 f) (bigTiffMark Little) ≡ true → run f (treeReading size) ≡ run f (bigTiffReading size Little)
+          pub tree-big-tiff-little : sameBytes (take 4 f) (bigTiffMark Little) ≡ true →
+              run f (treeReading size) ≡ run f (bigTiffReading size Little)
           unfolding treeReading
           tree-big-tiff-little e = simp (le-ltb _ _ s, le-ltb _ _ h, running, n, m, e)
 
           module _ (k : sameBytes (take 4 f) (bigTiffMark Little) ≡ false) where
-            pub tree-big-tiff-big : sameBytes (take 4 f) (bigTiffMark Big) ≡ true → run f (treeReading size) ≡ run f (bigTiffReading size Big)
+            pub tree-big-tiff-big : sameBytes (take 4 f) (bigTiffMark Big) ≡ true →
+                run f (treeReading size) ≡ run f (bigTiffReading size Big)
             unfolding treeReading
             tree-big-tiff-big e = simp (le-ltb _ _ s, le-ltb _ _ h, running, n, m, k, e)
 

@@ -44,7 +44,8 @@ not-above (fin true m e) a c h = refl
 not-above (fin false m e) a c h = absurd (true≢false (sym (h .0)))
 
 floor-is : (z : ℤ) → natAbs z < 2 ^ 53 → flooredOf (ofParts z) ≡ ofParts (pos (lifted z))
-floor-is (pos zero) h = rw (lt-fractions plusZero (ofParts (pos 0)) 0 1 0 256 (zero-lt-suc 0) (zero-lt-suc _) zero-value (parts-value (pos 0) h), is-zero)
+floor-is (pos zero) h =
+    rw (lt-fractions plusZero (ofParts (pos 0)) 0 1 0 256 (zero-lt-suc 0) (zero-lt-suc _) zero-value (parts-value (pos 0) h), is-zero)
 floor-is (pos (suc n)) h =
     let x : Float = ofParts (pos (suc n)) in
     let above : ltb (0 * 256) (suc n * 1) ≡ true = lt-ltb (0 * 256) (suc n * 1) (omega arith) in
@@ -84,13 +85,16 @@ difference-is v black b h p =
       number = ap (sub binary64 (ofInt binary64 (pos v))) (p .number) ∙ sub-parts v black (omega arith) (omega (arith, p .small));
     }
 
-pub scaled-is-by : (z span : ℤ) (d r : Float) → DifferenceIs z d → InverseIs span r → div binary64 (levelBy d r) most ≡ scaledOf (levelOf z span)
+pub scaled-is-by : (z span : ℤ) (d r : Float) → DifferenceIs z d → InverseIs span r →
+    div binary64 (levelBy d r) most ≡ scaledOf (levelOf z span)
 scaled-is-by z span d r p q = ap (λ (x : Float). div binary64 x most) (level-is-by z span d r p q)
 
 -- ---- a black that is a sum
-pub black-sum-is : (a b : ℤ) (x y : Float) → BlackIs a x → BlackIs b y → natAbs a + natAbs b ≤ 50330880 → BlackIs (a +ℤ b) (add binary64 x y)
+pub black-sum-is : (a b : ℤ) (x y : Float) → BlackIs a x → BlackIs b y → natAbs a + natAbs b ≤ 50330880 →
+    BlackIs (a +ℤ b) (add binary64 x y)
 black-sum-is a b x y p q h =
     record {
       small = omega (arith, natAbs-add a b);
-      number = ap (λ (z : Float). add binary64 z y) (p .number) ∙ ap (add binary64 (ofParts a)) (q .number) ∙ add-parts a b (omega arith) (omega arith);
+      number = ap (λ (z : Float). add binary64 z y) (p .number) ∙ ap (add binary64 (ofParts a)) (q .number)
+          ∙ add-parts a b (omega arith) (omega arith);
     }

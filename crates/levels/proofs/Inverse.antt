@@ -5,7 +5,8 @@ use mathlib.Core.Path.{_≡_, refl, sym, ap, _∙_, subst}
 use mathlib.Core.Logic.{⊎-elim}
 use mathlib.Core.Bool.{false}
 use Prim.Native.Nat.{ℕ, _+_, _-_, _*_, _^_, _≤_, _<_, min}
-use native.Mathlib.Nat.{le-trans, le-of-eq, le-of-lt, lt-of-le-of-lt, mul-comm, mul-assoc, mul-left-comm, mul-right-comm, mul-mul-mul-comm, mul-one, add-mul}
+use native.Mathlib.Nat.{le-trans, le-of-eq, le-of-lt, lt-of-le-of-lt, mul-comm, mul-assoc, mul-left-comm, mul-right-comm, mul-mul-mul-comm}
+use native.Mathlib.Nat.{mul-one, add-mul}
 use native.Mathlib.Nat.{mul-le-mul-left, mul-le-mul-right, lt-of-mul-lt-mul-right, le-of-mul-le-mul-right, zero-mul, div-eq-of-lt}
 use native.Mathlib.Nat.{mul-pos, zero-lt-suc, div-mul-le-self, lt-div-mul-add, div-lt-iff-lt-mul, le-div-iff-mul-le}
 use native.Mathlib.Omega.{arith}
@@ -22,8 +23,10 @@ use lib.Ieee.Scale.{grid, round-val, round-same, normal-of-fraction}
 use Rattle.reading.proofs.Wholes.{le-or-lt}
 use Rattle.levels.specs.Level.{roundedOf, most}
 use Rattle.levels.specs.Reciprocal.{ofParts, raisedUnits, mostRaised, bigWhole, big, wholeOf, cappedOf, inverseOf}
-use Rattle.levels.proofs.Nearness.{Close, CloseTwice, close-most, close-least, close-cancel, product-close, closest-is, round-close, whole-of}
-use Rattle.levels.proofs.Values.{parts-value, mul-values, add-values, sub-down, div-values, lt-fractions, le-values, Shape, round-shape}
+use Rattle.levels.proofs.Nearness.{Close, CloseTwice, close-most, close-least, close-cancel, product-close, closest-is, round-close}
+use Rattle.levels.proofs.Nearness.{whole-of}
+use Rattle.levels.proofs.Values.{parts-value, mul-values, add-values, sub-down, div-values, lt-fractions, le-values, Shape}
+use Rattle.levels.proofs.Values.{round-shape}
 
 -- ---- 65535 / S, raised
 raised-value : HasValue mostRaised false raisedUnits 536870912
@@ -45,7 +48,8 @@ module _ (S : ℕ) (some : 0 < S) (small : S < 67108864) where
   reciprocal-is : inverseOf (pos S) ≡ round binary64 false raisedUnits (spanOf S)
   reciprocal-is =
       let e : raisedUnits * 256 * (S * 2097152) ≡ raisedUnits * (536870912 * S) = omega arith in
-      div-values mostRaised (ofParts (pos S)) false raisedUnits 536870912 S 256 (zero-lt-suc _) some raised-value (parts-value (pos S) (omega arith))
+      div-values mostRaised (ofParts (pos S)) false raisedUnits 536870912 S 256 (zero-lt-suc _) some raised-value
+          (parts-value (pos S) (omega arith))
       ∙ round-same binary64 false (raisedUnits * 256) (536870912 * S) raisedUnits (S * 2097152) (mul-pos (zero-lt-suc _) some) span-some e
 
   reciprocal-close : Close (raisedUnits * 2 ^ 1074) (gridOf S * spanOf S)
@@ -57,7 +61,8 @@ module _ (S : ℕ) (some : 0 < S) (small : S < 67108864) where
   times-more g k h = le-trans (le-of-eq (sym (mul-one g))) (mul-le-mul-left g h)
 
   grid-most : gridOf S ≤ 2 * (raisedUnits * 2 ^ 1074)
-  grid-most = le-trans (times-more (gridOf S) (spanOf S) span-some) (close-most (raisedUnits * 2 ^ 1074) (gridOf S * spanOf S) reciprocal-close)
+  grid-most = le-trans (times-more (gridOf S) (spanOf S) span-some)
+      (close-most (raisedUnits * 2 ^ 1074) (gridOf S * spanOf S) reciprocal-close)
 
   reciprocal-value : HasValue (inverseOf (pos S)) false (gridOf S) (2 ^ 1074)
   reciprocal-value =
@@ -67,7 +72,8 @@ module _ (S : ℕ) (some : 0 < S) (small : S < 67108864) where
   grid-least : 2 ^ 60 ≤ gridOf S
   grid-least =
       let h : raisedUnits * 2 ^ 1074 ≤ 2 * (gridOf S * 140737488355328) =
-      le-trans (close-least (raisedUnits * 2 ^ 1074) (gridOf S * spanOf S) reciprocal-close) (mul-le-mul-left 2 (mul-le-mul-left (gridOf S) span-most)) in
+      le-trans (close-least (raisedUnits * 2 ^ 1074) (gridOf S * spanOf S) reciprocal-close)
+          (mul-le-mul-left 2 (mul-le-mul-left (gridOf S) span-most)) in
       let e : 2 * (gridOf S * 140737488355328) ≡ gridOf S * 281474976710656 = omega arith in
       le-of-mul-le-mul-right {k = 281474976710656} (le-trans (lit≤ tt) (le-trans h (le-of-eq e))) (zero-lt-suc _)
 
@@ -118,7 +124,8 @@ product-is S D some small reach =
 
 module _ (S D : ℕ) (some : 0 < S) (small : S < 67108864) (any : 0 < D) (few : D < 67108864) where
   product-least : 2 ^ 60 ≤ D * gridOf S
-  product-least = le-trans (grid-least S some small) (le-trans (times-more S some small (gridOf S) D any) (le-of-eq (mul-comm (gridOf S) D)))
+  product-least = le-trans (grid-least S some small)
+      (le-trans (times-more S some small (gridOf S) D any) (le-of-eq (mul-comm (gridOf S) D)))
 
   once : Close (D * gridOf S) (productGrid S D * 256)
   once =
@@ -129,7 +136,8 @@ module _ (S D : ℕ) (some : 0 < S) (small : S < 67108864) (any : 0 < D) (few : 
 
   product-most : productGrid S D ≤ 2 * (67108864 * (2 * (raisedUnits * 2 ^ 1074)))
   product-most =
-      le-trans (times-more S some small (productGrid S D) 256 (zero-lt-suc _)) (le-trans (close-most (D * gridOf S) (productGrid S D * 256) once)
+      le-trans (times-more S some small (productGrid S D) 256 (zero-lt-suc _))
+          (le-trans (close-most (D * gridOf S) (productGrid S D * 256) once)
       (mul-le-mul-left 2 (le-trans (mul-le-mul-right (gridOf S) (le-of-lt few)) (mul-le-mul-left 67108864 (grid-most S some small)))))
 
   product-value : HasValue (productOf S D) false (productGrid S D) (2 ^ 1074)
@@ -188,7 +196,8 @@ module _ (P S D L g : ℕ) where
   level-times = add-mul (2 * (L * P)) P S ∙ ap (λ (z : ℕ). z + P * S) level-is
 
   exact-is : 2 * (65535 * D) * P ≡ 131070 * (P * D)
-  exact-is = doubled (65535 * D) P ∙ ap (λ (z : ℕ). 2 * z) (mul-assoc 65535 D P ∙ ap (λ (z : ℕ). 65535 * z) (mul-comm D P)) ∙ sym (mul-assoc 2 65535 (P * D))
+  exact-is = doubled (65535 * D) P ∙ ap (λ (z : ℕ). 2 * z) (mul-assoc 65535 D P ∙ ap (λ (z : ℕ). 65535 * z) (mul-comm D P))
+      ∙ sym (mul-assoc 2 65535 (P * D))
 
   low-of : 2 * (L * S) ≤ 2 * (65535 * D) + S → 65535 * (P * D) < g * S → 2 * (L * P) < 2 * g + P
   low-of h k =
@@ -205,7 +214,8 @@ module _ (P S D L g : ℕ) where
       add-mul (2 * (L * S)) S P ∙ ap (λ (z : ℕ). z + S * P) (doubled (L * S) P) ∙ ap (λ (z : ℕ). 2 * (L * S * P) + z) (mul-comm S P) in
       lt-of-mul-lt-mul-right S (omega (arith, m, e, f, doubled g S, level-times))
 
-product-near : (S D L : ℕ) → 0 < S → S < 67108864 → 0 < D → D < 67108864 → 2 * (L * S) ≤ 2 * (65535 * D) + S → 2 * (65535 * D) + 1 ≤ 2 * (L * S) + S
+product-near : (S D L : ℕ) → 0 < S → S < 67108864 → 0 < D → D < 67108864 → 2 * (L * S) ≤ 2 * (65535 * D) + S →
+    2 * (65535 * D) + 1 ≤ 2 * (L * S) + S
     → NearWhole (productOf S D) L
 product-near S D L some small any few above under =
     let P : ℕ = 2 ^ 1074 in
@@ -342,18 +352,21 @@ module _ (S D : ℕ) (some : 0 < S) (small : S < 67108864) where
   level-over over reach =
       let shape : Shape false (productOf S D) = subst (Shape false) (sym (product-is S D some small reach))
       (round-shape binary64 false (D * gridOf S) (256 * 2 ^ 1074)) in
-      let more : S * gridOf S * (256 * 2 ^ 1074) ≤ D * gridOf S * (256 * 2 ^ 1074) = mul-le-mul-right (256 * 2 ^ 1074) (mul-le-mul-right (gridOf S) over) in
+      let more : S * gridOf S * (256 * 2 ^ 1074) ≤ D * gridOf S * (256 * 2 ^ 1074) = mul-le-mul-right (256 * 2 ^ 1074)
+          (mul-le-mul-right (gridOf S) over) in
       let low : T (le (productOf S S) (productOf S D)) =
       subst (λ (x : Float). T (le x (productOf S D))) (sym (product-is S S some small (omega arith)))
       (subst (λ (x : Float). T (le (round binary64 false (S * gridOf S) (256 * 2 ^ 1074)) x)) (sym (product-is S D some small reach))
       (round-mono binary64 (S * gridOf S) (256 * 2 ^ 1074) (D * gridOf S) (256 * 2 ^ 1074) unit-some unit-some more)) in
       let e : cappedOf (productOf S D) ≡ most =
-      capped-over (productOf S D) (productOf S S) (productGrid S S) (2 ^ 1074) shape (pow-pos 1074) (product-value S S some small some small) full-over low in
+      capped-over (productOf S D) (productOf S S) (productGrid S S) (2 ^ 1074) shape (pow-pos 1074)
+          (product-value S S some small some small) full-over low in
       ap wholeOf e ∙ whole-is 65535 (omega arith) most (most-near 65535 refl)
 
   pub level-by-reciprocal : D < 2 ^ 53 → wholeOf (cappedOf (productOf S D)) ≡ ofInt binary64 (pos (roundedOf (65535 * min D S) S))
   level-by-reciprocal reach =
-      ⊎-elim (λ l. let e : min D S ≡ D = omega arith in level-inside l ∙ ap (λ (m : ℕ). ofInt binary64 (pos (roundedOf (65535 * m) S))) (sym e))
+      ⊎-elim (λ l. let e : min D S ≡ D = omega arith in level-inside l
+          ∙ ap (λ (m : ℕ). ofInt binary64 (pos (roundedOf (65535 * m) S))) (sym e))
       (λ l. let e : min D S ≡ S = omega arith in
       level-over (le-of-lt l) reach ∙ ap (λ (n : ℕ). ofInt binary64 (pos n)) (sym (rounded-full S D some))
       ∙ ap (λ (m : ℕ). ofInt binary64 (pos (roundedOf (65535 * m) S))) (sym e))

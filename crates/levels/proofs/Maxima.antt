@@ -80,7 +80,8 @@ from-hit m (x ∷ xs) = one-more m x xs (maxFrom (greaterOf m x) xs) (from-hit (
 list-greatest : (xs : List ℤ) → 0 < length xs → Greatest (Below (length xs)) (picked xs) (maxOf xs)
 unfolding maxOf
 list-greatest [] h = absurd (not-suc-le-zero h)
-list-greatest (x ∷ xs) h = let k = from-hit x xs in record { at = k .at; attained = k .same; above = λ b. from-at x xs (b .place) (b .inside) }
+list-greatest (x ∷ xs) h =
+    let k = from-hit x xs in record { at = k .at; attained = k .same; above = λ b. from-at x xs (b .place) (b .inside) }
 
 -- ---- of f 0 .. f (n - 1)
 pub below-greatest : (n : ℕ) (f : ℕ → ℤ) → 0 < n → Greatest (Below n) (λ x. f (x .place)) (maxBelow n f)
@@ -184,7 +185,8 @@ module _ (f : ℕ → ℤ) (n : ℕ) where
       Folded f n (i + 1) found
   unfolding maxFrom
   fold-step i best next found s h e g =
-      let more : maxFrom best (runOf f 1 i (n - i)) ≡ maxFrom (greaterOf best (f i)) (runOf f 1 (i + 1) (n - (i + 1))) = rw (run-next f 1 i n i h) in
+      let more : maxFrom best (runOf f 1 i (n - i)) ≡ maxFrom (greaterOf best (f i)) (runOf f 1 (i + 1) (n - (i + 1))) = rw
+          (run-next f 1 i n i h) in
       rw (g, e) (sym more ∙ s)
 
   pub fold-end : (i : ℕ) (best : ℤ) → Folded f n i best → n ≤ i → best ≡ maxBelow n f

@@ -4,14 +4,16 @@ use mathlib.Core.Path.{_≡_, refl, sym, ap, _∙_, subst}
 use mathlib.Core.Logic.{_⊎_, inl, inr, ⊎-elim}
 use mathlib.Core.Bool.{Bool, true, false, not, _&&_, _||_, cond, Bool·beq, true≢false}
 use Prim.Native.Nat.{ℕ, zero, suc, _+_, _-_, _*_, _^_, _≤_, _<_}
-use native.Mathlib.Nat.{lt-of-lt-of-le, le-of-eq, le-of-lt, mul-comm, mul-assoc, mul-left-comm, mul-right-comm, mul-mul-mul-comm, add-mul, mul-sub}
+use native.Mathlib.Nat.{lt-of-lt-of-le, le-of-eq, le-of-lt, mul-comm, mul-assoc, mul-left-comm, mul-right-comm, mul-mul-mul-comm, add-mul}
+use native.Mathlib.Nat.{mul-sub}
 use native.Mathlib.Nat.{mul-one, mul-pos, zero-mul, zero-lt-suc, mul-le-mul-right, mul-lt-mul-of-pos-right}
 use native.Mathlib.Omega.{arith}
 use borrow.Author.Tests.{lt-ltb, le-ltb, ne-eqb}
 use lib.IntN.{ℤ, pos, negsuc, natAbs, _+ℤ_, _-ℤ_}
 use lib.Dec.{T, ltb, eqb, eqb→eq, ltb→lt}
 use lib.Pow.{pow-pos, pow-mono}
-use lib.Ieee.{Float, nan, inf, fin, Format, binary64, prec, emax, low, up, down, odd, units, unlike, round, neg, sum, add, mul, sub, div, lt, le, ofInt}
+use lib.Ieee.{Float, nan, inf, fin, Format, binary64, prec, emax, low, up, down, odd, units, unlike, round, neg, sum, add, mul, sub, div}
+use lib.Ieee.{lt, le, ofInt}
 use lib.Ieee.Fits.{down-pos, and-l, round-is}
 use lib.Ieee.Exact.{HasValue, round-exact}
 use lib.Ieee.Order.{transfer}
@@ -20,12 +22,14 @@ use Rattle.reading.proofs.Wholes.{le-or-lt, negative, int-value}
 use Rattle.levels.specs.Reciprocal.{ofParts}
 
 -- ---- the product
-mul-opened : (m : ℕ) (e : ℤ) (n : ℕ) (d : ℤ) → mul binary64 (fin false m e) (fin false n d) ≡ round binary64 false (m * up e * (n * up d)) (down e * down d)
+mul-opened : (m : ℕ) (e : ℤ) (n : ℕ) (d : ℤ) →
+    mul binary64 (fin false m e) (fin false n d) ≡ round binary64 false (m * up e * (n * up d)) (down e * down d)
 unfolding mul
 mul-opened m e n d = refl
 
 pub mul-values :
-    (x y : Float) (a c b d : ℕ) → 0 < c → 0 < d → HasValue x false a c → HasValue y false b d → mul binary64 x y ≡ round binary64 false (a * b) (c * d)
+    (x y : Float) (a c b d : ℕ) → 0 < c → 0 < d → HasValue x false a c → HasValue y false b d →
+        mul binary64 x y ≡ round binary64 false (a * b) (c * d)
 mul-values nan y a c b d C D h k = absurd h
 mul-values (inf s) y a c b d C D h k = absurd h
 mul-values (fin true m e) y a c b d C D h k = absurd (true≢false (h .0))
@@ -51,7 +55,8 @@ div-opened s m e n d = refl
 
 some-of : (x d y : ℕ) → 0 < y → x * d ≡ y → 0 < x
 some-of x d y h e =
-    ⊎-elim (λ l. let z : x ≡ 0 = omega arith in absurd (let n : x * d ≡ 0 = ap (λ (k : ℕ). k * d) z ∙ zero-mul d in omega arith)) (λ l. l) (le-or-lt x 0)
+    ⊎-elim (λ l. let z : x ≡ 0 = omega arith in absurd (let n : x * d ≡ 0 = ap (λ (k : ℕ). k * d) z ∙ zero-mul d in omega arith)) (λ l. l)
+        (le-or-lt x 0)
 
 cross-div : (x y e g a b c d : ℕ) → x * c ≡ a * e → y * d ≡ b * g → x * g * (c * b) ≡ a * d * (y * e)
 cross-div x y e g a b c d p q =
@@ -98,7 +103,8 @@ cross-add x y e g a b c d p q =
     ∙ sym (add-mul (a * d) (b * c) (e * g))
 
 pub add-values :
-    (x y : Float) (a c b d : ℕ) → 0 < c → 0 < d → HasValue x false a c → HasValue y false b d → add binary64 x y ≡ round binary64 false (a * d + b * c) (c * d)
+    (x y : Float) (a c b d : ℕ) → 0 < c → 0 < d → HasValue x false a c → HasValue y false b d →
+        add binary64 x y ≡ round binary64 false (a * d + b * c) (c * d)
 add-values nan y a c b d C D h k = absurd h
 add-values (inf s) y a c b d C D h k = absurd h
 add-values (fin true m e) y a c b d C D h k = absurd (true≢false (h .0))
@@ -199,7 +205,8 @@ neg-value nan t b c h = h
 neg-value (inf u) t b c h = h
 neg-value (fin u n g) t b c h = (ap not (h .0), h .1)
 
-same-difference : (x y : Float) (s t : Bool) (a b c : ℕ) → 0 < c → HasValue x s a c → HasValue y t b c → sub binary64 x y ≡ sum binary64 s a (not t) b c
+same-difference : (x y : Float) (s t : Bool) (a b c : ℕ) → 0 < c → HasValue x s a c → HasValue y t b c →
+    sub binary64 x y ≡ sum binary64 s a (not t) b c
 unfolding sub
 same-difference x y s t a b c C h k = same-sum x (neg y) s (not t) a b c C h (neg-value y t b c k)
 
@@ -207,7 +214,8 @@ sum-minus : (a b c : ℕ) → b ≤ a → sum binary64 false a true b c ≡ roun
 unfolding sum
 sum-minus a b c l = rw (le-ltb a b l)
 
-pub sub-down : (x y : Float) (a b : ℕ) → HasValue x false a 1 → HasValue y false b 1 → b ≤ a → sub binary64 x y ≡ round binary64 false (a - b) 1
+pub sub-down : (x y : Float) (a b : ℕ) → HasValue x false a 1 → HasValue y false b 1 → b ≤ a →
+    sub binary64 x y ≡ round binary64 false (a - b) 1
 sub-down x y a b h k l = same-difference x y false false a b 1 (zero-lt-suc 0) h k ∙ sum-minus a b 1 l
 
 minus-is : (c a : ℕ) (b : ℤ) → sum binary64 false a (not (negative b)) (natAbs b) c ≡ roundOf c (pos a -ℤ b)
@@ -246,9 +254,11 @@ parts-divided z h =
 finer : (x : Float) (s : Bool) (a : ℕ) → HasValue x s a 1 → HasValue x s (256 * a) 256
 finer nan s a h = h
 finer (inf t) s a h = h
-finer (fin t m e) s a h = (h .0, mul-comm (m * up e) 256 ∙ ap (λ (z : ℕ). 256 * z) (sym (mul-one (m * up e)) ∙ h .1) ∙ sym (mul-assoc 256 a (down e)))
+finer (fin t m e) s a h =
+    (h .0, mul-comm (m * up e) 256 ∙ ap (λ (z : ℕ). 256 * z) (sym (mul-one (m * up e)) ∙ h .1) ∙ sym (mul-assoc 256 a (down e)))
 
-pub sub-parts : (v : ℕ) (b : ℤ) → v ≤ 2 ^ 53 → natAbs b < 2 ^ 53 → sub binary64 (ofInt binary64 (pos v)) (ofParts b) ≡ ofParts (pos (256 * v) -ℤ b)
+pub sub-parts : (v : ℕ) (b : ℤ) → v ≤ 2 ^ 53 → natAbs b < 2 ^ 53 →
+    sub binary64 (ofInt binary64 (pos v)) (ofParts b) ≡ ofParts (pos (256 * v) -ℤ b)
 sub-parts v b h k =
     same-difference (ofInt binary64 (pos v)) (ofParts b) false (negative b) (256 * v) (natAbs b) 256 (zero-lt-suc _)
     (finer (ofInt binary64 (pos v)) false v (int-value (pos v) h)) (parts-value b k)
@@ -276,7 +286,8 @@ lt-fractions (fin false m e) (fin false n g) a c b d C D h k =
     ∙ ltb-scale w (mul-pos (down-pos e) (down-pos g)) (a * d) (b * c)
 
 pub lt-or-eq : (a b : ℕ) → T (ltb a b || (eqb a b && true)) → a ≤ b
-lt-or-eq a b t = ⊎-elim (λ u. le-of-lt (ltb→lt a b u)) (λ u. le-of-eq (eqb→eq a b (and-l (eqb a b) true u))) (split (ltb a b) (eqb a b && true) t)
+lt-or-eq a b t =
+    ⊎-elim (λ u. le-of-lt (ltb→lt a b u)) (λ u. le-of-eq (eqb→eq a b (and-l (eqb a b) true u))) (split (ltb a b) (eqb a b && true) t)
   where
     split : (p q : Bool) → T (p || q) → T p ⊎ T q
     split true q t = inl tt

@@ -14,7 +14,8 @@ use Rattle.listing.specs.Body.{Puts, linesText}
 use Rattle.listing.proofs.Numerals.{value-length}
 
 -- a whole word copied
-pub pasted : (old word new : List ℕ) (at n : ℕ) → new ≡ paste old at word n → n ≡ length word → at + length word ≤ length old → Puts old at word new (at + n)
+pub pasted : (old word new : List ℕ) (at n : ℕ) → new ≡ paste old at word n → n ≡ length word → at + length word ≤ length old →
+    Puts old at word new (at + n)
 pasted old word new at n e k h =
     let m : n ≤ length word = omega arith in
     let w : take n word ≡ word = ap (λ (i : ℕ). take i word) k ∙ take-length word in
@@ -124,7 +125,8 @@ pub record Lines (xs : List Float) (m h : ℕ) (old : List ℕ) (i a : ℕ) (tex
 
 module _ (xs : List Float) (m h : ℕ) (old : List ℕ) where
   pub lines-start : Lines xs m h old 0 0 old 0
-  lines-start = record { most = omega arith; values = sym (zero-mul m); place = refl; same = refl; lines = ap (λ (j : ℕ). linesText m j xs) (sub-zero h) }
+  lines-start = record { most = omega arith; values = sym (zero-mul m); place = refl; same = refl; lines = ap (λ (j : ℕ). linesText m j xs)
+      (sub-zero h) }
 
   -- the next line's values, and those that are put
   pub lines-inside : (i a : ℕ) (text : List ℕ) (end : ℕ) → Lines xs m h old i a text end → length xs ≡ h * m → i < h → a + m ≤ length xs
@@ -141,7 +143,8 @@ module _ (xs : List Float) (m h : ℕ) (old : List ℕ) where
       let o = suc-mul i m in
       let g = lines-inside i a text end l n b in
       let k : length (take w (drop a xs)) ≡ m = simp (ew, length-take, length-drop) (omega arith) in
-      let ln : length (valuesText (take w (drop a xs))) ≡ 17 * length (take w (drop a xs)) = line-length (take w (drop a xs)) (omega arith) in
+      let ln : length (valuesText (take w (drop a xs))) ≡ 17 * length (take w (drop a xs)) = line-length (take w (drop a xs)) (omega arith)
+          in
       let r : h - i ≡ suc (h - (i + 1)) = omega arith in
       let d : drop m (drop a xs) ≡ drop e xs = drop-drop m a xs ∙ ap (λ (j : ℕ). drop j xs) (sym ea) in
       let line = valuesText (take w (drop a xs)) in
@@ -155,7 +158,8 @@ module _ (xs : List Float) (m h : ℕ) (old : List ℕ) where
         values = omega (arith, ea, l .values, o, add-mul i 1 m, one-mul m);
         place = omega (arith, p .0, ln, k, l .place, ea);
         same = p .2 ∙ l .same;
-        lines = ap (λ (ys : List ℕ). ys ++ rest) (p .1) ∙ append-assoc (take end text) line rest ∙ ap (λ (ys : List ℕ). take end text ++ ys) t ∙ l .lines;
+        lines = ap (λ (ys : List ℕ). ys ++ rest) (p .1) ∙ append-assoc (take end text) line rest
+            ∙ ap (λ (ys : List ℕ). take end text ++ ys) t ∙ l .lines;
       }
 
   pub lines-end : (i a : ℕ) (text : List ℕ) (end : ℕ) → Lines xs m h old i a text end → h ≤ i → take end text ≡ linesText m h xs

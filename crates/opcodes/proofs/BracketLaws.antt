@@ -15,7 +15,8 @@ use Rattle.levels.specs.Clip.{plusZero}
 use Rattle.opcodes.specs.Grid.{longOf}
 use Rattle.opcodes.specs.Step.{floatIn}
 use Rattle.opcodes.specs.GainMap.{GainMap, floatOf, placeOf, wholeOf, restOf, betweenOf, alongOf, gainOf, planesIn, gainMapOf}
-use Rattle.opcodes.specs.Bracket.{GainMap-in, pointOf, takenOf, Bracket-at, Bracket-of, Bracket-in, nextOf, gainIn, cornersOf, cornersGain}
+use Rattle.opcodes.specs.Bracket.{GainMap-in, pointOf, takenOf, Bracket-at, Bracket-of, Bracket-in, nextOf, gainIn, cornersOf}
+use Rattle.opcodes.specs.Bracket.{cornersGain}
 use Rattle.opcodes.specs.declared.grid.Size.{Size}
 use Rattle.opcodes.specs.declared.gain_map.Corners.{Corners}
 use Rattle.opcodes.specs.declared.gain_map.Bracket.{Bracket}
@@ -38,7 +39,8 @@ module _ (points : ℕ) (p : Float) (g : ℕ → Float) where
       unfolding alongOf pick
       along-last b = rw (ne-eqb points 1 h, a, b)
 
-      pub along-between : le (floatOf (points - 1)) p ≡ false → betweenOf (restOf p) (g (wholeOf p)) (g (wholeOf p + 1)) ≡ alongOf points p g
+      pub along-between : le (floatOf (points - 1)) p ≡ false →
+          betweenOf (restOf p) (g (wholeOf p)) (g (wholeOf p + 1)) ≡ alongOf points p g
       unfolding alongOf pick
       along-between b = rw (ne-eqb points 1 h, a, b)
 
@@ -84,7 +86,8 @@ module _ (points k : ℕ) (p : Float) (h : k < points) (few : points ≤ 64) whe
         let high = between-high p k n i a b j (points - 1) (omega arith) (omega arith) in
         let w = between-whole p k n i a b j e in
         let more : points ≡ 1 → ⊥ = λ o. omega arith in
-        (λ g. ap (λ (x : ℕ). betweenOf (sub binary64 p (floatOf x)) (g x) (g (x + 1))) (sym w) ∙ along-between points p g more low high, omega arith)
+        (λ g. ap (λ (x : ℕ). betweenOf (sub binary64 p (floatOf x)) (g x) (g (x + 1))) (sym w) ∙ along-between points p g more low high,
+            omega arith)
 
 pub point-below : (points : ℕ) (s : Bracket) → Bracket-in points s → pointOf s < points
 point-below points (At k) h = h
@@ -131,7 +134,8 @@ module _ (m : GainMap) (down across : Bracket) (q columns c : ℕ) (here : Brack
       corners ≡ cornersOf m down q k → k ≡ pointOf across → g ≡ cornersGain corners down across →
       Bracket-in (m .down .points) down → Bracket-in (m .across .points) across → g ≡ gainIn m down q columns c
   corners-found corners k g e f h d a =
-      h ∙ ap (λ (x : Corners). cornersGain x down across) e ∙ ap (λ (n : ℕ). cornersGain (cornersOf m down q n) down across) f ∙ corners-in d a
+      h ∙ ap (λ (x : Corners). cornersGain x down across) e ∙ ap (λ (n : ℕ). cornersGain (cornersOf m down q n) down across) f
+          ∙ corners-in d a
 
 -- corners say where they stand
 module _ (m : GainMap) (down : Bracket) (q k : ℕ) (corners : Corners) (e : corners ≡ cornersOf m down q k) where

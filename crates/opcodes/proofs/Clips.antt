@@ -40,7 +40,8 @@ unfolding lt eq le
 not-least nan a = refl
 not-least (inf false) a = absurd (true≢false a)
 not-least (inf true) a = refl
-not-least (fin true m e) a = and-no (eqb (1 * down e) (m * up e * 1)) (eqb (1 * down e) 0) (ne-eqb (1 * down e) 0 (λ h. omega (arith, down-positive e)))
+not-least (fin true m e) a =
+    and-no (eqb (1 * down e) (m * up e * 1)) (eqb (1 * down e) 0) (ne-eqb (1 * down e) 0 (λ h. omega (arith, down-positive e)))
 not-least (fin false m e) a =
     let h : m * up e * 1 ≤ 0 * down e = ltb-false (0 * down e) (m * up e * 1) a in
     let l : m * up e * 1 ≤ 1 * down e = omega (arith, zero-mul (down e), down-positive e) in

@@ -29,7 +29,8 @@ module _ {A : Type 0} where
   at-run g d n k h = run-at g 1 0 n k d h ∙ ap g (zero-add (1 * k) ∙ one-mul k)
 
 -- the frame's numbers
-pub standing-framed : (z : Size) (x : ℕ → ℕ → ℕ → Float) (r c p : ℕ) → r < z .rows → c < z .columns → p < z .samples → standing (framed z x) r c p ≡ x r c p
+pub standing-framed : (z : Size) (x : ℕ → ℕ → ℕ → Float) (r c p : ℕ) → r < z .rows → c < z .columns → p < z .samples →
+    standing (framed z x) r c p ≡ x r c p
 unfolding standing framed
 standing-framed z x r c p hr hc hp =
     ap (λ (rs : List (List Float)). getD (getD rs c []) p plusZero) (at-run _ [] (z .rows) r hr)
@@ -38,7 +39,8 @@ standing-framed z x r c p hr hc hp =
 
 -- two frames with the same numbers
 pub framed-same :
-    (z : Size) (x y : ℕ → ℕ → ℕ → Float) → ((r c p : ℕ) → r < z .rows → c < z .columns → p < z .samples → x r c p ≡ y r c p) → framed z x ≡ framed z y
+    (z : Size) (x y : ℕ → ℕ → ℕ → Float) → ((r c p : ℕ) → r < z .rows → c < z .columns → p < z .samples → x r c p ≡ y r c p) →
+        framed z x ≡ framed z y
 unfolding framed
 framed-same z x y h =
     run-same _ _ 1 1 0 0 (z .rows) (λ i hi.
@@ -56,7 +58,8 @@ over-framed o z x =
     ∙ ap (λ (g : ℕ → List Float). runOf g 1 0 (z .columns)) (fun-ext (λ (c : ℕ). each-run _ _ 0 (z .samples)))))
 
 -- the frame through the whole list is the frame of the samples worked out alone
-pub through-framed : (os : List Opcode) (z : Size) (x : ℕ → ℕ → ℕ → Float) → through os (framed z x) ≡ framed z (λ r c p. alone os r c p (x r c p))
+pub through-framed : (os : List Opcode) (z : Size) (x : ℕ → ℕ → ℕ → Float) →
+    through os (framed z x) ≡ framed z (λ r c p. alone os r c p (x r c p))
 unfolding through alone
 through-framed [] z x = refl
 through-framed (o ∷ os) z x = ap (through os) (over-framed o z x) ∙ through-framed os z (λ r c p. opcodeAt o r c p (x r c p))
@@ -78,7 +81,8 @@ untouched [] r c p x h = refl
 untouched (o ∷ os) r c p x h = ap (alone os r c p) (at-off o r c p x (h .0)) ∙ untouched os r c p x (h .1)
 
 -- ---- disjoint grids
-pub swap-at : (a b : Opcode) (r c p : ℕ) (x : Float) → Apart a b → opcodeAt a r c p (opcodeAt b r c p x) ≡ opcodeAt b r c p (opcodeAt a r c p x)
+pub swap-at : (a b : Opcode) (r c p : ℕ) (x : Float) → Apart a b →
+    opcodeAt a r c p (opcodeAt b r c p x) ≡ opcodeAt b r c p (opcodeAt a r c p x)
 swap-at a b r c p x h = go (touches a r c p) refl
   where
     go : (t : Bool) → touches a r c p ≡ t → opcodeAt a r c p (opcodeAt b r c p x) ≡ opcodeAt b r c p (opcodeAt a r c p x)

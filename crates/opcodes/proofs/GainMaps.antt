@@ -136,7 +136,8 @@ module _ (z : Size) (ps : List ℕ) where
           pub map-other : (length ps ≡ 76 + 4 * n → ⊥) → 10 ≡ gainMapFault z ps
           map-other c = map-inexact (ne-eqb (length ps) bytes (λ e. c (e ∙ ap (λ (m : ℕ). 76 + 4 * m) (sym k))))
 
-          pub map-read : length ps ≡ 76 + 4 * n → (r : Bool) → r ≡ (refusedIn 8 ps 40 4 || refusedIn 4 ps 76 n) → pick r 12 0 ≡ gainMapFault z ps
+          pub map-read : length ps ≡ 76 + 4 * n → (r : Bool) → r ≡ (refusedIn 8 ps 40 4 || refusedIn 4 ps 76 n) →
+              pick r 12 0 ≡ gainMapFault z ps
           map-read c r e =
               let w : r ≡ wrong = e ∙ ap (λ (m : ℕ). refusedIn 8 ps 40 4 || refusedIn 4 ps 76 m) k in
               ap (λ (b : Bool). pick b 12 0) w ∙ map-numbers (eq-eqb (length ps) bytes (c ∙ ap (λ (m : ℕ). 76 + 4 * m) k))

@@ -17,7 +17,8 @@ use Rattle.reading.proofs.Reading.{running, run-answer, run-ask, pick-yes, pick
 use Rattle.directory.specs.Out.{Out, Out.refused, Out.is, bind}
 use Rattle.directory.proofs.Outs.{bind-refused, bind-is, bind-inverse, not-refused, same-value}
 use Rattle.opcodes.specs.Opcode.{Opcode, skipped, kept}
-use Rattle.opcodes.specs.OpcodeList.{headerOf, classOf, faultOf, parametersOf, opcodeReading, listFrom, listReading, countedOn, countedOne, startOf}
+use Rattle.opcodes.specs.OpcodeList.{headerOf, classOf, faultOf, parametersOf, opcodeReading, listFrom, listReading, countedOn}
+use Rattle.opcodes.specs.OpcodeList.{countedOne, startOf}
 use Rattle.opcodes.specs.declared.grid.Size.{Size}
 use Rattle.opcodes.specs.declared.list.Header.{Header}
 use Rattle.opcodes.specs.declared.list.Class.the-variants as class
@@ -25,7 +26,8 @@ use Rattle.opcodes.specs.declared.list.Counts.{Counts}
 
 -- ---- one opcode
 module _ (z : Size) (i id : ℕ) (ps : List ℕ) (c : Counts) where
-  pub parameters-kept : faultOf z id ps ≡ 0 → is (record { kept = c .kept + 1; skipped = c .skipped }) ≡ countedOne c (parametersOf z i id ps)
+  pub parameters-kept : faultOf z id ps ≡ 0 →
+      is (record { kept = c .kept + 1; skipped = c .skipped }) ≡ countedOne c (parametersOf z i id ps)
   unfolding parametersOf pick
   parameters-kept e = rw (eq-eqb _ _ e)
 
@@ -33,7 +35,8 @@ module _ (z : Size) (i id : ℕ) (ps : List ℕ) (c : Counts) where
   unfolding parametersOf pick
   parameters-refused e = rw (ne-eqb _ _ e)
 
-pub carried-run : (f : List ℕ) (z : Size) (i at : ℕ) (h : Header) → run f (opcodeReading class.Carried z i at h) ≡ parametersOf z i (h .id) (part f (at + 16) (h .length))
+pub carried-run : (f : List ℕ) (z : Size) (i at : ℕ) (h : Header) →
+    run f (opcodeReading class.Carried z i at h) ≡ parametersOf z i (h .id) (part f (at + 16) (h .length))
 carried-run f z i at h = simp running
 
 pub optional-run : (f : List ℕ) (z : Size) (i at : ℕ) (h : Header) → run f (opcodeReading class.Optional z i at h) ≡ is skipped
@@ -43,7 +46,8 @@ pub compulsory-run : (f : List ℕ) (z : Size) (i at : ℕ) (h : Header) → run
 compulsory-run f z i at h = run-answer f (refused 11 i)
 
 -- ---- the counts
-counts : {a b a′ b′ : ℕ} → a ≡ a′ → b ≡ b′ → _≡_ {A = Out Counts} (is (record { kept = a; skipped = b })) (is (record { kept = a′; skipped = b′ }))
+counts : {a b a′ b′ : ℕ} → a ≡ a′ → b ≡ b′ →
+    _≡_ {A = Out Counts} (is (record { kept = a; skipped = b })) (is (record { kept = a′; skipped = b′ }))
 counts e h = cc
 
 added : (c c′ : Counts) (o : Opcode) (os : List Opcode) → is c′ ≡ countedOne c (is o) → countedOn c (is (o ∷ os)) ≡ countedOn c′ (is os)
@@ -95,9 +99,11 @@ module _ (f : List ℕ) (z : Size) where
   onwards k i at n h = listFrom z k (i + 1) (at + (16 + h .length)) (n - (16 + h .length))
 
   abbrev step : ℕ → ℕ → ℕ → ℕ → Header → Reading (Out (List Opcode))
-  step k i at n h = bind (opcodeReading (classOf h) z i at h) (λ (o : Opcode). bind (onwards k i at n h) (λ (os : List Opcode). answer (is (o ∷ os))))
+  step k i at n h = bind (opcodeReading (classOf h) z i at h)
+      (λ (o : Opcode). bind (onwards k i at n h) (λ (os : List Opcode). answer (is (o ∷ os))))
 
-  opened : (k i at n : ℕ) → 16 ≤ n → 16 + headerOf (part f at 16) .length ≤ n → run f (listFrom z (suc k) i at n) ≡ run f (step k i at n (headerOf (part f at 16)))
+  opened : (k i at n : ℕ) → 16 ≤ n → 16 + headerOf (part f at 16) .length ≤ n →
+      run f (listFrom z (suc k) i at n) ≡ run f (step k i at n (headerOf (part f at 16)))
   unfolding listFrom
   opened k i at n h l = simp (le-leb 16 n h, pick-yes, run-ask) (simp (le-leb _ n l, pick-yes))
 
@@ -126,7 +132,8 @@ module _ (f : List ℕ) (z : Size) where
       go false b p q = absurd (not-refused os 10 i (e ∙ sym (short k i at n (leb-false 16 n p))))
       go true false p q = absurd (not-refused os 10 i (e ∙ sym (over k i at n (leb-true 16 n p) (leb-false _ n q))))
       go true true p q =
-          let a = bind-inverse f (opcodeReading (classOf (headAt f at)) z i at (headAt f at)) _ os (e ∙ opened k i at n (leb-true 16 n p) (leb-true _ n q)) in
+          let a = bind-inverse f (opcodeReading (classOf (headAt f at)) z i at (headAt f at)) _ os
+              (e ∙ opened k i at n (leb-true 16 n p) (leb-true _ n q)) in
           let b = bind-inverse f (onwards k i at n (headAt f at)) _ os (a .2) in
           record {
             header-fits = leb-true 16 n p;
@@ -184,7 +191,8 @@ module _ (f : List ℕ) (z : Size) where
   list-short zero i at n c s h = absurd (omega arith)
   list-short (suc k) i at n c s h = ap (countedOn c) (short k i at n h)
 
-  pub list-over : (k i at n : ℕ) (c : Counts) → 0 < k → 16 ≤ n → n < 16 + headerOf (part f at 16) .length → refused 10 i ≡ countedOn c (run f (listFrom z k i at n))
+  pub list-over : (k i at n : ℕ) (c : Counts) → 0 < k → 16 ≤ n → n < 16 + headerOf (part f at 16) .length →
+      refused 10 i ≡ countedOn c (run f (listFrom z k i at n))
   list-over zero i at n c s h l = absurd (omega arith)
   list-over (suc k) i at n c s h l = ap (countedOn c) (over k i at n h l)
 
@@ -192,9 +200,11 @@ module _ (f : List ℕ) (z : Size) where
     abbrev header : Header
     header = headerOf (part f at 16)
 
-    pub list-refused : (k : ℕ) → 0 < k → (m d : ℕ) → refused m d ≡ countedOne c (run f (opcodeReading (classOf header) z i at header)) → refused m d ≡ countedOn c (run f (listFrom z k i at n))
+    pub list-refused : (k : ℕ) → 0 < k → (m d : ℕ) → refused m d ≡ countedOne c (run f (opcodeReading (classOf header) z i at header)) →
+        refused m d ≡ countedOn c (run f (listFrom z k i at n))
     list-refused zero s m d e = absurd (omega arith)
-    list-refused (suc k) s m d e = ap (countedOn c) (bind-refused f (opcodeReading (classOf header) z i at header) _ m d (out _ e)) ∙ ap (countedOn c) (sym (opened k i at n h l))
+    list-refused (suc k) s m d e = ap (countedOn c) (bind-refused f (opcodeReading (classOf header) z i at header) _ m d (out _ e))
+        ∙ ap (countedOn c) (sym (opened k i at n h l))
       where
         out : (x : Out Opcode) → refused m d ≡ countedOne c x → refused m d ≡ x
         out (refused a b) e = cc
@@ -211,14 +221,17 @@ module _ (f : List ℕ) (z : Size) where
         ∙ ap (λ (j : ℕ). countedOn c′ (run f (onwards j i at n header))) q
       where
         after : (o : Opcode) → is c′ ≡ countedOne c (is o) → (y : Out (List Opcode)) → y ≡ run f (onwards k i at n header) →
-            countedOn c (run f (bind (onwards k i at n header) (λ (os : List Opcode). answer (is (o ∷ os))))) ≡ countedOn c′ (run f (onwards k i at n header))
+            countedOn c (run f (bind (onwards k i at n header) (λ (os : List Opcode). answer (is (o ∷ os))))) ≡ countedOn c′
+                (run f (onwards k i at n header))
         after o g (refused m d) w = ap (countedOn c) (sym (bind-refused f (onwards k i at n header) _ m d w)) ∙ ap (countedOn c′) w
-        after o g (is os) w = ap (countedOn c) (bind-is f (onwards k i at n header) _ os w ∙ run-answer f (is (o ∷ os))) ∙ added c c′ o os g ∙ ap (countedOn c′) w
+        after o g (is os) w = ap (countedOn c) (bind-is f (onwards k i at n header) _ os w ∙ run-answer f (is (o ∷ os))) ∙ added c c′ o os g
+            ∙ ap (countedOn c′) w
 
         go : (x : Out Opcode) → x ≡ run f (opcodeReading (classOf header) z i at header) → is c′ ≡ countedOne c x →
             countedOn c (run f (step k i at n header)) ≡ countedOn c′ (run f (onwards k i at n header))
         go (refused m d) w g = absurd (not-refused c′ m d g)
-        go (is o) w g = ap (countedOn c) (bind-is f (opcodeReading (classOf header) z i at header) _ o w) ∙ after o g (run f (onwards k i at n header)) refl
+        go (is o) w g = ap (countedOn c) (bind-is f (opcodeReading (classOf header) z i at header) _ o w)
+            ∙ after o g (run f (onwards k i at n header)) refl
 
   -- ---- the value of 51009
   module _ (at n : ℕ) (s : n ≡ 0 → ⊥) (m : ℕ) (e : m ≡ numberOf Big (part f at 4)) where
@@ -231,7 +244,8 @@ module _ (f : List ℕ) (z : Size) where
     value-some h = simp (ne-eqb n 0 s, pick-no, run-ask) (rw (← e) (simp (le-ltb 32 m h, pick-no)))
 
     -- an accepted one: the count, and the list
-    pub value-inverse : (os : List Opcode) → is os ≡ run f (listReading z at n) → (m ≤ 32) × (is os ≡ run f (listFrom z m 0 (at + 4) (n - 4)))
+    pub value-inverse : (os : List Opcode) → is os ≡ run f (listReading z at n) → (m ≤ 32)
+        × (is os ≡ run f (listFrom z m 0 (at + 4) (n - 4)))
     value-inverse os q = go (leb m 32) refl
       where
         go : (b : Bool) → leb m 32 ≡ b → (m ≤ 32) × (is os ≡ run f (listFrom z m 0 (at + 4) (n - 4)))

@@ -34,7 +34,8 @@ module _ (h : Header) where
   unfolding classOf pick
   class-unlisted a b e = rw (a, e)
 
-  pub class-newer : listedId (h .id) ≡ true → leb (h .version) 0x01070100 ≡ false → (b : Bool) → eqb (h .flags % 2) 1 ≡ b → pick b class.Optional class.Compulsory ≡ classOf h
+  pub class-newer : listedId (h .id) ≡ true → leb (h .version) 0x01070100 ≡ false → (b : Bool) → eqb (h .flags % 2) 1 ≡ b →
+      pick b class.Optional class.Compulsory ≡ classOf h
   unfolding classOf pick
   class-newer a v b e = rw (a, v, e)
 
@@ -157,7 +158,8 @@ form-in g id n h = go (eqb id 7) (eqb id 8) (eqb id 10 || eqb id 12)
     lines-in : (k : ℕ) → Form-in (linesForm k n)
     lines-in k = record { small = omega arith; wide = λ _. inl refl; inside = omega arith }
 
-    go : (a b c : Bool) → Form-in (pick a (tableForm n) (pick b (polynomialForm n) (pick c (linesForm (rowsOf g) n) (linesForm (columnsOf g) n))))
+    go : (a b c : Bool) → Form-in (pick a (tableForm n)
+        (pick b (polynomialForm n) (pick c (linesForm (rowsOf g) n) (linesForm (columnsOf g) n))))
     go true b c = record { small = omega arith; wide = λ h. absurd (omega arith); inside = omega arith }
     go false true c = record { small = omega arith; wide = λ _. inr refl; inside = omega arith }
     go false false true = lines-in (rowsOf g)

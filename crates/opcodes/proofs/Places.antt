@@ -4,7 +4,8 @@ use mathlib.Core.Path.{_≡_, refl, sym, ap, _∙_, subst}
 use mathlib.Core.Bool.{Bool, true, false, cond, not, Bool·beq, _&&_, _||_, true≢false}
 use mathlib.Core.Logic.{⊎-elim}
 use Prim.Native.Nat.{ℕ, zero, suc, _+_, _*_, _-_, _/_, _%_, _^_, _≤_, _<_}
-use native.Mathlib.Nat.{div-lt-iff-lt-mul, lt-of-mul-lt-mul-right, mul-le-mul, le-refl, zero-mul, mul-lt-mul-of-pos-right, le-div-iff-mul-le}
+use native.Mathlib.Nat.{div-lt-iff-lt-mul, lt-of-mul-lt-mul-right, mul-le-mul, le-refl, zero-mul, mul-lt-mul-of-pos-right}
+use native.Mathlib.Nat.{le-div-iff-mul-le}
 use native.Mathlib.Omega.{arith}
 use borrow.Author.Tests.{lt-ltb, le-ltb, ltb-true, ltb-false, eqb-false, ne-eqb, eq-eqb}
 use lib.IntN.{ℤ, pos}
@@ -68,7 +69,8 @@ above-positive (fin false m e) k l =
     let q : 0 * down e < m * up e * 1 = ltb-true (0 * down e) (m * up e * 1) l in
     lt→ltb 0 m (first-pos m (up e) (omega arith))
 
-pub real-positive : (f : Format) (b : ℕ) → refusedReal (realOf f b) ≡ false → lt plusZero (ofBits f b) ≡ true → T (positive (valueOf (realOf f b)))
+pub real-positive : (f : Format) (b : ℕ) → refusedReal (realOf f b) ≡ false → lt plusZero (ofBits f b) ≡ true →
+    T (positive (valueOf (realOf f b)))
 real-positive f b h a = go (refusedPattern f b) refl
   where
     go : (r : Bool) → refusedPattern f b ≡ r → T (positive (valueOf (realOf f b)))
@@ -84,7 +86,8 @@ sum-number : (s : Bool) (a : ℕ) (t : Bool) (b c : ℕ) → isNan (sum binary64
 unfolding sum
 sum-number s a t b c = go (Bool·beq s t) (ltb a b)
   where
-    go : (x y : Bool) → isNan (cond x (round binary64 s (a + b) c) (cond y (round binary64 t (b - a) c) (round binary64 (s && ltb b a) (a - b) c))) ≡ false
+    go : (x y : Bool) → isNan (cond x (round binary64 s (a + b) c)
+        (cond y (round binary64 t (b - a) c) (round binary64 (s && ltb b a) (a - b) c))) ≡ false
     go true y = round-number s (a + b) c
     go false true = round-number t (b - a) c
     go false false = round-number (s && ltb b a) (a - b) c
@@ -133,7 +136,8 @@ unfolding placeOf
 place-number a size n o s h few =
     let near : n ≤ 65536 = omega arith in
     let sum = add-number (floatOf n) half (value-number (floatOf n) n (float-value n near)) tt in
-    let part = div-number (add binary64 (floatOf n) half) (floatOf size) sum (positive-of-value (floatOf size) size 1 (float-value size few) (omega arith)) in
+    let part = div-number (add binary64 (floatOf n) half) (floatOf size) sum
+        (positive-of-value (floatOf size) size 1 (float-value size few) (omega arith)) in
     div-number _ (a .spacing) (sub-number _ (a .origin) part o) s
 
 -- so for every row or column, where an axis has more than one point
@@ -201,7 +205,8 @@ module _ (p : Float) (n : ℕ) (few : n ≤ 65536) (k : isNan p ≡ false) (a : 
   pub whole-below : wholeOf p < n
   whole-below = let (m, e, q, h) = here in subst (λ (x : Float). wholeOf x < n) (sym q) (below-here m e h)
 
-  word-here : (m : ℕ) (e : ℤ) → m * up e < n * down e → T (lt (fin true 1 (pos 0)) (fin false m e)) × T (lt (fin false m e) (fin false 1 (pos 64)))
+  word-here : (m : ℕ) (e : ℤ) → m * up e < n * down e → T (lt (fin true 1 (pos 0)) (fin false m e))
+      × T (lt (fin false m e) (fin false 1 (pos 64)))
   unfolding lt
   word-here m e h =
       let d : 0 < down e = down-pos e in
@@ -255,7 +260,8 @@ unfolding le
 below-whole nan n m e v h = absurd v
 below-whole (inf s) n m e v h = absurd v
 below-whole (fin true l d) n m e v h = absurd (true≢false (v .0))
-below-whole (fin false l d) n m e v h = not-le (l * up d * down e) (m * up e * down d) (scaled (l * up d) (m * up e) n (down d) (down e) (down-pos d) h (v .1))
+below-whole (fin false l d) n m e v h =
+    not-le (l * up d * down e) (m * up e * down d) (scaled (l * up d) (m * up e) n (down d) (down e) (down-pos d) h (v .1))
   where
     scaled : (b a n d e : ℕ) → 0 < d → a < n * e → b * 1 ≡ n * d → a * d < b * e
     scaled b a n d e p h v =

@@ -33,7 +33,8 @@ unfolding runOf
 coefficients-fit f at zero = tt
 coefficients-fit f at (suc n) = (value-fits _, coefficients-fit f (at + 8) n)
 
-pub polynomial-read : (f : List ℕ) (at n : ℕ) (x : Float) → suc n ≤ 9 → unit x → appliedOf (polynomialOf (coefficientsOf f at (suc n))) f x ≡ clipOf (hornerOf (coefficientsOf f at (suc n)) x)
+pub polynomial-read : (f : List ℕ) (at n : ℕ) (x : Float) → suc n ≤ 9 → unit x →
+    appliedOf (polynomialOf (coefficientsOf f at (suc n))) f x ≡ clipOf (hornerOf (coefficientsOf f at (suc n)) x)
 unfolding runOf
 polynomial-read f at n x h u =
     polynomial-is _ (coefficientsOf f (at + 8) n) f x

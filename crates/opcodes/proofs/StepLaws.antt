@@ -35,7 +35,8 @@ use Rattle.opcodes.specs.declared.step.Step.{Step}
 use Rattle.opcodes.specs.declared.step.Step.the-variants.{Add, Scale, Table}
 use Rattle.opcodes.proofs.Polynomial.{polynomial-read}
 use Rattle.opcodes.proofs.Places.{or-false}
-use Rattle.opcodes.proofs.OpcodeLists.{long-part, and-true, fits-in, fault-short, fault-grid, fault-form, form-table, form-polynomial, form-rows, form-columns, exact-bytes}
+use Rattle.opcodes.proofs.OpcodeLists.{long-part, and-true, fits-in, fault-short, fault-grid, fault-form, form-table}
+use Rattle.opcodes.proofs.OpcodeLists.{form-polynomial, form-rows, form-columns, exact-bytes}
 
 -- the line of a row or column of the grid is one of its lines
 pub line-below : (first end pitch n : ℕ) → 1 ≤ pitch → first ≤ n → n < end → (n - first) / pitch < linesOf first end pitch
@@ -47,7 +48,8 @@ module _ (f : List ℕ) (at n : ℕ) where
   abbrev own : List ℕ
   own = part f at n
 
-  run-own : {A : Type 0} (g : List ℕ → A) (w m : ℕ) → 36 + w * m ≤ n → runOf (λ (p : ℕ). g (part f p w)) w (at + 36) m ≡ runOf (λ (p : ℕ). g (part own p w)) w 36 m
+  run-own : {A : Type 0} (g : List ℕ → A) (w m : ℕ) → 36 + w * m ≤ n →
+      runOf (λ (p : ℕ). g (part f p w)) w (at + 36) m ≡ runOf (λ (p : ℕ). g (part own p w)) w 36 m
   run-own g w m h =
       run-same _ _ w w (at + 36) 36 m (λ i k.
       let l : 36 + w * i + w ≤ n = omega (arith, within w m i k) in
@@ -70,19 +72,23 @@ module _ (f : List ℕ) (at n : ℕ) where
         ap (λ (t : List ℕ). clipOf (mappedOf t x)) (rw (q, long-own some) (run-own (numberOf Big) 2 (countOf own) h))
 
     polynomial-step : countOf own ≤ 8 → 36 + 8 * (countOf own + 1) ≤ n → unit x →
-        appliedOf (polynomialOf (coefficientsOf f (at + 36) (longOf f (at + 32) + 1))) f x ≡ clipOf (hornerOf (coefficientsOf own 36 (countOf own + 1)) x)
+        appliedOf (polynomialOf (coefficientsOf f (at + 36) (longOf f (at + 32) + 1))) f x ≡ clipOf
+            (hornerOf (coefficientsOf own 36 (countOf own + 1)) x)
     polynomial-step m h u =
         let e : longOf f (at + 32) + 1 ≡ suc (countOf own) = omega (arith, long-own some) in
         let q : countOf own + 1 ≡ suc (countOf own) = omega arith in
         let h′ : 36 + 8 * suc (countOf own) ≤ n = rw q at h in
         rw (e, q) (polynomial-read f (at + 36) (countOf own) x (omega arith) u
-        ∙ ap (λ (cs : List Float). clipOf (hornerOf cs x)) (run-own (λ bs. valueOf (realOf binary64 (numberOf Big bs))) 8 (suc (countOf own)) h′))
+        ∙ ap (λ (cs : List Float). clipOf (hornerOf cs x))
+            (run-own (λ bs. valueOf (realOf binary64 (numberOf Big bs))) 8 (suc (countOf own)) h′))
 
-    add-step : (m k : ℕ) → 36 + 4 * m ≤ n → k < m → appliedOf (Add (floatAt f at k)) f x ≡ clipOf (add binary64 x (getD (floatsOf own 36 m) k plusZero))
+    add-step : (m k : ℕ) → 36 + 4 * m ≤ n → k < m →
+        appliedOf (Add (floatAt f at k)) f x ≡ clipOf (add binary64 x (getD (floatsOf own 36 m) k plusZero))
     unfolding appliedOf resultOf
     add-step m k h l = ap (λ (v : Float). clipOf (add binary64 x v)) (float-own m k h l)
 
-    scale-step : (m k : ℕ) → 36 + 4 * m ≤ n → k < m → appliedOf (Scale (floatAt f at k)) f x ≡ clipOf (mul binary64 x (getD (floatsOf own 36 m) k plusZero))
+    scale-step : (m k : ℕ) → 36 + 4 * m ≤ n → k < m →
+        appliedOf (Scale (floatAt f at k)) f x ≡ clipOf (mul binary64 x (getD (floatsOf own 36 m) k plusZero))
     unfolding appliedOf resultOf
     scale-step m k h l = ap (λ (v : Float). clipOf (mul binary64 x v)) (float-own m k h l)
 
@@ -154,12 +160,14 @@ pub record Accepted (z : Size) (id : ℕ) (ps : List ℕ) : Type 0 where
   pub exact : exactOf (formOf (gridOf ps) id (countOf ps)) (length ps) ≡ true
 
 pub accepted : (z : Size) (id : ℕ) (ps : List ℕ) → plainFault z id ps ≡ 0 → Accepted z id ps
-accepted z id ps e = go (leb 36 (length ps)) (fitsOf z (gridOf ps)) (exactOf (formOf (gridOf ps) id (countOf ps)) (length ps)) refl refl refl
+accepted z id ps e =
+    go (leb 36 (length ps)) (fitsOf z (gridOf ps)) (exactOf (formOf (gridOf ps) id (countOf ps)) (length ps)) refl refl refl
   where
     no : 10 ≡ plainFault z id ps → ⊥
     no h = let q : _≡_ {A = ℕ} 10 0 = h ∙ e in omega arith
 
-    go : (a b c : Bool) → leb 36 (length ps) ≡ a → fitsOf z (gridOf ps) ≡ b → exactOf (formOf (gridOf ps) id (countOf ps)) (length ps) ≡ c → Accepted z id ps
+    go : (a b c : Bool) → leb 36 (length ps) ≡ a → fitsOf z (gridOf ps) ≡ b → exactOf (formOf (gridOf ps) id (countOf ps)) (length ps) ≡ c →
+        Accepted z id ps
     go false b c h k l = absurd (no (fault-short z id ps (leb-false 36 (length ps) h)))
     go true false c h k l = absurd (no (fault-grid z id ps (leb-true 36 (length ps) h) k))
     go true true false h k l = absurd (no (fault-form z id ps (leb-true 36 (length ps) h) k l))
@@ -199,7 +207,8 @@ floats-in f at n z id lines m k i e w b l =
     let ps = part f at n in
     let r = each-kept ps 36 m k (numbers-kept z id ps (linesForm lines m) w e (refusedIn 4 ps 36 m) refl) l in
     let p : part ps (36 + 4 * k) 4 ≡ part f (at + 36 + 4 * k) 4 =
-    part-part f at n (36 + 4 * k) 4 (omega arith) ∙ ap (λ (q : ℕ). part f q 4) (let q : at + (36 + 4 * k) ≡ at + 36 + 4 * k = omega arith in q) in
+    part-part f at n (36 + 4 * k) 4 (omega arith)
+        ∙ ap (λ (q : ℕ). part f q 4) (let q : at + (36 + 4 * k) ≡ at + 36 + 4 * k = omega arith in q) in
     record { inside = omega arith; accepted = rw (← p) (kept-pattern (numberOf Big (part ps (36 + 4 * k) 4)) r) }
 
 -- a sample on the grid
@@ -258,14 +267,16 @@ module _ (f : List ℕ) (at n : ℕ) (z : Size) (id : ℕ) (inside : at + n ≤ 
   bytes k e = let h = accepted z id ps ok .exact in sym size ∙ exact-bytes k (length ps) (rw e h)
 
   legal : (k : Form) → k ≡ formOf g id m → k .legal ≡ true
-  legal k e = let h : exactOf k (length ps) ≡ true = rw e (accepted z id ps ok .exact) in and-true (k .legal) (eqb (length ps) (36 + k .bytes)) h .0
+  legal k e = let h : exactOf k (length ps) ≡ true = rw e (accepted z id ps ok .exact) in and-true (k .legal)
+      (eqb (length ps) (36 + k .bytes)) h .0
 
   acts-7 : id ≡ 7 → Acts
   unfolding actOf kindOf pick
   acts-7 e =
       let k = form-table g id m (eq-eqb id 7 e) in
       let b = bytes (tableForm m) k in
-      ap (λ (s : Step). appliedOf s f x) (sym (step-7 f at id _ _ e)) ∙ table-step f at n 0 0 x enough (omega arith) ∙ rw (eq-eqb id 7 e) refl
+      ap (λ (s : Step). appliedOf s f x) (sym (step-7 f at id _ _ e)) ∙ table-step f at n 0 0 x enough (omega arith)
+          ∙ rw (eq-eqb id 7 e) refl
 
   module _ (n7 : id ≡ 7 → ⊥) where
     acts-8 : id ≡ 8 → unit x → Acts
@@ -274,7 +285,8 @@ module _ (f : List ℕ) (at n : ℕ) (z : Size) (id : ℕ) (inside : at + n ≤ 
         let k = form-polynomial g id m (ne-eqb id 7 n7) (eq-eqb id 8 e) in
         let b = bytes (polynomialForm m) k in
         let l : m ≤ 8 = leb-true m 8 (legal (polynomialForm m) k) in
-        ap (λ (s : Step). appliedOf s f x) (sym (step-8 f at id _ _ n7 e)) ∙ polynomial-step f at n 0 0 x enough l (omega arith) u ∙ rw (ne-eqb id 7 n7, eq-eqb id 8 e) refl
+        ap (λ (s : Step). appliedOf s f x) (sym (step-8 f at id _ _ n7 e)) ∙ polynomial-step f at n 0 0 x enough l (omega arith) u
+            ∙ rw (ne-eqb id 7 n7, eq-eqb id 8 e) refl
 
     module _ (n8 : id ≡ 8 → ⊥) (on : onOf g r c p ≡ true) where
       row-line : (eqb id 10 || eqb id 12) ≡ true → (36 + 4 * m ≤ n) × (lineOf row g r c < m)
@@ -283,7 +295,8 @@ module _ (f : List ℕ) (at n : ℕ) (z : Size) (id : ℕ) (inside : at + n ≤ 
           let b = bytes (linesForm (rowsOf g) m) k in
           let l : m ≡ rowsOf g = eqb-true m (rowsOf g) (legal (linesForm (rowsOf g) m) k) in
           let o = on-in g r c p on in
-          let q : lineOf row g r c < rowsOf g = line-below (g .top) (g .bottom) (g .«row_pitch») r (accepted z id ps ok .grid .row-pitch) (o .top) (o .bottom) in
+          let q : lineOf row g r c < rowsOf g = line-below (g .top) (g .bottom) (g .«row_pitch») r (accepted z id ps ok .grid .row-pitch)
+              (o .top) (o .bottom) in
           (omega arith, omega arith)
 
       column-line : (eqb id 10 || eqb id 12) ≡ false → (36 + 4 * m ≤ n) × (lineOf column g r c < m)
@@ -292,7 +305,8 @@ module _ (f : List ℕ) (at n : ℕ) (z : Size) (id : ℕ) (inside : at + n ≤ 
           let b = bytes (linesForm (columnsOf g) m) k in
           let l : m ≡ columnsOf g = eqb-true m (columnsOf g) (legal (linesForm (columnsOf g) m) k) in
           let o = on-in g r c p on in
-          let q : lineOf column g r c < columnsOf g = line-below (g .left) (g .right) (g .«column_pitch») c (accepted z id ps ok .grid .column-pitch) (o .left) (o .right) in
+          let q : lineOf column g r c < columnsOf g = line-below (g .left) (g .right) (g .«column_pitch») c
+              (accepted z id ps ok .grid .column-pitch) (o .left) (o .right) in
           (omega arith, omega arith)
 
       acts-10 : id ≡ 10 → Acts
@@ -315,14 +329,16 @@ module _ (f : List ℕ) (at n : ℕ) (z : Size) (id : ℕ) (inside : at + n ≤ 
           unfolding actOf kindOf pick
           acts-12 e =
               let l = row-line (rw (ne-eqb id 10 n10, eq-eqb id 12 e) refl) in
-              ap (λ (s : Step). appliedOf s f x) (sym (step-12 f at id _ _ n7 n8 n10 n11 e)) ∙ scale-step f at n 0 0 x enough m _ (l .0) (l .1)
+              ap (λ (s : Step). appliedOf s f x) (sym (step-12 f at id _ _ n7 n8 n10 n11 e))
+                  ∙ scale-step f at n 0 0 x enough m _ (l .0) (l .1)
               ∙ rw (ne-eqb id 7 n7, ne-eqb id 8 n8, ne-eqb id 9 n9, ne-eqb id 10 n10, ne-eqb id 11 n11, eq-eqb id 12 e) refl
 
           acts-13 : (id ≡ 12 → ⊥) → Acts
           unfolding actOf kindOf pick
           acts-13 e =
               let l = column-line (rw (ne-eqb id 10 n10, ne-eqb id 12 e) refl) in
-              ap (λ (s : Step). appliedOf s f x) (sym (step-13 f at id _ _ n7 n8 n10 n11 e)) ∙ scale-step f at n 0 0 x enough m _ (l .0) (l .1)
+              ap (λ (s : Step). appliedOf s f x) (sym (step-13 f at id _ _ n7 n8 n10 n11 e))
+                  ∙ scale-step f at n 0 0 x enough m _ (l .0) (l .1)
               ∙ rw (ne-eqb id 7 n7, ne-eqb id 8 n8, ne-eqb id 9 n9, ne-eqb id 10 n10, ne-eqb id 11 n11, ne-eqb id 12 e) refl
 
   -- at a sample of its grid, an accepted opcode's step makes of a number from 0 to 1 what the opcode does

@@ -19,14 +19,16 @@ use Rattle.directory.specs.Out.{Out, Out.refused, Out.is}
 use Rattle.directory.proofs.Outs.{not-refused}
 use Rattle.opcodes.specs.Opcode.{Opcode, skipped, kept, opcodeAt}
 use Rattle.opcodes.specs.Frame.{framed, through, alone, Apart}
-use Rattle.opcodes.specs.OpcodeList.{headerOf, classOf, parametersOf, opcodeReading, listFrom, listReading, keptIn, skippedIn, startOf}
+use Rattle.opcodes.specs.OpcodeList.{headerOf, classOf, parametersOf, opcodeReading, listFrom, listReading, keptIn, skippedIn}
+use Rattle.opcodes.specs.OpcodeList.{startOf}
 use Rattle.opcodes.specs.Swap.{exchange, swappedFile, swapAt}
 use Rattle.opcodes.specs.declared.grid.Size.{Size}
 use Rattle.opcodes.specs.declared.list.Header.{Header}
 use Rattle.opcodes.specs.declared.list.Class.{Class}
 use Rattle.opcodes.specs.declared.list.Class.the-variants as class
 use Rattle.opcodes.proofs.Frames.{through-framed, swap-at}
-use Rattle.opcodes.proofs.Listing.{headAt, wholeAt, start-above, start-next, carried-run, optional-run, compulsory-run, list-inverse, list-of, list-length, start-inside, value-some, value-inverse}
+use Rattle.opcodes.proofs.Listing.{headAt, wholeAt, start-above, start-next, carried-run, optional-run, compulsory-run, list-inverse}
+use Rattle.opcodes.proofs.Listing.{list-of, list-length, start-inside, value-some, value-inverse}
 use Rattle.opcodes.proofs.Unread.{list-below}
 
 -- ---- the file with the k-th opcode and the next one exchanged
@@ -70,7 +72,8 @@ module _ (f : List ℕ) (at k : ℕ) (fits : startOf f at (suc (suc k)) ≤ leng
 
   swapped-second : part (swappedFile f at k) (a + (c - b)) (b - a) ≡ part f a (b - a)
   swapped-second =
-      ap (take (b - a)) (sym (drop-drop (c - b) a (swappedFile f at k)) ∙ ap (drop (c - b)) behind ∙ drop-at (part f b (c - b)) _ (c - b) next)
+      ap (take (b - a)) (sym (drop-drop (c - b) a (swappedFile f at k)) ∙ ap (drop (c - b)) behind
+          ∙ drop-at (part f b (c - b)) _ (c - b) next)
       ∙ take-at (part f a (b - a)) _ (b - a) one
 
   pub swapped-length : length (swappedFile f at k) ≡ length f
@@ -79,7 +82,8 @@ module _ (f : List ℕ) (at k : ℕ) (fits : startOf f at (suc (suc k)) ≤ leng
   -- every byte before the two and behind them stays
   pub swapped-outside : (i : ℕ) → (i < a) ⊎ (c ≤ i) → getD (swappedFile f at k) i 0 ≡ getD f i 0
   swapped-outside i (inl h) = ap (λ (g : List ℕ). getD g i 0) swapped-replaced ∙ replaced-before f a new new-fits i h
-  swapped-outside i (inr h) = ap (λ (g : List ℕ). getD g i 0) swapped-replaced ∙ replaced-after f a new new-fits i (omega (arith, new-length))
+  swapped-outside i (inr h) = ap (λ (g : List ℕ). getD g i 0) swapped-replaced
+      ∙ replaced-after f a new new-fits i (omega (arith, new-length))
 
   -- where their bytes are not read: the same answer, and the same is read
   pub swapped-unread : {A : Type 0} (p : Reading A) → ((i : ℕ) → a ≤ i → i < c → reads (trace f p) i ≡ false) →
@@ -100,8 +104,10 @@ module _ (z : Size) (i i′ : ℕ) (o : Opcode) where
   parameters-moved id ps e = accepted o _ _ _ i i′ e
 
   module _ (g f : List ℕ) (at at′ : ℕ) where
-    opcode-moved : (c : Class) (h : Header) → part g (at′ + 16) (h .length) ≡ part f (at + 16) (h .length) → is o ≡ run f (opcodeReading c z i at h) → is o ≡ run g (opcodeReading c z i′ at′ h)
-    opcode-moved class.Carried h s e = parameters-moved (h .id) _ (e ∙ carried-run f z i at h) ∙ ap (parametersOf z i′ (h .id)) (sym s) ∙ sym (carried-run g z i′ at′ h)
+    opcode-moved : (c : Class) (h : Header) → part g (at′ + 16) (h .length) ≡ part f (at + 16) (h .length) →
+        is o ≡ run f (opcodeReading c z i at h) → is o ≡ run g (opcodeReading c z i′ at′ h)
+    opcode-moved class.Carried h s e = parameters-moved (h .id) _ (e ∙ carried-run f z i at h) ∙ ap (parametersOf z i′ (h .id)) (sym s)
+        ∙ sym (carried-run g z i′ at′ h)
     opcode-moved class.Optional h s e = e ∙ optional-run f z i at h ∙ sym (optional-run g z i′ at′ h)
     opcode-moved class.Compulsory h s e = absurd (not-refused o 11 i (e ∙ compulsory-run f z i at h))
 
@@ -113,8 +119,10 @@ module _ (z : Size) (i i′ : ℕ) (o : Opcode) where
     list-moved k n os l s e r =
         let w : ℕ = wholeAt f at in
         let p : part g (at′ + 16) (headAt f at .length) ≡ part f (at + 16) (headAt f at .length) =
-        sym (part-part g at′ w 16 (headAt f at .length) (omega arith)) ∙ ap (λ (bs : List ℕ). part bs 16 (headAt f at .length)) s ∙ part-part f at w 16 (headAt f at .length) (omega arith) in
-        let h : headAt g at′ ≡ headAt f at = ap headerOf (sym (take-take 16 w (drop at′ g) (omega arith)) ∙ ap (take 16) s ∙ take-take 16 w (drop at f) (omega arith)) in
+        sym (part-part g at′ w 16 (headAt f at .length) (omega arith)) ∙ ap (λ (bs : List ℕ). part bs 16 (headAt f at .length)) s
+            ∙ part-part f at w 16 (headAt f at .length) (omega arith) in
+        let h : headAt g at′ ≡ headAt f at = ap headerOf
+            (sym (take-take 16 w (drop at′ g) (omega arith)) ∙ ap (take 16) s ∙ take-take 16 w (drop at f) (omega arith)) in
         list-of g z k i′ at′ n o os (rw h l) (rw h (opcode-moved (classOf (headAt f at)) (headAt f at) p e)) (rw h r)
 
 -- ---- the list
@@ -139,22 +147,27 @@ swap-from f z zero (suc (suc m)) i at n os l e s =
     swapped-unread f at 0 fits _ (λ j _ h. list-below f j z m (i + 1 + 1) (at + w + v) (n - w - v) h) .0 in
     let c : at + w + v ≡ at + v + w = omega arith in
     let d : n - w - v ≡ n - v - w = omega arith in
-    let t : is (y .others) ≡ run g (listFrom z m (i + 1 + 1) (at + v + w) (n - v - w)) = y .others-are ∙ sym r ∙ ap (λ (j : ℕ). run g (listFrom z m (i + 1 + 1) j (n - w - v))) c ∙ ap (λ (j : ℕ). run g (listFrom z m (i + 1 + 1) (at + v + w) j)) d in
+    let t : is (y .others) ≡ run g (listFrom z m (i + 1 + 1) (at + v + w) (n - v - w)) = y .others-are ∙ sym r
+        ∙ ap (λ (j : ℕ). run g (listFrom z m (i + 1 + 1) j (n - w - v))) c
+        ∙ ap (λ (j : ℕ). run g (listFrom z m (i + 1 + 1) (at + v + w) j)) d in
     ap (λ (l : List Opcode). is (swapAt 0 l)) two
     ∙ list-moved z (i + 1) i (y .first) g f (at + w) at (suc m) n _ (omega (arith, y .fits)) p (y .first-is)
     (list-moved z i (i + 1) (x .first) g f at (at + v) m (n - v) _ (omega (arith, x .fits, y .fits)) q (x .first-is) t)
 swap-from f z (suc k) (suc m) i at n os l e s =
     let w : ℕ = wholeAt f at in
     let x = list-inverse f z m i at n os e in
-    let fits : startOf f (at + w) (suc (suc k)) ≤ length f = omega (arith, x .fits, start-inside f z (suc (suc k)) m (i + 1) (at + w) (n - w) (x .others) (x .others-are) (omega arith)) in
+    let fits : startOf f (at + w) (suc (suc k)) ≤ length f = omega
+        (arith, x .fits, start-inside f z (suc (suc k)) m (i + 1) (at + w) (n - w) (x .others) (x .others-are) (omega arith)) in
     let p : part (swappedFile f (at + w) k) at w ≡ part f at w =
-    part-same _ f at w (swapped-length f (at + w) k fits) (λ j _ h. swapped-outside f (at + w) k fits j (inl (omega (arith, start-above f (at + w) k)))) in
+    part-same _ f at w (swapped-length f (at + w) k fits)
+        (λ j _ h. swapped-outside f (at + w) k fits j (inl (omega (arith, start-above f (at + w) k)))) in
     ap (λ (l : List Opcode). is (swapAt (suc k) l)) (x .all)
     ∙ list-moved z i i (x .first) (swappedFile f (at + w) k) f at at m n _ (x .fits) p (x .first-is)
     (swap-from f z k m (i + 1) (at + w) (n - w) (x .others) (omega (arith, x .fits)) (x .others-are) (omega arith))
 
 -- the value of 51009, accepted
-module _ (f : List ℕ) (z : Size) (s n : ℕ) (some : 4 ≤ n) (os : List Opcode) (e : is os ≡ run f (listReading z s n)) (k : ℕ) (h : suc k < length os) where
+module _ (f : List ℕ) (z : Size) (s n : ℕ) (some : 4 ≤ n) (os : List Opcode) (e : is os ≡ run f (listReading z s n)) (k : ℕ)
+    (h : suc k < length os) where
   abbrev count : ℕ
   count = numberOf Big (part f s 4)
 
@@ -173,7 +186,8 @@ module _ (f : List ℕ) (z : Size) (s n : ℕ) (some : 4 ≤ n) (os : List Opcod
       let g : List ℕ = swappedFile f (s + 4) k in
       let fits : startOf f (s + 4) (suc (suc k)) ≤ length f = omega (arith, swapped-inside .1) in
       let c : part g s 4 ≡ part f s 4 =
-      part-same g f s 4 (swapped-length f (s + 4) k fits) (λ i _ b. swapped-outside f (s + 4) k fits i (inl (omega (arith, swapped-inside .0)))) in
+      part-same g f s 4 (swapped-length f (s + 4) k fits)
+          (λ i _ b. swapped-outside f (s + 4) k fits i (inl (omega (arith, swapped-inside .0)))) in
       swap-from f z k count 0 (s + 4) (n - 4) os (omega arith) (list .1) enough
       ∙ value-some g z s n (λ q. omega arith) count (ap (numberOf Big) (sym c)) (list .0)
 
@@ -190,7 +204,8 @@ swapped-counts (suc k) (kept g a ∷ os) = let r = swapped-counts k os in (ap su
 
 -- ---- disjoint grids: the same numbers
 pub alone-swapped :
-    (k : ℕ) (os : List Opcode) → Apart (getD os k skipped) (getD os (suc k) skipped) → (r c p : ℕ) (x : Float) → alone (swapAt k os) r c p x ≡ alone os r c p x
+    (k : ℕ) (os : List Opcode) → Apart (getD os k skipped) (getD os (suc k) skipped) → (r c p : ℕ) (x : Float) →
+        alone (swapAt k os) r c p x ≡ alone os r c p x
 unfolding alone
 alone-swapped k [] d r c p x = refl
 alone-swapped zero (o ∷ []) d r c p x = refl

@@ -71,7 +71,8 @@ unfolding toBits
 field-low m e h =
     let n = m * up e * 2 ^ 1074 / down e in
     let w : 65536 * down e * 2 ^ 1074 ≡ 2 ^ 1090 * down e = mul-right-comm 65536 (down e) (2 ^ 1074) in
-    let l : m * up e * 2 ^ 1074 < 2 ^ 1090 * down e = subst (λ (k : ℕ). m * up e * 2 ^ 1074 < k) w (mul-lt-mul-of-pos-right h (pow-pos 1074)) in
+    let l : m * up e * 2 ^ 1074 < 2 ^ 1090 * down e = subst (λ (k : ℕ). m * up e * 2 ^ 1074 < k) w
+        (mul-lt-mul-of-pos-right h (pow-pos 1074)) in
     let s : size n ≤ 1090 = size-le n 1090 (div-lt-iff-lt-mul (down-pos e) .1 l) in
     let q : n / 2 ^ (size n - 53) < 2 ^ 53 = kept-lt 53 n in
     room (size n) (n / 2 ^ (size n - 53)) s q
@@ -85,7 +86,8 @@ module _ (v : Float) (k : ℕ) (F : T (fits binary64 v)) (h : Floor v k) (b : k 
   under = lt-of-lt-of-le (h .4) (let w : k * down (h .1) ≤ 65535 * down (h .1) = mul-le-mul-right (down (h .1)) b in omega arith)
 
   below : T (lt v (fin false 1 (pos 64)))
-  below = rw (h .2) (below-word (fin false (h .0) (h .1)) (unfold lt in lt-ltb (h .0 * up (h .1) * 1) (1 * 2 ^ 16 * down (h .1)) (omega (arith, under))))
+  below = rw (h .2) (below-word (fin false (h .0) (h .1))
+      (unfold lt in lt-ltb (h .0 * up (h .1) * 1) (1 * 2 ^ 16 * down (h .1)) (omega (arith, under))))
 
   pub digits-field : toBits binary64 v / 2 ^ 52 ≤ 1075
   digits-field = rw (h .2) (field-low (h .0) (h .1) under)

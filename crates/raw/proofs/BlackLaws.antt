@@ -63,9 +63,11 @@ module _ (f : List ℕ) (o : Order) (k : BlackKind) (size n p : ℕ) (sized : 0 
       let e : size ≡ widthOf k = sized (omega arith) in
       let b : 0 + size * i + widthOf k ≤ size * n = omega (arith, within size n i h) in
       let g : p + (0 + size * i) ≡ p + size * i = omega arith in
-      ap (λ (bs : List ℕ). blackOf (valueOf k o bs)) (part-part f p (size * n) (0 + size * i) (widthOf k) b ∙ ap (λ (q : ℕ). part f q (widthOf k)) g))
+      ap (λ (bs : List ℕ). blackOf (valueOf k o bs))
+          (part-part f p (size * n) (0 + size * i) (widthOf k) b ∙ ap (λ (q : ℕ). part f q (widthOf k)) g))
 
-  pub blacks-test : (tag : ℕ) (b : Black) → b ≡ firstRefused (runOf (blackAt k o f) size p n) → blackOut tag b ≡ run f (blacksTest o tag k size n p)
+  pub blacks-test : (tag : ℕ) (b : Black) → b ≡ firstRefused (runOf (blackAt k o f) size p n) →
+      blackOut tag b ≡ run f (blacksTest o tag k size n p)
   unfolding blacksTest
   blacks-test tag b e = ap (blackOut tag) (e ∙ sym (ap firstRefused same-run)) ∙ sym (simp running)
 
@@ -87,5 +89,6 @@ whites-in f d s (given.Is v) e q =
     let same : v ≡ u = same-value v u (b .2 ∙ run-answer f _) in
     record {
       placed = q;
-      most = subst (Most f (d .order)) (sym same) (λ i l. each-to f (d .order) (u .size) 50717 (range 0 0 65535) (b .0) (u .count) i (u .place) (b .1) l);
+      most = subst (Most f (d .order)) (sym same)
+          (λ i l. each-to f (d .order) (u .size) 50717 (range 0 0 65535) (b .0) (u .count) i (u .place) (b .1) l);
     }

@@ -10,9 +10,11 @@ use Rattle.directory.specs.Out.{Out, Out.refused, Out.is, bind}
 use Rattle.directory.specs.Widths.{classic}
 use Rattle.directory.specs.Entry.{kindOf, plainOf, sizeOf, headerOf}
 use Rattle.directory.specs.Shape.{ifd}
-use Rattle.directory.specs.Tag.{findFrom, wholeReading, valueReading, testedReading, absentOf, valuesReading, faultOf, judgedOf, firstReading, oneReading}
+use Rattle.directory.specs.Tag.{findFrom, wholeReading, valueReading, testedReading, absentOf, valuesReading, faultOf, judgedOf}
+use Rattle.directory.specs.Tag.{firstReading, oneReading}
 use Rattle.directory.specs.Tag.{eachReading, allReading}
-use Rattle.raw.specs.Pattern.{oneOf, firstOf, lastOf, placesOf, fourColoursReading, cfaPatternReading, planeColorOf, threeColoursReading}
+use Rattle.raw.specs.Pattern.{oneOf, firstOf, lastOf, placesOf, fourColoursReading, cfaPatternReading, planeColorOf}
+use Rattle.raw.specs.Pattern.{threeColoursReading}
 use Rattle.raw.specs.Pattern.{planeColorReading, patternReading}
 use Rattle.raw.specs.declared.pattern.Pattern.{Pattern}
 
@@ -46,8 +48,10 @@ pub record Worked : Type 0 where
       ∷ refused 8 50710 ∷ refused 4 50711 ∷ refused 8 50711 ∷ []
 
 pub worked : Worked
-unfolding run andThen pick numberAt numberOf littleOf bind kindOf plainOf sizeOf headerOf findFrom wholeReading valueReading testedReading absentOf
-    valuesReading faultOf judgedOf firstReading oneReading eachReading allReading oneOf firstOf lastOf placesOf fourColoursReading cfaPatternReading
+unfolding run andThen pick numberAt numberOf littleOf bind kindOf plainOf sizeOf headerOf findFrom wholeReading valueReading testedReading
+    absentOf
+    valuesReading faultOf judgedOf firstReading oneReading eachReading allReading oneOf firstOf lastOf placesOf fourColoursReading
+        cfaPatternReading
     planeColorOf
     threeColoursReading planeColorReading patternReading
 worked = record { whole = refl; defaults = refl; refusals = refl }

@@ -19,7 +19,8 @@ use Rattle.directory.specs.declared.tag.Values.{Values}
 use Rattle.directory.specs.declared.tag.Kinds.the-variants as kinds
 use Rattle.directory.specs.Tag.{valuesReading, required}
 use Rattle.directory.proofs.Outs.{bind-refused, bind-is, bind-inverse, same-value, not-refused}
-use Rattle.raw.specs.Pattern.{oneOf, timesOf, firstOf, lastOf, placesOf, fourColoursReading, planeColorOf, threeColoursReading, repeatDimReading}
+use Rattle.raw.specs.Pattern.{oneOf, timesOf, firstOf, lastOf, placesOf, fourColoursReading, planeColorOf, threeColoursReading}
+use Rattle.raw.specs.Pattern.{repeatDimReading}
 use Rattle.raw.specs.Pattern.{cfaPatternReading}
 use Rattle.raw.specs.Pattern.{planeColorReading, cfaLayoutReading, patternReading, Pattern-in}
 use Rattle.raw.specs.declared.pattern.Pattern.{Pattern}

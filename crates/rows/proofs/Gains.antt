@@ -40,7 +40,8 @@ use Rattle.rows.proofs.Sweeps.{every-told, line-first, line-more}
 -- one of the grid is below its right end
 pub column-below : (left right pitch j : ℕ) → 0 < pitch → j < linesOf left right pitch → left + j * pitch < right
 column-below left right pitch j p h =
-    let q : (j + 1) * pitch ≤ right - left + (pitch - 1) = le-div-iff-mul-le p .0 (let s : j + 1 ≤ linesOf left right pitch = omega arith in s) in
+    let q : (j + 1) * pitch ≤ right - left + (pitch - 1) = le-div-iff-mul-le p .0
+        (let s : j + 1 ≤ linesOf left right pitch = omega arith in s) in
     omega (arith, add-mul j 1 pitch, one-mul pitch)
 
 module _ (s : Columns) where
@@ -59,7 +60,8 @@ module _ (z : Size) (ps : List ℕ) where
 
   -- ---- at one sample
   module _ (r c p : ℕ) (x : Float) where
-    gained : onOf own r c p ≡ true → clipOf (mul binary64 x (gainOf (gainMapOf ps) z r c (p - own .plane))) ≡ opcodeAt (gainedOf z ps) r c p x
+    gained : onOf own r c p ≡ true →
+        clipOf (mul binary64 x (gainOf (gainMapOf ps) z r c (p - own .plane))) ≡ opcodeAt (gainedOf z ps) r c p x
     unfolding actOf
     gained t = sym (simp (t, pick-yes))
 
@@ -82,7 +84,8 @@ module _ (z : Size) (ps : List ℕ) where
     after g = planesOf (gainLine ps z g down) (g .left) (g .right) (g .«column_pitch») l n (g .plane) (g .plane + g .planes) xs
 
     line-is : (c j : ℕ) → everyOf (own .left) (own .right) (own .«column_pitch») c ≡ true →
-        gainIn (gainMapOf ps) down (min j (planesIn ps - 1)) (z .columns) (own .left + (c - own .left) / own .«column_pitch» * own .«column_pitch»)
+        gainIn (gainMapOf ps) down (min j (planesIn ps - 1)) (z .columns)
+            (own .left + (c - own .left) / own .«column_pitch» * own .«column_pitch»)
         ≡ gainOf (gainMapOf ps) z r c j
     unfolding gainMapOf
     line-is c j t =
@@ -96,7 +99,8 @@ module _ (z : Size) (ps : List ℕ) where
     same : (c p : ℕ) (x : Float) (b : Bool) → onOf own r c p ≡ b →
         pick b (gainLine ps z own down p ((c - own .left) / own .«column_pitch») x) x ≡ opcodeAt (gainedOf z ps) r c p x
     same c p x true t =
-        simp pick-yes (ap (λ (y : Float). clipOf (mul binary64 x y)) (line-is c (p - own .plane) (on-in own r c p t .column)) ∙ gained r c p x t)
+        simp pick-yes (ap (λ (y : Float). clipOf (mul binary64 x y)) (line-is c (p - own .plane) (on-in own r c p t .column))
+            ∙ gained r c p x t)
     same c p x false t = simp pick-no (gone r c p x t)
 
     row-here : everyOf (own .top) (own .bottom) (own .«row_pitch») r ≡ true → after own ≡ overPart (gainedOf z ps) r l n xs

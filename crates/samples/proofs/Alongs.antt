@@ -4,7 +4,8 @@ use mathlib.Core.Path.{_≡_, refl, sym, ap, _∙_}
 use mathlib.Core.Logic.{⊎-elim}
 use mathlib.Core.List.{List}
 use Prim.Native.Nat.{ℕ, _+_, _-_, _*_, _/_, _%_, _≤_, _<_}
-use native.Mathlib.Nat.{add-assoc, mul-assoc, mul-comm, mul-div-cancel, mod-lt, div-add-mod', add-mul, mul-le-mul-right, add-mul-mod-self-right}
+use native.Mathlib.Nat.{add-assoc, mul-assoc, mul-comm, mul-div-cancel, mod-lt, div-add-mod', add-mul, mul-le-mul-right}
+use native.Mathlib.Nat.{add-mul-mod-self-right}
 use native.Mathlib.Nat.{add-mul-div-right}
 use native.Mathlib.Omega.{arith}
 use lib.IntN.{ℤ, pos, natAbs}
@@ -99,11 +100,13 @@ module _ (f : List ℕ) (o : Order) (k : BlackKind) (v : Values) (sized : 0 < v 
       ⊎-elim (λ h. rw (blacks-run f o k v sized, List·getD-eq-default bs (pos 0) {n = i} (omega arith)) (omega arith))
       (λ h. rw (black-in f o k v sized i h) (at-small k o f (v .place + v .size * i))) (le-or-lt (v .count) i)
 
-pub cell-small : (f : List ℕ) (o : Order) (t : Tags) → Tags-in f o t → (r c p : ℕ) → natAbs (cellFor (run f (levelsReading o t)) r c p) ≤ 16776960
+pub cell-small : (f : List ℕ) (o : Order) (t : Tags) → Tags-in f o t → (r c p : ℕ) →
+    natAbs (cellFor (run f (levelsReading o t)) r c p) ≤ 16776960
 cell-small f o t h r c p =
     let b = t .levels .black in
     let q = h .levels .black in
-    rw (cell-for f o t r c p) (blacks-small f o (kindFor (b .kind)) b (λ s. q .typed s .1 ∙ width-for _ (q .typed s .0)) (cellIndex t r c p))
+    rw (cell-for f o t r c p) (blacks-small f o (kindFor (b .kind)) b (λ s. q .typed s .1 ∙ width-for _ (q .typed s .0))
+        (cellIndex t r c p))
 
 -- ---- what lies along a part of a row
 module _ (v : Levels) (n l len : ℕ) (some : 1 ≤ n) (along : List Float) (w : Along-in v n l len along) where
@@ -142,23 +145,27 @@ module _ (v : Levels) (n l len : ℕ) (some : 1 ≤ n) (along : List Float) (w :
         rw cells-length
         (record { cell-again = λ g k. cell-again v n some q k (w .again g) r l; span-again = λ g k. span-again v n some q k (w .again g) })
 
-    pub celled : (down : ℤ) (d : Float) → ((c p : ℕ) → natAbs (cellFor v r c p) ≤ 16776960) → ((p : ℕ) → p < n → SpanIn (spanOf v p)) → PartIs down d
+    pub celled : (down : ℤ) (d : Float) → ((c p : ℕ) → natAbs (cellFor v r c p) ≤ 16776960) → ((p : ℕ) → p < n → SpanIn (spanOf v p)) →
+        PartIs down d
         → Celled (cellAlong v n r l) (spanAlong v n) down cells inverses d (length cells)
     celled down d small spans y =
         record {
           cell-is = λ k b.
               let b′ : k < q = omega (arith, cells-length) in
-              record { small = small (l + k / n) (k % n); number = part-at nan (r * q) (r * q + q - r * q) k along (omega arith) ∙ w .cells r k h b′ };
+              record { small = small (l + k / n) (k % n); number = part-at nan (r * q) (r * q + q - r * q) k along (omega arith)
+                  ∙ w .cells r k h b′ };
           inverse-is = λ k b.
               let b′ : k < q = omega (arith, cells-length) in
               let a = v .repeat-rows * q in
-              record { inside = spans (k % n) (mod-lt k some); number = part-at nan a (a + q - a) k along (omega arith) ∙ w .inverses k b′ };
+              record { inside = spans (k % n) (mod-lt k some); number = part-at nan a (a + q - a) k along (omega arith)
+                  ∙ w .inverses k b′ };
           down-is = y;
         }
 
 -- ---- rows of q numbers are what lies along
 pub along-filled :
-    (v : Levels) (n l len q R C : ℕ) (new : List Float) → v .repeat-rows ≡ R → v .repeat-columns ≡ C → length new ≡ (R + 1) * q → 1 ≤ q → q ≤ 512
+    (v : Levels) (n l len q R C : ℕ) (new : List Float) → v .repeat-rows ≡ R → v .repeat-columns ≡ C → length new ≡ (R + 1) * q → 1 ≤ q →
+        q ≤ 512
     → ((r k : ℕ) → r < R → k < q → getD new (r * q + k) nan ≡ ofParts (cellAlong v n r l k))
     → ((k : ℕ) → k < q → getD new (R * q + k) nan ≡ inverseOf (spanAlong v n k))
     → (q < len → q % (C * n) ≡ 0) → Along-in v n l len new

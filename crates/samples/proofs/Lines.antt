@@ -63,7 +63,8 @@ module _ {A : Type 0} (d : A) (a n : ℕ) (xs ys : List A) where
   pub put-inside : (k : ℕ) → a ≤ length xs → k < length ys → getD replaced (a + k) d ≡ getD ys k d
   put-inside k h b =
       let e : a + k ≡ length (take a xs) + k = ap (λ (z : ℕ). z + k) (sym (length-take-le a xs h)) in
-      ap (λ (z : ℕ). getD replaced z d) e ∙ getD-append-add (take a xs) (ys ++ drop n (drop a xs)) k d ∙ List·getD-append ys (drop n (drop a xs)) d k b
+      ap (λ (z : ℕ). getD replaced z d) e ∙ getD-append-add (take a xs) (ys ++ drop n (drop a xs)) k d
+          ∙ List·getD-append ys (drop n (drop a xs)) d k b
 
 -- ---- place by place, and part by part
 module _ {A : Type 0} (d : A) (g : ℕ → A) where
@@ -124,7 +125,8 @@ plain-is f o b at black span k v e = ap (λ (n : ℕ). scaledOf (levelOf (differ
 pub plain-inside : (f : List ℕ) (l : Line) (n b k : ℕ) → Line-in f l n → l .bytes ≡ b → k < n → l .place + b * k + b ≤ length f
 plain-inside f l n b k w e h = subst (λ (m : ℕ). l .place + m * k + m ≤ length f) e (w .inside k h)
 
-pub plain-number : (f : List ℕ) (l : Line) (b k : ℕ) → l .bytes ≡ b → l .count ≡ 0 → plainNumber f (l .order) b (l .place) k ≡ numberAt f l k
+pub plain-number : (f : List ℕ) (l : Line) (b k : ℕ) → l .bytes ≡ b → l .count ≡ 0 →
+    plainNumber f (l .order) b (l .place) k ≡ numberAt f l k
 plain-number f l b k e z =
     let v : ℕ → ℕ = λ m. plainNumber f (l .order) m (l .place) k in
     ap v (sym e) ∙ sym (through-none (λ (p : ℕ). numberOf (l .order) (part f p 2)) 2 (l .table) (l .count) (v (l .bytes)) z)
@@ -135,7 +137,8 @@ plain-value f l b black span k e z = value-is f l black span k _ (plainNumber f 
 
 -- the same line from its i-th sample on
 abbrev pub from : Line → ℕ → Line
-from l i = record { order = l .order; bytes = l .bytes; place = l .place + l .bytes * i; table = l .table; count = l .count; down = l .down }
+from l i =
+    record { order = l .order; bytes = l .bytes; place = l .place + l .bytes * i; table = l .table; count = l .count; down = l .down }
 
 place-from : (l : Line) (i k : ℕ) → l .place + l .bytes * i + l .bytes * k ≡ l .place + l .bytes * (i + k)
 place-from l i k = omega (arith, mul-add (l .bytes) i k)
@@ -158,30 +161,36 @@ value-from f l black black′ span span′ i k b s = rw (place-from l i k, b, s)
 part-sum : (a b : ℤ) (x y : Float) (m n : ℕ) → natAbs a ≤ m → natAbs b ≤ n → m + n ≤ 50330880 → x ≡ ofParts a → y ≡ ofParts b
     → (natAbs (a +ℤ b) ≤ m + n) × (add binary64 x y ≡ ofParts (a +ℤ b))
 part-sum a b x y m n h k s e q =
-    (omega (arith, natAbs-add a b), ap (λ (z : Float). add binary64 z y) e ∙ ap (add binary64 (ofParts a)) q ∙ add-parts a b (omega arith) (omega arith))
+    (omega (arith, natAbs-add a b), ap (λ (z : Float). add binary64 z y) e ∙ ap (add binary64 (ofParts a)) q
+        ∙ add-parts a b (omega arith) (omega arith))
 
-module _ (cell span : ℕ → ℤ) (down : ℤ) (cells inverses : List Float) (y : Float) (n : ℕ) (c : Celled cell span down cells inverses y n) where
+module _ (cell span : ℕ → ℤ) (down : ℤ) (cells inverses : List Float) (y : Float) (n : ℕ) (c : Celled cell span down cells inverses y n)
+    where
   -- no column has a delta
-  pub levelled-plain : (m : ℕ) (delta : ℕ → ℤ) → m ≤ n → ((k : ℕ) → delta k ≡ pos 0) → Levelled (λ k. cell k +ℤ delta k +ℤ down) span cells inverses y m
+  pub levelled-plain : (m : ℕ) (delta : ℕ → ℤ) → m ≤ n → ((k : ℕ) → delta k ≡ pos 0) →
+      Levelled (λ k. cell k +ℤ delta k +ℤ down) span cells inverses y m
   levelled-plain m delta h z =
       record {
         black-is = λ k b.
             let w = c .cell-is k (omega arith) in
             let e : cell k +ℤ delta k ≡ cell k = ap (λ (t : ℤ). cell k +ℤ t) (z k) ∙ +ℤ-idr (cell k) in
-            let s = part-sum (cell k) down _ y 16776960 16776960 (w .small) (c .down-is .small) (omega arith) (w .number) (c .down-is .number) in
+            let s = part-sum (cell k) down _ y 16776960 16776960 (w .small) (c .down-is .small) (omega arith) (w .number)
+                (c .down-is .number) in
             rw e (record { small = omega (arith, s .0); number = s .1 });
         inverse-is = λ k b. c .inverse-is k (omega arith);
       }
 
   -- the columns' deltas are in the sums
   pub levelled-sums : (m : ℕ) (delta : ℕ → ℤ) (sums : List Float) → m ≤ n → ((k : ℕ) → natAbs (delta k) ≤ 16776960)
-      → Filled nan (λ k. add binary64 (getD cells k nan) (ofParts (delta k))) m sums → Levelled (λ k. cell k +ℤ delta k +ℤ down) span sums inverses y m
+      → Filled nan (λ k. add binary64 (getD cells k nan) (ofParts (delta k))) m sums →
+          Levelled (λ k. cell k +ℤ delta k +ℤ down) span sums inverses y m
   levelled-sums m delta sums h z f =
       record {
         black-is = λ k b.
             let w = c .cell-is k (omega arith) in
             let s = part-sum (cell k) (delta k) _ _ 16776960 16776960 (w .small) (z k) (omega arith) (w .number) refl in
-            let t = part-sum (cell k +ℤ delta k) down _ y 33553920 16776960 (s .0) (c .down-is .small) (omega arith) (f k b ∙ s .1) (c .down-is .number) in
+            let t = part-sum (cell k +ℤ delta k) down _ y 33553920 16776960 (s .0) (c .down-is .small) (omega arith) (f k b ∙ s .1)
+                (c .down-is .number) in
             record { small = t .0; number = t .1 };
         inverse-is = λ k b. c .inverse-is k (omega arith);
       }
@@ -199,14 +208,17 @@ module _ (cell span : ℕ → ℤ) (q len : ℕ) (r : Repeating cell span q len)
   pub same-next : (i e : ℕ) → (e < len → e ≡ i + q) → Same i → Same e
   same-next i e h s =
       record {
-        cells = λ l k. let j : e ≡ i + q = h l in ap (λ (n : ℕ). cell (n + k)) j ∙ ap cell (add-assoc i q k) ∙ s .cells (omega arith) (q + k)
+        cells = λ l k. let j : e ≡ i + q = h l in ap (λ (n : ℕ). cell (n + k)) j ∙ ap cell (add-assoc i q k)
+            ∙ s .cells (omega arith) (q + k)
             ∙ r .cell-again (omega arith) k;
-        spans = λ l k. let j : e ≡ i + q = h l in ap (λ (n : ℕ). span (n + k)) j ∙ ap span (add-assoc i q k) ∙ s .spans (omega arith) (q + k)
+        spans = λ l k. let j : e ≡ i + q = h l in ap (λ (n : ℕ). span (n + k)) j ∙ ap span (add-assoc i q k)
+            ∙ s .spans (omega arith) (q + k)
             ∙ r .span-again (omega arith) k;
       }
 
 -- ---- zeros
 pub zeros-part : (m n : ℕ) → Small (take m (replicate n (pos 0)))
 zeros-part m n k =
-    ⊎-elim (λ h. rw (List·getD-eq-default (take m (replicate n (pos 0))) (pos 0) {n = k} (omega (arith, length-take m (replicate n (pos 0))))) (omega arith))
+    ⊎-elim (λ h. rw (List·getD-eq-default (take m (replicate n (pos 0))) (pos 0) {n = k}
+        (omega (arith, length-take m (replicate n (pos 0))))) (omega arith))
     (λ h. rw (getD-take m (replicate n (pos 0)) k (pos 0) h, zeros-at n k) (omega arith)) (le-or-lt m k)

@@ -20,7 +20,8 @@ place-requires c κs = search needs
 returns : tie.Need-returns
 unfolding gainMapOf
 returns c =
-    let e = c .before .across-axis .ensures ∙ ap acrossOf (c .before .before .before .gain-map-bytes .ensures) in
+    let gain-map-bytes = c .before .before .before .gain-map-bytes in
+    let e = c .before .across-axis .ensures ∙ ap acrossOf (gain-map-bytes .ensures) in
     c .place .ensures ∙ ap (λ (a : Axis). placeOf a 4 2) e
 
 pub column-place-spec : {M : Type 1} → statement M

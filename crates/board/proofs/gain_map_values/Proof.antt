@@ -41,7 +41,9 @@ slice-aggregate-gain-at : tie.Need-slice-aggregate-gain-at
 slice-aggregate-gain-at c = search needs
 
 gain-at-requires : tie.Need-gain-at-requires
-gain-at-requires c κs = (rw (c .before .before .before .gain-map-bytes .ensures) shading-in, omega arith, omega arith, omega arith, omega arith)
+gain-at-requires c κs =
+    let gain-map-bytes = c .before .before .before .gain-map-bytes in
+    (rw (gain-map-bytes .ensures) shading-in, omega arith, omega arith, omega arith, omega arith)
 
 slice-aggregate-apply : tie.Need-slice-aggregate-apply
 slice-aggregate-apply c = search needs
@@ -84,15 +86,19 @@ bits-of-requires-6 c κs =
 returns : tie.Need-returns
 unfolding ofBits
 returns c =
+    let bits-of = c .before .before .before .before .before .bits-of in
+    let bits-of2 = c .before .before .before .before .bits-of2 in
+    let bits-of3 = c .before .before .before .bits-of3 in
     let a = c .before .before .before .before .before .before in
     let p = a .before .before .before .before .before .before .gain-map-bytes .ensures in
     let e = found (a .before .before .before .before .corners-at .ensures) p in
     let g = gained (a .before .before .gain-at .ensures) p in
-    let e1 = c .before .before .before .before .before .bits-of .ensures ∙ ap (λ (x : Corners). bits (x .«upper_left»)) e in
-    let e2 = c .before .before .before .before .bits-of2 .ensures ∙ ap (λ (x : Corners). bits (x .«upper_right»)) e in
-    let e3 = c .before .before .before .bits-of3 .ensures ∙ ap (λ (x : Corners). bits (x .«lower_left»)) e in
+    let e1 = bits-of .ensures ∙ ap (λ (x : Corners). bits (x .«upper_left»)) e in
+    let e2 = bits-of2 .ensures ∙ ap (λ (x : Corners). bits (x .«upper_right»)) e in
+    let e3 = bits-of3 .ensures ∙ ap (λ (x : Corners). bits (x .«lower_left»)) e in
     let e4 = c .before .before .bits-of4 .ensures ∙ ap (λ (x : Corners). bits (x .«lower_right»)) e in
-    rw (e1, e2, e3, e4, c .before .bits-of5 .ensures ∙ ap bits g, c .bits-of6 .ensures ∙ ap bits (applied (a .apply .ensures) g p)) values-hold
+    rw (e1, e2, e3, e4, c .before .bits-of5 .ensures ∙ ap bits g, c .bits-of6 .ensures ∙ ap bits (applied (a .apply .ensures) g p))
+        values-hold
 
 pub gain-map-values-spec : {M : Type 1} → statement M
 gain-map-values-spec =

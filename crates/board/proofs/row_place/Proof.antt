@@ -20,7 +20,8 @@ place-requires c κs = search needs
 returns : tie.Need-returns
 unfolding gainMapOf
 returns c =
-    let e = c .before .down-axis .ensures ∙ ap downOf (c .before .before .before .gain-map-bytes .ensures) in
+    let gain-map-bytes = c .before .before .before .gain-map-bytes in
+    let e = c .before .down-axis .ensures ∙ ap downOf (gain-map-bytes .ensures) in
     c .place .ensures ∙ ap (λ (a : Axis). placeOf a 4 1) e
 
 pub row-place-spec : {M : Type 1} → statement M

@@ -12,7 +12,9 @@ field-requires : tie.Need-field-requires
 field-requires c κs = search needs
 
 returns : tie.Need-returns
-returns c = c .field .ensures ∙ ap (λ (x : CardAnswer). fieldOf x (c .before .before .before .args .which)) (c .before .card .ensures .0)
+returns c =
+    let a = c .before .before .before .args in
+    c .field .ensures ∙ ap (λ (x : CardAnswer). fieldOf x (a .which)) (c .before .card .ensures .0)
 
 pub dng-card-spec : {M : Type 1} → statement M
 dng-card-spec = tie.close (tie.spec card-requires field-requires returns)

@@ -23,7 +23,9 @@ array-share-prefix-text : tie.Need-array-share-prefix-text
 array-share-prefix-text c = search needs
 
 slice-aggregate-write-all : tie.Need-slice-aggregate-write-all
-slice-aggregate-write-all c = sym (length-take-le _ (c .before .before .put-first .last .0) (c .before .before .put-first .ensures .inside))
+slice-aggregate-write-all c =
+    let put-first = c .before .before .put-first in
+    sym (length-take-le _ (put-first .last .0) (put-first .ensures .inside))
 
 write-all-requires : tie.Need-write-all-requires
 write-all-requires c κs = search needs
@@ -42,9 +44,10 @@ slice-aggregate-print-rows-2 c = search needs
 
 print-rows-requires : tie.Need-print-rows-requires
 print-rows-requires c κs =
+    let opening2 = c .before .before .before .opening2 in
     let p = c .before .before .before .before .before .before .before .before .before in
     let f = now (p .before .before .before .before .before .args .file) in
-    let w = subst (OpenedIs f (p .put-first .result .size)) (c .before .before .before .opening2 .given .1) (p .put-first .ensures .file) in
+    let w = subst (OpenedIs f (p .put-first .result .size)) (opening2 .given .1) (p .put-first .ensures .file) in
     let t = p .before .before in
     (omega (arith, p .put-first .kept .0, t .text-space .ensures), omega (arith, t .before .value-space .ensures), w .1, w .2)
 

@@ -17,19 +17,26 @@ loop-holds : tie.Need-loop-holds Inv-loop μ-loop
 loop-holds c = (refl, refl)
 
 block-requires : tie.Need-block-requires Inv-loop μ-loop
-block-requires c κs = let q = c .before .before .before .before .before .before .before .pre .2 in (q .sized, q .some-columns, c .if1 .taken)
+block-requires c κs =
+    let pre = c .before .before .before .before .before .before .before .pre in
+    let q = pre .2 in (q .sized, q .some-columns, c .if1 .taken)
 
 put-rows-requires : tie.Need-put-rows-requires Inv-loop μ-loop
 put-rows-requires c κs =
-    let v = c .before .before .before .before .before .loop in
+    let loop = c .before .before .before .before .before .loop in
+    let v = loop in
     let s = c .before .before .before .before .before .before .before .before .before .before in
     ((omega (arith, v .inv .0, s .pre .0), omega (arith, v .inv .1, s .pre .1), s .pre .2, s .pre .3), c .before .before .block .ensures)
 
 slice-reshare-prefix-write-all : tie.Need-slice-reshare-prefix-write-all Inv-loop μ-loop
-slice-reshare-prefix-write-all c = c .before .before .before .before .put-rows .ensures .0
+slice-reshare-prefix-write-all c =
+    let put-rows = c .before .before .before .before .put-rows in
+    put-rows .ensures .0
 
 slice-aggregate-write-all : tie.Need-slice-aggregate-write-all Inv-loop μ-loop
-slice-aggregate-write-all c = sym (length-take-le _ (c .before .before .before .before .before .put-rows .last .0) (c .before .before .before .before .before .put-rows .ensures .0))
+slice-aggregate-write-all c =
+    let put-rows = c .before .before .before .before .before .put-rows in
+    sym (length-take-le _ (put-rows .last .0) (put-rows .ensures .0))
 
 write-all-requires : tie.Need-write-all-requires Inv-loop μ-loop
 write-all-requires c κs = search needs

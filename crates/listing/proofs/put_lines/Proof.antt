@@ -15,13 +15,27 @@ abbrev μ-loop : tie.MeasureT-loop
 μ-loop text₀ values height width i₀ a₀ end₀ text i a end = height - i
 
 loop-holds : tie.Need-loop-holds Inv-loop μ-loop
-loop-holds c = lines-start (now (c .before .before .args .values)) (c .before .before .args .width) (c .before .before .args .height) (now (c .before .before .args .text))
+loop-holds c =
+    let a = c .before .before .args in
+    lines-start (now (a .values)) (a .width) (a .height) (now (a .text))
 
 add-e : tie.Need-add-e Inv-loop μ-loop
-add-e c = omega (arith, lines-inside (now (c .before .before .before .before .args .values)) (c .before .before .before .before .args .width) (c .before .before .before .before .args .height) (now (c .before .before .before .before .args .text)) (c .before .loop .i) (c .before .loop .a) (c .before .loop .text) (c .before .loop .end) (c .before .loop .inv) (c .before .before .before .before .pre .1) (c .loop-test .taken), c .before .before .before .before .good .1 .0 .1)
+add-e c =
+    let a = c .before .before .before .before .args in
+    let good = c .before .before .before .before .good in
+    let pre = c .before .before .before .before .pre in
+    let loop = c .before .loop in
+    omega (arith, lines-inside (now (a .values)) (a .width) (a .height) (now (a .text)) (loop .i) (loop .a) (loop .text) (loop .end)
+        (loop .inv) (pre .1) (c .loop-test .taken), good .1 .0 .1)
 
 mul-put-line : tie.Need-mul-put-line Inv-loop μ-loop
-mul-put-line c = omega (arith, lines-inside (now (c .before .before .before .before .before .args .values)) (c .before .before .before .before .before .args .width) (c .before .before .before .before .before .args .height) (now (c .before .before .before .before .before .args .text)) (c .before .before .loop .i) (c .before .before .loop .a) (c .before .before .loop .text) (c .before .before .loop .end) (c .before .before .loop .inv) (c .before .before .before .before .before .pre .1) (c .before .loop-test .taken), c .before .before .before .before .before .good .1 .0 .1)
+mul-put-line c =
+    let a = c .before .before .before .before .before .args in
+    let good = c .before .before .before .before .before .good in
+    let pre = c .before .before .before .before .before .pre in
+    let loop = c .before .before .loop in
+    omega (arith, lines-inside (now (a .values)) (a .width) (a .height) (now (a .text)) (loop .i) (loop .a) (loop .text) (loop .end)
+        (loop .inv) (pre .1) (c .before .loop-test .taken), good .1 .0 .1)
 
 sub-put-line : tie.Need-sub-put-line Inv-loop μ-loop
 sub-put-line c = omega arith
@@ -30,36 +44,61 @@ part-put-line-start : tie.Need-part-put-line-start Inv-loop μ-loop
 part-put-line-start c = omega arith
 
 part-put-line-end : tie.Need-part-put-line-end Inv-loop μ-loop
-part-put-line-end c = omega (arith, lines-inside (now (c .before .before .before .before .before .args .values)) (c .before .before .before .before .before .args .width) (c .before .before .before .before .before .args .height) (now (c .before .before .before .before .before .args .text)) (c .before .before .loop .i) (c .before .before .loop .a) (c .before .before .loop .text) (c .before .before .loop .end) (c .before .before .loop .inv) (c .before .before .before .before .before .pre .1) (c .before .loop-test .taken))
+part-put-line-end c =
+    let a = c .before .before .before .before .before .args in
+    let pre = c .before .before .before .before .before .pre in
+    let loop = c .before .before .loop in
+    omega (arith, lines-inside (now (a .values)) (a .width) (a .height) (now (a .text)) (loop .i) (loop .a) (loop .text) (loop .end)
+        (loop .inv) (pre .1) (c .before .loop-test .taken))
 
 put-line-requires : tie.Need-put-line-requires Inv-loop μ-loop
 put-line-requires c κs =
-    let x = (now (c .before .before .before .before .before .before .args .values)) in
-    let a = c .before .before .before .loop .a in
-    let m = c .before .before .before .before .before .before .args .width in
-    let g = lines-inside (now (c .before .before .before .before .before .before .args .values)) (c .before .before .before .before .before .before .args .width) (c .before .before .before .before .before .before .args .height) (now (c .before .before .before .before .before .before .args .text)) (c .before .before .before .loop .i) (c .before .before .before .loop .a) (c .before .before .before .loop .text) (c .before .before .before .loop .end) (c .before .before .before .loop .inv) (c .before .before .before .before .before .before .pre .1) (c .before .before .loop-test .taken) in
+    let args = c .before .before .before .before .before .before .args in
+    let pre = c .before .before .before .before .before .before .pre in
+    let loop = c .before .before .before .loop in
+    let x = (now (args .values)) in
+    let a = loop .a in
+    let m = args .width in
+    let g = lines-inside x (args .width) (args .height) (now (args .text)) (loop .i) (loop .a) (loop .text) (loop .end) (loop .inv)
+        (pre .1) (c .before .before .loop-test .taken) in
     let d : a + m - a ≡ m = omega arith in
     let n : length (take (a + m - a) (drop a x)) ≡ m = rw d (part-length a m x g) in
-    (omega (arith, n, c .before .before .before .before .before .before .pre .0), omega (arith, n, g, c .before .before .before .loop .inv .place, c .before .before .before .loop .inv .same, c .before .before .before .before .before .before .pre .2), rw d (units-part x a m g (c .before .before .before .before .before .before .pre .3)))
+    (omega (arith, n, pre .0), omega (arith, n, g, loop .inv .place, loop .inv .same, pre .2), rw d (units-part x a m g (pre .3)))
 
 add-i : tie.Need-add-i Inv-loop μ-loop
-add-i c = omega (arith, c .before .before .before .before .before .loop-test .taken)
+add-i c =
+    let loop-test = c .before .before .before .before .before .loop-test in
+    omega (arith, loop-test .taken)
 
 loop-less : tie.Need-loop-less Inv-loop μ-loop
-loop-less c = omega (arith, c .before .before .before .before .before .loop-test .taken)
+loop-less c =
+    let loop-test = c .before .before .before .before .before .loop-test in
+    omega (arith, loop-test .taken)
 
 loop-again : tie.Need-loop-again Inv-loop μ-loop
 loop-again c =
-    let a = c .before .before .before .before .before .before .loop .a in
-    let m = c .before .before .before .before .before .before .before .before .before .args .width in
+    let args = c .before .before .before .before .before .before .before .before .before .args in
+    let pre = c .before .before .before .before .before .before .before .before .before .pre in
+    let loop = c .before .before .before .before .before .before .loop in
+    let loop-test = c .before .before .before .before .before .loop-test in
+    let a = loop .a in
+    let m = args .width in
     let d : a + m - a ≡ m = omega arith in
-    lines-next (now (c .before .before .before .before .before .before .before .before .before .args .values)) m (c .before .before .before .before .before .before .before .before .before .args .height) (now (c .before .before .before .before .before .before .before .before .before .args .text)) (c .before .before .before .before .before .before .loop .i) a (a + m) (a + m - a) (c .before .before .before .before .before .before .loop .text) _ (c .before .before .before .before .before .before .loop .end) _ (c .before .before .before .before .before .before .loop .inv) (c .before .before .before .before .before .loop-test .taken) (c .before .before .before .before .before .before .before .before .before .pre .0) (c .before .before .before .before .before .before .before .before .before .pre .1) refl d (c .before .before .put-line .ensures)
+    lines-next (now (args .values)) m (args .height) (now (args .text)) (loop .i) a (a + m) (a + m - a) (loop .text) _ (loop .end) _
+        (loop .inv) (loop-test .taken) (pre .0) (pre .1) refl d (c .before .before .put-line .ensures)
 
 same-length : tie.Need-same-length Inv-loop μ-loop
 same-length c = c .before .loop .inv .same
 
 returns : tie.Need-returns Inv-loop μ-loop
-returns c = (omega (arith, lines-put (now (c .before .before .before .before .args .values)) (c .before .before .before .before .args .width) (c .before .before .before .before .args .height) (now (c .before .before .before .before .args .text)) (c .before .loop .i) (c .before .loop .a) (c .before .loop .text) (c .before .loop .end) (c .before .loop .inv) (c .before .before .before .before .pre .1), c .before .loop .inv .place, c .before .loop .inv .same, c .before .before .before .before .pre .2), lines-end (now (c .before .before .before .before .args .values)) (c .before .before .before .before .args .width) (c .before .before .before .before .args .height) (now (c .before .before .before .before .args .text)) (c .before .loop .i) (c .before .loop .a) (c .before .loop .text) (c .before .loop .end) (c .before .loop .inv) (c .loop-test .left))
+returns c =
+    let a = c .before .before .before .before .args in
+    let pre = c .before .before .before .before .pre in
+    let loop = c .before .loop in
+    (omega (arith, lines-put (now (a .values)) (a .width) (a .height) (now (a .text)) (loop .i) (loop .a) (loop .text) (loop .end)
+        (loop .inv) (pre .1), loop .inv .place, loop .inv .same, pre .2),
+        lines-end (now (a .values)) (a .width) (a .height) (now (a .text)) (loop .i) (loop .a) (loop .text) (loop .end) (loop .inv)
+        (c .loop-test .left))
 
 pub put-lines-spec : {M : Type 1} → statement M
 put-lines-spec =

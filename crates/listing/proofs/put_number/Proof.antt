@@ -28,24 +28,35 @@ slice-aggregate-put-2 c = search needs
 
 put-requires-2 : tie.Need-put-requires-2
 put-requires-2 c κs =
-    let d = c .before .before .before .before .before .before .before .decimal in
-    let w = c .before .before .before .before .put .ensures in
-    let a = c .before .before .before .before .before .before .before .before .before .before .args in
-    let k : d .result ≤ 20 = at-most-20 (d .result) (a .n) (d .ensures .1 .0) (c .before .before .before .before .before .before .before .before .before .before .good .1 .1 .0 .1) in
-    omega (arith, k, w .0, w .2, d .ensures .0 .1, c .before .before .before .before .before .before .before .before .before .before .pre)
+    let args = c .before .before .before .before .before .before .before .before .before .before .args in
+    let good = c .before .before .before .before .before .before .before .before .before .before .good in
+    let pre = c .before .before .before .before .before .before .before .before .before .before .pre in
+    let decimal = c .before .before .before .before .before .before .before .decimal in
+    let put = c .before .before .before .before .put in
+    let d = decimal in
+    let w = put .ensures in
+    let a = args in
+    let k : d .result ≤ 20 = at-most-20 (d .result) (a .n) (d .ensures .1 .0) (good .1 .1 .0 .1) in
+    omega (arith, k, w .0, w .2, d .ensures .0 .1, pre)
 
 same-length : tie.Need-same-length
 same-length c = search needs
 
 returns : tie.Need-returns
 returns c =
-    let d = c .before .before .before .before .before .before .before .before .before .before .decimal in
-    let a = c .before .before .before .before .before .before .before .before .before .before .before .before .before .args in
-    let k : d .result ≤ 20 = at-most-20 (d .result) (a .n) (d .ensures .1 .0) (c .before .before .before .before .before .before .before .before .before .before .before .before .before .good .1 .1 .0 .1) in
+    let args = c .before .before .before .before .before .before .before .before .before .before .before .before .before .args in
+    let good = c .before .before .before .before .before .before .before .before .before .before .before .before .before .good in
+    let decimal = c .before .before .before .before .before .before .before .before .before .before .decimal in
+    let put = c .before .before .before .before .before .before .before .put in
+    let put2 = c .before .before .put2 in
+    let d = decimal in
+    let a = args in
+    let k : d .result ≤ 20 = at-most-20 (d .result) (a .n) (d .ensures .1 .0) (good .1 .1 .0 .1) in
     let e = d .ensures .1 .1 ∙ decimal-is (d .result) (a .n) (d .ensures .1 .0) k in
     let l = decimal-length (d .result) (a .n) (d .ensures .1 .0) k in
-    let p = puts-two _ _ _ _ _ (a .at) _ _ (c .before .before .before .before .before .before .before .put .ensures) (c .before .before .put2 .ensures) in
-    let q : Puts (now (a .text)) (a .at) (32 ∷ decimalOf (a .n)) (c .before .before .put2 .last .0) (c .before .before .put2 .result) = subst (λ (w : List ℕ). Puts (now (a .text)) (a .at) (32 ∷ w) (c .before .before .put2 .last .0) (c .before .before .put2 .result)) e p in
+    let p = puts-two _ _ _ _ _ (a .at) _ _ (put .ensures) (put2 .ensures) in
+    let q : Puts (now (a .text)) (a .at) (32 ∷ decimalOf (a .n)) (put2 .last .0) (put2 .result) = subst
+        (λ (w : List ℕ). Puts (now (a .text)) (a .at) (32 ∷ w) (put2 .last .0) (put2 .result)) e p in
     (q, omega (arith, q .0, l, k))
 
 pub put-number-spec : {M : Type 1} → statement M

@@ -49,7 +49,9 @@ slice-aggregate-opened-window : tie.Need-slice-aggregate-opened-window
 slice-aggregate-opened-window c = sym (lent (c .before .before .before .before .before .before))
 
 opened-window-requires : tie.Need-opened-window-requires
-opened-window-requires c κs = c .before .before .before .before .before .before .pre .0 .3
+opened-window-requires c κs =
+    let pre = c .before .before .before .before .before .before .pre in
+    pre .0 .3
 
 slice-reshare-prefix-put-lines : tie.Need-slice-reshare-prefix-put-lines
 slice-reshare-prefix-put-lines c = search needs
@@ -65,7 +67,8 @@ put-lines-requires c κs =
     let p = s .pre .1 in
     let q = s .pre .0 .2 in
     let j : length (take (count s) (values g ++ drop (count s) (now (a .values)))) ≡ count s = ap length (in-place g) ∙ came g in
-    let u = block-units (now (a .file)) (a .view .size) q (a .top) (a .height) _ (p .0) (p .1) (lent s) _ (values g) (g .opened-window .ensures) in
+    let u = block-units (now (a .file)) (a .view .size) q (a .top) (a .height) _ (p .0) (p .1) (lent s) _ (values g)
+        (g .opened-window .ensures) in
     (width-some (a .view .size) (q .sized) (q .some-columns), j, omega (arith, j, p .2, s .pre .0 .0), subst Units (sym (in-place g)) u)
 
 same-length : tie.Need-same-length

@@ -14,7 +14,8 @@ use Rattle.develop.specs.Demand.{aloneIn}
 use Rattle.develop.specs.Fill.{Upto}
 use Rattle.develop.specs.View.{Viewed}
 use Rattle.develop.specs.declared.View.{View}
-use Rattle.develop.proofs.Windows.{Partly, partly-start, partly-next, partly-end, from-column, part-length, viewed-sized, viewed-wide}
+use Rattle.develop.proofs.Windows.{Partly, partly-start, partly-next, partly-end, from-column, part-length, viewed-sized}
+use Rattle.develop.proofs.Windows.{viewed-wide}
 use Rattle.develop.proofs.fill.fill_columns.Statement.{statement}
 use Rattle.develop.proofs.fill.fill_columns.Tie as tie
 
@@ -136,50 +137,55 @@ developed-part-requires c κs =
         viewed-wide f v (w .file) (s .args .window .left + s .args .from) (s .args .count) (omega (arith, w .columns, s .pre .0 .2)) _ k,
       ),
       (
-        subst (λ (z : ℕ). Along-in levels (v .picture .raw .tags .frame .samples) (s .args .window .left + s .args .from) z (now (s .args .along)))
+        subst (λ (z : ℕ). Along-in levels (v .picture .raw .tags .frame .samples) (s .args .window .left + s .args .from) z
+            (now (s .args .along)))
             (sym k) (s .pre .1 .0),
-        subst (λ (z : ℕ). Deltas-in levels (v .picture .raw .tags .frame .samples) (s .args .window .left + s .args .from) z (now (s .args .deltas)))
+        subst (λ (z : ℕ). Deltas-in levels (v .picture .raw .tags .frame .samples) (s .args .window .left + s .args .from) z
+            (now (s .args .deltas)))
             (sym k) (s .pre .1 .1),
       ),
     )
 
 add-a : tie.Need-add-a Inv-loop μ-loop
 add-a c =
+    let loop = c .before .before .before .before .before .loop in
+    let loop-test = c .before .before .before .before .loop-test in
     let s = c .before .before .before .before .before .before .before .before .before .before .before .before .before in
-    let l = c .before .before .before .before .before .loop in
-    omega (arith, rows s (l .i) (c .before .before .before .before .loop-test .taken), part s, short s, l .inv .2, s .good .1 .1 .1 .1 .1 .1 .1 .0 .1)
+    let l = loop in
+    omega (arith, rows s (l .i) (loop-test .taken), part s, short s, l .inv .2, s .good .1 .1 .1 .1 .1 .1 .1 .0 .1)
 
 add-i : tie.Need-add-i Inv-loop μ-loop
 add-i c =
+    let loop-test = c .before .before .before .before .loop-test in
     let s = c .before .before .before .before .before .before .before .before .before .before .before .before .before in
     let z = viewed-sized (now (s .args .file)) (s .args .view) (s .pre .0 .0 .file) in
-    omega (arith, s .pre .0 .0 .rows, z .rows, c .before .before .before .before .loop-test .taken)
+    omega (arith, s .pre .0 .0 .rows, z .rows, loop-test .taken)
 
 loop-less : tie.Need-loop-less Inv-loop μ-loop
-loop-less c = omega (arith, c .before .before .before .before .loop-test .taken)
+loop-less c =
+    let loop-test = c .before .before .before .before .loop-test in
+    omega (arith, loop-test .taken)
 
 loop-again : tie.Need-loop-again Inv-loop μ-loop
 loop-again c =
+    let loop = c .before .before .before .before .before .loop in
+    let loop-test = c .before .before .before .before .loop-test in
+    let developed-part = c .before .before .developed-part in
     let s = c .before .before .before .before .before .before .before .before .before .before .before .before .before in
-    let l = c .before .before .before .before .before .loop in
+    let l = loop in
     let f = now (s .args .file) in
     let v = s .args .view in
     let n = s .args .count * samples s in
-    let t = c .before .before .before .before .loop-test .taken in
+    let t = loop-test .taken in
     let fits = part s in
-    let z = piece s (l .a) (l .out) (omega (arith, rows s (l .i) t, fits, l .inv .2, l .inv .0)) in (
-      search needs,
-      omega (arith, t),
-      omega (arith, add-mul (l .i) 1 (row s), l .inv .2),
-      λ q u.
-          partly-next (value f v q (s .args .window .top) (s .args .window .left)) (s .args .window .height) (row s) (s .args .from * samples s) n
-          (l .i) (l .a) (l .out)
-          (c .before .before .developed-part .last .1 .1 .1 .1 .1 .1 .0) t fits
-          (l .inv .2) (l .inv .0 ∙ s .pre .0 .0 .length-is) (search needs) (l .inv .3 q u)
-          (λ k b. c .before .before .developed-part .ensures q k (omega (arith, z))
-          ∙ from-column (aloneIn f (q .file) (s .args .window .top + l .i)) (s .args .window .left) (s .args .from) (samples s) k
-          (viewed-sized f v q .some)),
-    )
+    let z = piece s (l .a) (l .out) (omega (arith, rows s (l .i) t, fits, l .inv .2, l .inv .0)) in
+    ( search needs, omega (arith, t), omega (arith, add-mul (l .i) 1 (row s), l .inv .2),
+        λ q u. partly-next (value f v q (s .args .window .top) (s .args .window .left)) (s .args .window .height) (row s)
+        (s .args .from * samples s) n (l .i) (l .a) (l .out) (developed-part .last .1 .1 .1 .1 .1 .1 .0) t fits (l .inv .2)
+        (l .inv .0 ∙ s .pre .0 .0 .length-is) (search needs) (l .inv .3 q u)
+        (λ k b. developed-part .ensures q k (omega (arith, z))
+        ∙ from-column (aloneIn f (q .file) (s .args .window .top + l .i)) (s .args .window .left) (s .args .from) (samples s) k
+        (viewed-sized f v q .some)), )
 
 same-length : tie.Need-same-length Inv-loop μ-loop
 same-length c = c .before .loop .inv .0

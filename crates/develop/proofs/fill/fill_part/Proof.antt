@@ -25,7 +25,8 @@ numbers s =
     (mul-pos (s .pre .0 .1) (z .some), omega (arith, mul-le-mul w (z .few)))
 
 -- the room was given back with as many numbers
-lent : (k : tie.After-space2) → let v = k .before .before .before .before .before .before .before .before .before .before .before .before .args .view in
+lent : (k : tie.After-space2) → let v =
+    k .before .before .before .before .before .before .before .before .before .before .before .before .args .view in
     length (k .before .fill-along .last .1 .1 .1 .1 .1 .0) ≡
     (v .picture .raw .tags .levels .repeat .rows + 1) * k .before .before .before .before .piece .result
 lent k = search needs
@@ -76,8 +77,10 @@ part-fill-columns-start c = search needs
 
 part-fill-columns-end : tie.Need-part-fill-columns-end
 part-fill-columns-end c =
-    let p = c .before .before .before .before .before .before .before .piece in
-    fits _ 1536 _ (array-length _ _ 1536 (p .ensures .2) (c .before .before .before .before .fill-along .last .1 .1 .1 .1 .1 .0) (search needs)) (p .ensures .2)
+    let piece = c .before .before .before .before .before .before .before .piece in
+    let fill-along = c .before .before .before .before .fill-along in
+    let p = piece in
+    fits _ 1536 _ (array-length _ _ 1536 (p .ensures .2) (fill-along .last .1 .1 .1 .1 .1 .0) (search needs)) (p .ensures .2)
 
 sub-fill-columns-2 : tie.Need-sub-fill-columns-2
 sub-fill-columns-2 c = search needs
@@ -90,16 +93,19 @@ part-fill-columns-end-2 c = search needs
 
 fill-columns-requires : tie.Need-fill-columns-requires
 fill-columns-requires c κs =
+    let piece = c .before .before .before .before .before .before .before .before .before .before .before .piece in
+    let fill-along = c .before .before .before .before .before .before .before .before .fill-along in
+    let if1 = c .before .before .before .before .before .if1 in
     let s = c .before .before .before .before .before .before .before .before .before .before
     .before .before .before .before .before .before .before .before .before in
-    let p = c .before .before .before .before .before .before .before .before .before .before .before .piece in
-    let a = c .before .before .before .before .before .before .before .before .fill-along in
+    let p = piece in
+    let a = fill-along in
     let y = a .ensures (s .args .count * s .args .view .size .samples) (p .ensures .3) in (
       (s .pre .0 .0, s .pre .0 .1, s .pre .0 .2),
       (
         along-part _ _ _ _ ((s .args .view .picture .raw .tags .levels .repeat .rows + 1) * p .result) (a .last .1 .1 .1 .1 .1 .0) _
             (lent (c .before .before .before .before .before .before .before)) y,
-        viewed-plain (now (s .args .file)) (s .args .view) (s .pre .0 .0 .file) (c .before .before .before .before .before .if1 .taken) _ _,
+        viewed-plain (now (s .args .file)) (s .args .view) (s .pre .0 .0 .file) (if1 .taken) _ _,
       ),
     )
 
@@ -111,19 +117,24 @@ part-fill-with-deltas-start c = search needs
 
 part-fill-with-deltas-end : tie.Need-part-fill-with-deltas-end
 part-fill-with-deltas-end c =
-    let p = c .before .before .before .before .before .before .before .piece in
-    fits _ 1536 _ (array-length _ _ 1536 (p .ensures .2) (c .before .before .before .before .fill-along .last .1 .1 .1 .1 .1 .0) (search needs)) (p .ensures .2)
+    let piece = c .before .before .before .before .before .before .before .piece in
+    let fill-along = c .before .before .before .before .fill-along in
+    let p = piece in
+    fits _ 1536 _ (array-length _ _ 1536 (p .ensures .2) (fill-along .last .1 .1 .1 .1 .1 .0) (search needs)) (p .ensures .2)
 
 fill-with-deltas-requires : tie.Need-fill-with-deltas-requires
 fill-with-deltas-requires c κs =
-    let s = c .before .before .before .before .before .before .before .before .before .before .before .before .before .before .before .before .before in
-    let p = c .before .before .before .before .before .before .before .before .before .piece in
-    let a = c .before .before .before .before .before .before .fill-along in
-    let y = a .ensures (s .args .count * s .args .view .size .samples) (p .ensures .3) in (
-      (s .pre .0 .0, s .pre .0 .1, s .pre .0 .2, s .pre .1 (some _ (c .before .before .before .if1 .left))),
-      along-part _ _ _ _ ((s .args .view .picture .raw .tags .levels .repeat .rows + 1) * p .result) (a .last .1 .1 .1 .1 .1 .0) _
-          (lent (c .before .before .before .before .before)) y,
-    )
+    let piece = c .before .before .before .before .before .before .before .before .before .piece in
+    let fill-along = c .before .before .before .before .before .before .fill-along in
+    let if1 = c .before .before .before .if1 in
+    let s = c .before .before .before .before .before .before .before .before .before .before .before .before .before .before .before
+        .before .before in
+    let p = piece in
+    let a = fill-along in
+    let y = a .ensures (s .args .count * s .args .view .size .samples) (p .ensures .3) in
+    ( (s .pre .0 .0, s .pre .0 .1, s .pre .0 .2, s .pre .1 (some _ (if1 .left))),
+        along-part _ _ _ _ ((s .args .view .picture .raw .tags .levels .repeat .rows + 1) * p .result) (a .last .1 .1 .1 .1 .1 .0) _
+        (lent (c .before .before .before .before .before)) y, )
 
 same-length : tie.Need-same-length
 same-length c = search needs

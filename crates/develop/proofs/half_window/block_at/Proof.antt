@@ -28,13 +28,18 @@ xyz-of-requires c κs = search needs
 
 returns : tie.Need-returns
 returns c =
+    let sample-at = c .before .before .before .before .before .sample-at in
+    let sample-at2 = c .before .before .before .before .sample-at2 in
+    let sample-at3 = c .before .before .before .sample-at3 in
     let s = c .before .before .before .before .before .before .before .before in
     let a = s .args in
     let x = pairOf (now (a .pair)) (a .width) in
-    let e = c .xyz-of .ensures .0 ∙ block-is (a .half) x 0 (a .j) _ _ _ _ _ (c .before .before .before .before .before .sample-at .ensures)
-    (c .before .before .before .before .sample-at2 .ensures) (c .before .before .before .sample-at3 .ensures) (c .before .before .sample-at4 .ensures)
+    let e = c .xyz-of .ensures .0 ∙ block-is (a .half) x 0 (a .j) _ _ _ _ _ (sample-at .ensures)
+    (sample-at2 .ensures) (sample-at3 .ensures) (c .before .before .sample-at4 .ensures)
     (c .before .mean .ensures .0) in
     (e, λ h d. subst (λ (v : Xyz). All Finite (v .x) (v .y) (v .z)) (sym e) (block-finite (a .half) h (s .pre .0) x 0 (a .j) d))
 
 pub block-at-spec : {M : Type 1} → statement M
-block-at-spec = tie.close (tie.spec sample-at-requires sample-at-requires-2 sample-at-requires-3 sample-at-requires-4 mean-requires xyz-of-requires returns)
+block-at-spec =
+    tie.close (tie.spec sample-at-requires sample-at-requires-2 sample-at-requires-3 sample-at-requires-4 mean-requires xyz-of-requires
+        returns)

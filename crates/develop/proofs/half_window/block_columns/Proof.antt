@@ -48,7 +48,8 @@ piece s a xs h =
     ap (λ (z : ℕ). length (take z (drop a xs))) d ∙ part-length a n xs h
 
 -- the blocks lie in the active area
-inside : (s : tie.Start Inv-loop μ-loop) → (s .args .blocks .left + s .args .blocks .width ≤ 8192) × (s .args .blocks .top + s .args .blocks .height ≤ 8192)
+inside : (s : tie.Start Inv-loop μ-loop) → (s .args .blocks .left + s .args .blocks .width ≤ 8192)
+    × (s .args .blocks .top + s .args .blocks .height ≤ 8192)
 inside s =
     let z = viewed-sized (now (s .args .file)) (s .args .view) (s .pre .0 .0 .file) in
     (omega (arith, s .pre .0 .0 .columns, z .columns), omega (arith, s .pre .0 .0 .rows, z .rows))
@@ -71,7 +72,8 @@ loop-holds c =
       omega arith,
       omega arith,
       λ q u.
-          partly-start (value (now (s .args .file)) (s .args .view) (s .args .half) q (w .top) (w .left)) (w .height) (row s) (s .args .part .from * 3)
+          partly-start (value (now (s .args .file)) (s .args .view) (s .args .half) q (w .top) (w .left)) (w .height) (row s)
+              (s .args .part .from * 3)
           (s .args .part .count * 3) (now (s .args .out)) u,
     )
 
@@ -96,7 +98,8 @@ mul-block-part : tie.Need-mul-block-part Inv-loop μ-loop
 mul-block-part c =
     let s = c .before .before .before .before .before .before .before in
     let l = c .before .before .loop in
-    omega (arith, rows s (l .i) (c .before .loop-test .taken), s .pre .0 .2 .inside, l .inv .3, l .inv .0, s .good .1 .1 .1 .1 .1 .1 .1 .0 .1)
+    omega (arith, rows s (l .i) (c .before .loop-test .taken), s .pre .0 .2 .inside, l .inv .3, l .inv .0,
+        s .good .1 .1 .1 .1 .1 .1 .1 .0 .1)
 
 sub-block-part : tie.Need-sub-block-part Inv-loop μ-loop
 sub-block-part c = search needs
@@ -112,8 +115,9 @@ part-block-part-end c =
 
 block-part-requires : tie.Need-block-part-requires Inv-loop μ-loop
 block-part-requires c κs =
+    let loop = c .before .before .before .loop in
     let s = c .before .before .before .before .before .before .before .before in
-    let l = c .before .before .before .loop in
+    let l = loop in
     let w = s .pre .0 .0 in
     let p = s .pre .0 .2 in
     let t = c .before .before .loop-test .taken in
@@ -136,11 +140,13 @@ block-part-requires c κs =
 
 add-a : tie.Need-add-a Inv-loop μ-loop
 add-a c =
+    let loop = c .before .before .before .before .before .before .before .loop in
+    let loop-test = c .before .before .before .before .before .before .loop-test in
     let s = c .before .before .before .before .before .before .before .before .before .before .before .before in
-    let l = c .before .before .before .before .before .before .before .loop in
+    let l = loop in
     omega (
       arith,
-      rows s (l .i) (c .before .before .before .before .before .before .loop-test .taken),
+      rows s (l .i) (loop-test .taken),
       inside s .0,
       s .pre .0 .2 .inside,
       l .inv .3,
@@ -148,37 +154,39 @@ add-a c =
     )
 
 add-i : tie.Need-add-i Inv-loop μ-loop
-add-i c = let s = c .before .before .before .before .before .before .before .before .before .before .before .before in omega
-    (arith, inside s .0, inside s .1, s .pre .0 .2 .inside, c .before .before .before .before .before .before .loop-test .taken)
+add-i c =
+    let loop-test = c .before .before .before .before .before .before .loop-test in
+    let s = c .before .before .before .before .before .before .before .before .before .before .before .before in omega
+    (arith, inside s .0, inside s .1, s .pre .0 .2 .inside, loop-test .taken)
 
 loop-less : tie.Need-loop-less Inv-loop μ-loop
-loop-less c = omega (arith, c .before .before .before .before .before .before .loop-test .taken)
+loop-less c =
+    let loop-test = c .before .before .before .before .before .before .loop-test in
+    omega (arith, loop-test .taken)
 
 loop-again : tie.Need-loop-again Inv-loop μ-loop
 loop-again c =
+    let loop = c .before .before .before .before .before .before .before .loop in
+    let loop-test = c .before .before .before .before .before .before .loop-test in
+    let block-part = c .before .before .before .block-part in
     let s = c .before .before .before .before .before .before .before .before .before .before .before .before in
-    let l = c .before .before .before .before .before .before .before .loop in
+    let l = loop in
     let f = now (s .args .file) in
     let v = s .args .view in
     let w = s .args .blocks in
     let n = s .args .part .count * 3 in
-    let t = c .before .before .before .before .before .before .loop-test .taken in
+    let t = loop-test .taken in
     let p = s .pre .0 .2 in
-    let g = c .before .before .before .block-part in
-    let z = piece s (l .a) (l .out) (omega (arith, rows s (l .i) t, p .inside, l .inv .3, l .inv .0)) in (
-      search needs,
-      g .ensures .0 ∙ l .inv .1,
-      omega (arith, t),
-      omega (arith, add-mul (l .i) 1 (row s), l .inv .3),
-      λ q u.
-          let x = blockIn (s .args .half) (aloneIn f (q .file)) in
-          partly-next (value f v (s .args .half) q (w .top) (w .left)) (w .height) (row s) (s .args .part .from * 3) n (l .i) (l .a) (l .out)
-          (g .last .1 .1 .1 .1 .1 .1 .1 .0) t (omega (arith, p .inside)) (l .inv .3) (l .inv .0 ∙ s .pre .0 .0 .length-is)
-          (ap length (g .ensures .1 q) ∙ block-row-length x _ (s .args .part .count) _) (l .inv .4 q u)
-          (λ k b. ap (λ (ys : List Float). getD ys k nan) (g .ensures .1 q)
-          ∙ block-row-at x (w .left + s .args .part .from) (s .args .part .count) (w .top + l .i) k b
-          ∙ from-column (x (w .top + l .i)) (w .left) (s .args .part .from) 3 k (omega arith)),
-    )
+    let g = block-part in
+    let z = piece s (l .a) (l .out) (omega (arith, rows s (l .i) t, p .inside, l .inv .3, l .inv .0)) in
+    ( search needs, g .ensures .0 ∙ l .inv .1, omega (arith, t), omega (arith, add-mul (l .i) 1 (row s), l .inv .3),
+        λ q u. let x = blockIn (s .args .half) (aloneIn f (q .file)) in partly-next (value f v (s .args .half) q (w .top) (w .left))
+        (w .height) (row s) (s .args .part .from * 3) n (l .i) (l .a) (l .out) (g .last .1 .1 .1 .1 .1 .1 .1 .0) t
+        (omega (arith, p .inside)) (l .inv .3) (l .inv .0 ∙ s .pre .0 .0 .length-is)
+        (ap length (g .ensures .1 q) ∙ block-row-length x _ (s .args .part .count) _) (l .inv .4 q u)
+        (λ k b. ap (λ (ys : List Float). getD ys k nan) (g .ensures .1 q)
+        ∙ block-row-at x (w .left + s .args .part .from) (s .args .part .count) (w .top + l .i) k b
+        ∙ from-column (x (w .top + l .i)) (w .left) (s .args .part .from) 3 k (omega arith)), )
 
 same-length : tie.Need-same-length Inv-loop μ-loop
 same-length c = c .before .loop .inv .0

@@ -49,7 +49,8 @@ add-out : tie.Need-add-out Inv-loop μ-loop
 add-out c = let k = c .before in omega (arith, room k, start k .good .1 .1 .1 .0 .1)
 
 mul-out-2 : tie.Need-mul-out-2 Inv-loop μ-loop
-mul-out-2 c = let k = c .before in scaled-fits _ (length (now (start k .args .out))) 8 (omega (arith, room k)) (start k .good .1 .1 .1 .0 .1)
+mul-out-2 c =
+    let k = c .before in scaled-fits _ (length (now (start k .args .out))) 8 (omega (arith, room k)) (start k .good .1 .1 .1 .0 .1)
 
 slice-write-out-2 : tie.Need-slice-write-out-2 Inv-loop μ-loop
 slice-write-out-2 c = let k = c .before in simp length-set (omega (arith, room k, k .before .loop .inv .1 .same))
@@ -58,7 +59,8 @@ add-out-2 : tie.Need-add-out-2 Inv-loop μ-loop
 add-out-2 c = let k = c .before in omega (arith, room k, start k .good .1 .1 .1 .0 .1)
 
 mul-out-3 : tie.Need-mul-out-3 Inv-loop μ-loop
-mul-out-3 c = let k = c .before in scaled-fits _ (length (now (start k .args .out))) 8 (omega (arith, room k)) (start k .good .1 .1 .1 .0 .1)
+mul-out-3 c =
+    let k = c .before in scaled-fits _ (length (now (start k .args .out))) 8 (omega (arith, room k)) (start k .good .1 .1 .1 .0 .1)
 
 slice-write-out-3 : tie.Need-slice-write-out-3 Inv-loop μ-loop
 slice-write-out-3 c = let k = c .before in simp length-set (omega (arith, room k, k .before .loop .inv .1 .same))
@@ -90,5 +92,6 @@ returns c =
     rows-end _ 3 0 (block-length (values s) 0) _ _ _ _ _ (i .1) (omega (arith, i .0, c .loop-test .left)) (s .pre .2)
 
 pub blocks-of-spec : {M : Type 1} → statement M
-blocks-of-spec = tie.close (tie.spec Inv-loop μ-loop mul-width loop-holds block-at-requires mul-out slice-write-out add-out mul-out-2 slice-write-out-2
+blocks-of-spec =
+    tie.close (tie.spec Inv-loop μ-loop mul-width loop-holds block-at-requires mul-out slice-write-out add-out mul-out-2 slice-write-out-2
     add-out-2 mul-out-3 slice-write-out-3 add-a add-j loop-less loop-again same-length returns)

@@ -70,14 +70,15 @@ part-block-columns-end c =
 
 block-columns-requires : tie.Need-block-columns-requires
 block-columns-requires c κs =
+    let fill-deltas = c .before .before .before .before .fill-deltas in
     let s = c .before .before .before .before .before .before .before .before .before .before .before .before .before .before in
     let n = 2 * s .args .part .count in
     let z = copies-length (pos 0) n 1024 (few s) in (
       s .pre .0,
       (
         s .pre .1,
-        deltas-part _ _ _ n _ (c .before .before .before .before .fill-deltas .last .1 .1 .1 .1 .0) _ (search needs) z
-            (c .before .before .before .before .fill-deltas .ensures),
+        deltas-part _ _ _ n _ (fill-deltas .last .1 .1 .1 .1 .0) _ (search needs) z
+            (fill-deltas .ensures),
       ),
     )
 

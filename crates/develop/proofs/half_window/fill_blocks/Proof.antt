@@ -15,7 +15,8 @@ use Rattle.develop.proofs.half_window.fill_blocks.Tie as tie
 abbrev Inv-loop : tie.InvT-loop
 Inv-loop file view half blocks out₀ width from₀ out from =
     (length out ≡ length out₀) × (from ≤ width)
-    × ((q : Viewed file view) → Upto (numberOf (blockIn half (aloneIn file (q .file))) blocks 3) (blocks .height) (blocks .width * 3) (from * 3) out)
+    × ((q : Viewed file view) → Upto (numberOf (blockIn half (aloneIn file (q .file))) blocks 3) (blocks .height) (blocks .width * 3)
+        (from * 3) out)
 
 abbrev μ-loop : tie.MeasureT-loop
 μ-loop file view half blocks out₀ width from₀ out from = width - from
@@ -31,8 +32,9 @@ smaller-requires c κs = search needs
 
 fill-stretch-requires : tie.Need-fill-stretch-requires Inv-loop μ-loop
 fill-stretch-requires c κs =
+    let loop = c .before .before .before .loop in
     let s = c .before .before .before .before .before .before in
-    let l = c .before .before .before .loop in
+    let l = loop in
     let w = s .pre .0 in
     let n = c .before .smaller .ensures in
     let t = c .before .before .loop-test .taken in (
@@ -43,24 +45,31 @@ fill-stretch-requires c κs =
 
 add-from : tie.Need-add-from Inv-loop μ-loop
 add-from c =
+    let loop = c .before .before .before .before .before .before .loop in
+    let smaller = c .before .before .before .before .smaller in
     let s = c .before .before .before .before .before .before .before .before .before in
     let z = viewed-sized (now (s .args .file)) (s .args .view) (s .pre .0 .file) in
     omega (
       arith,
-      c .before .before .before .before .smaller .ensures,
-      c .before .before .before .before .before .before .loop .inv .1,
+      smaller .ensures,
+      loop .inv .1,
       s .pre .0 .columns,
       z .columns,
     )
 
 loop-less : tie.Need-loop-less Inv-loop μ-loop
-loop-less c = omega (arith, c .before .before .before .before .smaller .ensures, c .before .before .before .before .before .loop-test .taken)
+loop-less c =
+    let loop-test = c .before .before .before .before .before .loop-test in
+    let smaller = c .before .before .before .before .smaller in
+    omega (arith, smaller .ensures, loop-test .taken)
 
 loop-again : tie.Need-loop-again Inv-loop μ-loop
 loop-again c =
-    let l = c .before .before .before .before .before .before .loop in (
+    let loop = c .before .before .before .before .before .before .loop in
+    let smaller = c .before .before .before .before .smaller in
+    let l = loop in (
       search needs,
-      omega (arith, c .before .before .before .before .smaller .ensures, l .inv .1),
+      omega (arith, smaller .ensures, l .inv .1),
       λ q i k h b. c .before .before .fill-stretch .ensures q (l .inv .2 q) i k h (omega arith),
     )
 

@@ -19,7 +19,8 @@ columns s =
     (omega (arith, s .pre .0 .columns, s .pre .2 .inside), z .columns)
 
 -- the room was given back with as many numbers
-lent : (k : tie.After-space2) → let v = k .before .before .before .before .before .before .before .before .before .before .before .before .args .view in
+lent : (k : tie.After-space2) → let v =
+    k .before .before .before .before .before .before .before .before .before .before .before .before .args .view in
     length (k .before .fill-along .last .1 .1 .1 .1 .1 .0) ≡
     (v .picture .raw .tags .levels .repeat .rows + 1) * k .before .before .before .before .piece .result
 lent k = search needs
@@ -60,7 +61,8 @@ fill-along-requires : tie.Need-fill-along-requires
 fill-along-requires c κs =
     let s = c .before .before .before .before .before .before .before .before .before .before in
     let p = c .before .before .piece in
-    (s .pre .0 .file .picture-in .raw, omega (arith, columns s .0, columns s .1), p .ensures .0, p .ensures .1, copies-length _ _ 1536 (p .ensures .2))
+    (s .pre .0 .file .picture-in .raw, omega (arith, columns s .0, columns s .1), p .ensures .0, p .ensures .1,
+        copies-length _ _ 1536 (p .ensures .2))
 
 sub-block-columns : tie.Need-sub-block-columns
 sub-block-columns c = search needs
@@ -70,8 +72,10 @@ part-block-columns-start c = search needs
 
 part-block-columns-end : tie.Need-part-block-columns-end
 part-block-columns-end c =
-    let p = c .before .before .before .before .before .before .before .piece in
-    fits _ 1536 _ (array-length _ _ 1536 (p .ensures .2) (c .before .before .before .before .fill-along .last .1 .1 .1 .1 .1 .0) (search needs)) (p .ensures .2)
+    let piece = c .before .before .before .before .before .before .before .piece in
+    let fill-along = c .before .before .before .before .fill-along in
+    let p = piece in
+    fits _ 1536 _ (array-length _ _ 1536 (p .ensures .2) (fill-along .last .1 .1 .1 .1 .1 .0) (search needs)) (p .ensures .2)
 
 sub-block-columns-2 : tie.Need-sub-block-columns-2
 sub-block-columns-2 c = search needs
@@ -84,16 +88,19 @@ part-block-columns-end-2 c = search needs
 
 block-columns-requires : tie.Need-block-columns-requires
 block-columns-requires c κs =
+    let piece = c .before .before .before .before .before .before .before .before .before .before .before .piece in
+    let fill-along = c .before .before .before .before .before .before .before .before .fill-along in
+    let if1 = c .before .before .before .before .before .if1 in
     let s = c .before .before .before .before .before .before .before .before .before .before
     .before .before .before .before .before .before .before .before .before in
-    let p = c .before .before .before .before .before .before .before .before .before .before .before .piece in
-    let a = c .before .before .before .before .before .before .before .before .fill-along in
+    let p = piece in
+    let a = fill-along in
     let y = a .ensures (2 * s .args .part .count) (p .ensures .3) in
     let m = (s .args .view .picture .raw .tags .levels .repeat .rows + 1) * p .result in (
       s .pre,
       (
         along-part _ _ _ _ m (a .last .1 .1 .1 .1 .1 .0) _ (lent (c .before .before .before .before .before .before .before)) y,
-        viewed-plain (now (s .args .file)) (s .args .view) (s .pre .0 .file) (c .before .before .before .before .before .if1 .taken) _ _,
+        viewed-plain (now (s .args .file)) (s .args .view) (s .pre .0 .file) (if1 .taken) _ _,
       ),
     )
 
@@ -105,14 +112,19 @@ part-blocks-with-deltas-start c = search needs
 
 part-blocks-with-deltas-end : tie.Need-part-blocks-with-deltas-end
 part-blocks-with-deltas-end c =
-    let p = c .before .before .before .before .before .before .before .piece in
-    fits _ 1536 _ (array-length _ _ 1536 (p .ensures .2) (c .before .before .before .before .fill-along .last .1 .1 .1 .1 .1 .0) (search needs)) (p .ensures .2)
+    let piece = c .before .before .before .before .before .before .before .piece in
+    let fill-along = c .before .before .before .before .fill-along in
+    let p = piece in
+    fits _ 1536 _ (array-length _ _ 1536 (p .ensures .2) (fill-along .last .1 .1 .1 .1 .1 .0) (search needs)) (p .ensures .2)
 
 blocks-with-deltas-requires : tie.Need-blocks-with-deltas-requires
 blocks-with-deltas-requires c κs =
-    let s = c .before .before .before .before .before .before .before .before .before .before .before .before .before .before .before .before .before in
-    let p = c .before .before .before .before .before .before .before .before .before .piece in
-    let a = c .before .before .before .before .before .before .fill-along in
+    let piece = c .before .before .before .before .before .before .before .before .before .piece in
+    let fill-along = c .before .before .before .before .before .before .fill-along in
+    let s = c .before .before .before .before .before .before .before .before .before .before .before .before .before .before .before
+        .before .before in
+    let p = piece in
+    let a = fill-along in
     let y = a .ensures (2 * s .args .part .count) (p .ensures .3) in
     let m = (s .args .view .picture .raw .tags .levels .repeat .rows + 1) * p .result in
     (s .pre, along-part _ _ _ _ m (a .last .1 .1 .1 .1 .1 .0) _ (lent (c .before .before .before .before .before)) y)

@@ -25,8 +25,10 @@ enum-known-number c = search needs
 
 returns-2 : tie.Need-returns-2
 returns-2 c =
-    let e = ap colourOut (sym (c .before .number .given .1)) ∙ c .before .before .before .colour-of .ensures .0 in
-    half-uncoloured _ _ (c .before .before .before .before .if1 .left) _ _ e
+    let if1 = c .before .before .before .before .if1 in
+    let colour-of = c .before .before .before .colour-of in
+    let e = ap colourOut (sym (c .before .number .given .1)) ∙ colour-of .ensures .0 in
+    half-uncoloured _ _ (if1 .left) _ _ e
 
 enum-known-c : tie.Need-enum-known-c
 enum-known-c c = search needs
@@ -42,8 +44,9 @@ enum-known-pattern c = search needs
 
 returns-3 : tie.Need-returns-3
 returns-3 c =
+    let pattern-of = c .before .before .before .pattern-of in
     let k = c .before .before .before .before .before in
-    let e = ap patternOut (sym (c .before .number2 .given .1)) ∙ c .before .before .before .pattern-of .ensures in
+    let e = ap patternOut (sym (c .before .number2 .given .1)) ∙ pattern-of .ensures in
     half-unpatterned _ _ (k .before .before .before .if1 .left) _ (colour k) _ _ e
 
 returns-4 : tie.Need-returns-4
@@ -54,5 +57,6 @@ returns-4 c =
     half-is _ _ (k .before .before .before .if1 .left) _ (colour k) _ e
 
 pub half-of-spec : {M : Type 1} → statement M
-half-of-spec = tie.close (tie.spec returns colour-of-requires enum-known-number returns-2 enum-known-c pattern-of-requires enum-known-number-2
+half-of-spec =
+    tie.close (tie.spec returns colour-of-requires enum-known-number returns-2 enum-known-c pattern-of-requires enum-known-number-2
     enum-known-pattern returns-3 returns-4)

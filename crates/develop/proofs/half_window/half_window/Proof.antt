@@ -23,8 +23,10 @@ half-window-in-requires c κs =
 
 returns : tie.Need-returns
 returns c =
-    let a = c .before .before .before .before .before .before .args in
-    let o = subst (OpeningIs (now (a .file))) (c .before .number .given .1) (c .before .before .before .«open» .ensures) in
+    let args = c .before .before .before .before .before .before .args in
+    let open-call = c .before .before .before .«open» in
+    let a = args in
+    let o = subst (OpeningIs (now (a .file))) (c .before .number .given .1) (open-call .ensures) in
     ap (halfWindowOf (now (a .file)) (a .top) (a .left) (a .height) (a .width) (now (a .out))) o
 
 same-length : tie.Need-same-length
@@ -34,4 +36,5 @@ returns-2 : tie.Need-returns-2
 returns-2 c = search needs
 
 pub half-window-spec : {M : Type 1} → statement M
-half-window-spec = tie.close (tie.spec open-requires enum-known-number enum-known-view half-window-in-requires returns same-length returns-2)
+half-window-spec =
+    tie.close (tie.spec open-requires enum-known-number enum-known-view half-window-in-requires returns same-length returns-2)

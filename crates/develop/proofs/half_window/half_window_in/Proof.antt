@@ -33,11 +33,12 @@ halved-in-requires c κs =
 
 returns : tie.Need-returns
 returns c =
+    let half-of = c .before .before .before .half-of in
     let s = c .before .before .before .before .before .before in
     let a = s .args in
     let b = a .blocks in
     half-called (now (a .file)) (a .view) (s .pre) (b .top) (b .left) (b .height) (b .width) (now (a .out)) _
-    (ap halfOut (sym (c .before .number .given .1)) ∙ c .before .before .before .half-of .ensures)
+    (ap halfOut (sym (c .before .number .given .1)) ∙ half-of .ensures)
 
 same-length : tie.Need-same-length
 same-length c = search needs
@@ -52,4 +53,5 @@ returns-2 c =
     ∙ half-called (now (a .file)) (a .view) (s .pre) (b .top) (b .left) (b .height) (b .width) (now (a .out)) _ (half k)
 
 pub half-window-in-spec : {M : Type 1} → statement M
-half-window-in-spec = tie.close (tie.spec half-of-requires enum-known-number enum-known-half halved-in-requires returns same-length returns-2)
+half-window-in-spec =
+    tie.close (tie.spec half-of-requires enum-known-number enum-known-half halved-in-requires returns same-length returns-2)

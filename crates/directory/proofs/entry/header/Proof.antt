@@ -29,13 +29,18 @@ add-value : tie.Need-add-value
 add-value c = search needs
 
 value-requires : tie.Need-value-requires
-value-requires c κs = (omega arith, c .before .before .before .before .pre .1 .word)
+value-requires c κs =
+    let pre = c .before .before .before .before .pre in
+    (omega arith, pre .1 .word)
 
 returns : tie.Need-returns
 returns c =
-    let a = c .before .before .before .before .before .args in
+    let args = c .before .before .before .before .before .args in
+    let short = c .before .before .before .short in
+    let a = args in
     let k = c .before .kind-of .ensures ∙ ap (kindOf (a .widths .types)) (c .before .before .short2 .ensures) in
-    (header-at (a .widths) (now (a .file)) (a .order) (a .at) _ _ _ (c .before .before .before .short .ensures) k (c .value .ensures), search needs)
+    (header-at (a .widths) (now (a .file)) (a .order) (a .at) _ _ _ (short .ensures) k (c .value .ensures), search needs)
 
 pub header-spec : {M : Type 1} → statement M
-header-spec = tie.close (tie.spec short-requires cast-tag add-short short-requires-2 cast-kind-of kind-of-requires add-value value-requires returns)
+header-spec =
+    tie.close (tie.spec short-requires cast-tag add-short short-requires-2 cast-kind-of kind-of-requires add-value value-requires returns)

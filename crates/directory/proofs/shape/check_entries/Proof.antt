@@ -43,16 +43,18 @@ enum-known-number c = search needs
 
 returns : tie.Need-returns Inv-loop μ-loop
 returns c =
+    let placed-tag = c .before .before .before .placed-tag in
     let l = c .before .before .before .before .before in
     let a = l .before .before .args in
-    let e = ap numberOut (sym (c .before .number .given .1)) ∙ c .before .before .before .placed-tag .ensures .0 in
+    let e = ap numberOut (sym (c .before .number .given .1)) ∙ placed-tag .ensures .0 in
     shape-refused (a .widths) (now (a .file)) _ _ _ _ (l .loop .left) (l .loop .left - 1) (omega arith) _ _ e ∙ sym (l .loop .inv .0)
 
 enum-known-t : tie.Need-enum-known-t Inv-loop μ-loop
 enum-known-t c = search needs
 
 -- the tag of the entry at p
-tagged : (c : tie.After-known-told2 Inv-loop μ-loop) → let l = c .before .before .before .before .before in let a = l .before .before .args in
+tagged : (c : tie.After-known-told2 Inv-loop μ-loop) → let l =
+    c .before .before .before .before .before in let a = l .before .before .args in
     is (c .before .t .given .0 .0) ≡ run (now (a .file)) (entryReading (a .widths) (length (now (a .file))) (a .order) (l .loop .p))
 tagged c = ap numberOut (sym (c .before .t .given .1)) ∙ c .before .before .before .placed-tag .ensures .0
 
@@ -64,7 +66,9 @@ returns-2 c =
     shape-order (a .widths) (now (a .file)) _ _ _ _ n (n - 1) (omega arith) _ (tagged (c .before)) (c .if1 .taken) ∙ sym (l .loop .inv .0)
 
 add-low : tie.Need-add-low Inv-loop μ-loop
-add-low c = let h = subst TagIn (c .before .before .t .given .1) (c .before .before .before .before .placed-tag .ensures .1) in omega arith
+add-low c =
+    let placed-tag = c .before .before .before .before .placed-tag in
+    let h = subst TagIn (c .before .before .t .given .1) (placed-tag .ensures .1) in omega arith
 
 add-p : tie.Need-add-p Inv-loop μ-loop
 add-p c = omega (arith, spaced (c .before .before .before .before .before) .0)
@@ -79,7 +83,8 @@ loop-again : tie.Need-loop-again Inv-loop μ-loop
 loop-again c =
     let l = c .before .before .before .before .before .before in
     let a = l .before .before .args in
-    let n = shape-next (a .widths) (now (a .file)) _ _ _ _ (l .loop .left) (l .loop .left - 1) (omega arith) _ (tagged (c .before)) (c .if1 .left) in
+    let n = shape-next (a .widths) (now (a .file)) _ _ _ _ (l .loop .left) (l .loop .left - 1) (omega arith) _ (tagged (c .before))
+        (c .if1 .left) in
     (l .loop .inv .0 ∙ n, spaced (c .before .before .before .before .before) .1)
 
 returns-3 : tie.Need-returns-3 Inv-loop μ-loop
@@ -91,5 +96,6 @@ returns-3 c =
 pub check-entries-spec : {M : Type 1} → statement M
 check-entries-spec =
     tie.close
-    (tie.spec Inv-loop μ-loop add-step add-step-2 loop-holds placed-tag-requires enum-known-number returns enum-known-t returns-2 add-low add-p
+    (tie.spec Inv-loop μ-loop add-step add-step-2 loop-holds placed-tag-requires enum-known-number returns enum-known-t returns-2 add-low
+        add-p
     sub-left loop-less loop-again returns-3)

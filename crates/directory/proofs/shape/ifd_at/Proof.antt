@@ -23,16 +23,24 @@ value-requires : tie.Need-value-requires
 value-requires c κs = (counted c, c .before .before .before .pre .1 .entries)
 
 add-first : tie.Need-add-first
-add-first c = omega (arith, counted (c .before), c .before .before .before .before .pre .0)
+add-first c =
+    let pre = c .before .before .before .before .pre in
+    omega (arith, counted (c .before), pre .0)
 
 add-many-inside : tie.Need-add-many-inside
-add-many-inside c = let a = c .before .before .before .before .before in omega (arith, counted (c .before .before), a .pre .0, wide-most _ (a .pre .1 .word))
+add-many-inside c =
+    let a = c .before .before .before .before .before in
+    omega (arith, counted (c .before .before), a .pre .0, wide-most _ (a .pre .1 .word))
 
 add-many-inside-2 : tie.Need-add-many-inside-2
-add-many-inside-2 c = omega (arith, wide-most _ (c .before .before .before .before .before .pre .1 .word))
+add-many-inside-2 c =
+    let pre = c .before .before .before .before .before .pre in
+    omega (arith, wide-most _ (pre .1 .word))
 
 add-many-inside-3 : tie.Need-add-many-inside-3
-add-many-inside-3 c = omega (arith, wide-most _ (c .before .before .before .before .before .pre .1 .word))
+add-many-inside-3 c =
+    let pre = c .before .before .before .before .before .pre in
+    omega (arith, wide-most _ (pre .1 .word))
 
 many-inside-requires : tie.Need-many-inside-requires
 many-inside-requires c κs =
@@ -68,7 +76,8 @@ returns c =
     let v = i .before .before .before in
     let a = v .before .before .before .before .args in
     let e = ap numberOut (sym (c .before .number .given .1)) ∙ k .check-entries .ensures in
-    (ifd-refused (a .widths) (now (a .file)) _ _ _ (counted (v .before)) _ (v .value .ensures) (i .before .before .if2 .taken) (room i) _ _ e, tt)
+    (ifd-refused (a .widths) (now (a .file)) _ _ _ (counted (v .before)) _ (v .value .ensures) (i .before .before .if2 .taken) (room i) _ _
+        e, tt)
 
 returns-2 : tie.Need-returns-2
 returns-2 c =
@@ -77,7 +86,8 @@ returns-2 c =
     let v = i .before .before .before in
     let a = v .before .before .before .before in
     let e = ap numberOut (sym (c .enum-told .given .1)) ∙ k .check-entries .ensures in (
-      ifd-is (a .args .widths) (now (a .args .file)) _ _ _ (counted (v .before)) _ (v .value .ensures) (i .before .before .if2 .taken) (room i) _ e,
+      ifd-is (a .args .widths) (now (a .args .file)) _ _ _ (counted (v .before)) _ (v .value .ensures) (i .before .before .if2 .taken)
+          (room i) _ e,
       record { laid = a .pre .1; inside = omega (arith, room i); next = _; shape = e },
     )
 
@@ -88,7 +98,8 @@ returns-3 c =
     let n = v .value .result in
     let h : length (now (a .file)) < a .at + a .widths .entries + a .widths .word + entryWidth (a .widths) * n =
     leb-false _ _ (sym (c .before .many-inside .ensures) ∙ c .if3 .left) in
-    (ifd-cut (a .widths) (now (a .file)) _ _ _ (counted (v .before)) _ (v .value .ensures) (c .before .before .if2 .taken) (omega (arith, h)), tt)
+    (ifd-cut (a .widths) (now (a .file)) _ _ _ (counted (v .before)) _ (v .value .ensures) (c .before .before .if2 .taken)
+        (omega (arith, h)), tt)
 
 returns-4 : tie.Need-returns-4
 returns-4 c =
@@ -98,11 +109,13 @@ returns-4 c =
 
 returns-5 : tie.Need-returns-5
 returns-5 c =
-    let a = c .before .before .before .args in
+    let args = c .before .before .before .args in
+    let a = args in
     (ifd-outside (a .widths) (now (a .file)) _ _ _ (leb-false _ _ (sym (c .before .inside .ensures) ∙ c .if1 .left)), tt)
 
 pub ifd-at-spec : {M : Type 1} → statement M
 ifd-at-spec =
     tie.close
-    (tie.spec inside-requires value-requires add-first add-many-inside add-many-inside-2 add-many-inside-3 many-inside-requires check-entries-requires
+    (tie.spec inside-requires value-requires add-first add-many-inside add-many-inside-2 add-many-inside-3 many-inside-requires
+        check-entries-requires
     enum-known-number enum-told returns returns-2 returns-3 returns-4 returns-5)

@@ -19,7 +19,9 @@ enum-known-number c = search needs
 
 returns : tie.Need-returns
 unfolding allReading
-returns c = (bind-refused _ _ _ _ _ (ap valuesOut (sym (c .before .number .given .1)) ∙ c .before .before .before .look-up .ensures .0), tt)
+returns c =
+    let look-up = c .before .before .before .look-up in
+    (bind-refused _ _ _ _ _ (ap valuesOut (sym (c .before .number .given .1)) ∙ look-up .ensures .0), tt)
 
 enum-known-v : tie.Need-enum-known-v
 enum-known-v c = search needs
@@ -43,7 +45,8 @@ enum-told c = search needs
 returns-2 : tie.Need-returns-2
 unfolding allReading
 returns-2 c =
-    let e = ap numberOut (sym (c .before .number2 .given .1)) ∙ c .before .before .before .each .ensures in
+    let each = c .before .before .before .each in
+    let e = ap numberOut (sym (c .before .number2 .given .1)) ∙ each .ensures in
     (bind-refused _ _ _ _ _ e ∙ sym (bind-is _ _ _ _ (given (c .before .before .before .before) .0)), tt)
 
 returns-3 : tie.Need-returns-3
@@ -54,4 +57,6 @@ returns-3 c =
     (sym (bind-is _ _ _ _ (given g .0) ∙ bind-is _ _ _ _ e ∙ run-answer _ _), given g .1)
 
 pub all-spec : {M : Type 1} → statement M
-all-spec = tie.close (tie.spec look-up-requires enum-known-number returns enum-known-v each-requires enum-known-number-2 enum-told returns-2 returns-3)
+all-spec =
+    tie.close (tie.spec look-up-requires enum-known-number returns enum-known-v each-requires enum-known-number-2 enum-told returns-2
+        returns-3)

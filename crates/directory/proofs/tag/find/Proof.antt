@@ -17,7 +17,8 @@ use Rattle.directory.proofs.tag.find.Tie as tie
 
 abbrev Inv-loop : tie.InvT-loop
 Inv-loop file order widths count at tag word head step left₀ p₀ left p =
-    (run file (findFrom widths order count at tag) ≡ run file (findFrom widths order left p tag)) × (p + entryWidth widths * left ≤ length file)
+    (run file (findFrom widths order count at tag) ≡ run file (findFrom widths order left p tag))
+        × (p + entryWidth widths * left ≤ length file)
 
 abbrev μ-loop : tie.MeasureT-loop
 μ-loop file order widths count at tag word head step left₀ p₀ left p = left
@@ -46,7 +47,9 @@ add-t15 : tie.Need-add-t15 Inv-loop μ-loop
 add-t15 c = omega (arith, spaced (c .before .before) .0)
 
 header-requires : tie.Need-header-requires Inv-loop μ-loop
-header-requires c κs = (omega (arith, spaced (c .before .before) .0), c .before .before .before .before .before .pre .1)
+header-requires c κs =
+    let pre = c .before .before .before .before .before .pre in
+    (omega (arith, spaced (c .before .before) .0), pre .1)
 
 -- the tag of the entry at p
 tag-is : (c : tie.After-short Inv-loop μ-loop) → let a = c .before .before .before .before .args in let l = c .before .before .loop in
@@ -81,7 +84,8 @@ loop-again c =
     let l = c .before .before .before in
     let a = l .before .before .args in
     let n = l .loop .left in
-    let e = find-later (a .widths) (now (a .file)) _ _ _ n (n - 1) (omega arith) _ refl (λ h. c .if1 .left (sym (tag-is (c .before)) ∙ h)) in
+    let e = find-later (a .widths) (now (a .file)) _ _ _ n (n - 1) (omega arith) _ refl (λ h. c .if1 .left (sym (tag-is (c .before)) ∙ h))
+        in
     (l .loop .inv .0 ∙ e, spaced (c .before .before) .1)
 
 returns-2 : tie.Need-returns-2 Inv-loop μ-loop
@@ -93,5 +97,6 @@ returns-2 c =
 pub find-spec : {M : Type 1} → statement M
 find-spec =
     tie.close
-    (tie.spec Inv-loop μ-loop add-head add-step loop-holds short-requires cast-if1 add-t15 header-requires returns add-p sub-left loop-less loop-again
+    (tie.spec Inv-loop μ-loop add-head add-step loop-holds short-requires cast-if1 add-t15 header-requires returns add-p sub-left loop-less
+        loop-again
     returns-2)

@@ -21,7 +21,9 @@ enum-known-number c = search needs
 
 returns : tie.Need-returns
 unfolding oneReading
-returns c = (bind-refused _ _ _ _ _ (ap valuesOut (sym (c .before .number .given .1)) ∙ c .before .before .before .look-up .ensures .0), tt)
+returns c =
+    let look-up = c .before .before .before .look-up in
+    (bind-refused _ _ _ _ _ (ap valuesOut (sym (c .before .number .given .1)) ∙ look-up .ensures .0), tt)
 
 enum-known-v : tie.Need-enum-known-v
 enum-known-v c = search needs
@@ -55,9 +57,12 @@ returns-3 : tie.Need-returns-3
 unfolding oneReading
 returns-3 c =
     let g = c .before .before .before in (
-      c .judged2 .ensures .0 ∙ first-is _ _ _ _ _ _ (c .before .before .if1 .left) _ (c .before .value .ensures) ∙ sym (bind-is _ _ _ _ (given g .0)),
+      c .judged2 .ensures .0 ∙ first-is _ _ _ _ _ _ (c .before .before .if1 .left) _ (c .before .value .ensures)
+          ∙ sym (bind-is _ _ _ _ (given g .0)),
       c .judged2 .ensures .1,
     )
 
 pub one-spec : {M : Type 1} → statement M
-one-spec = tie.close (tie.spec look-up-requires enum-known-number returns enum-known-v judged-requires returns-2 value-requires judged-requires-2 returns-3)
+one-spec =
+    tie.close (tie.spec look-up-requires enum-known-number returns enum-known-v judged-requires returns-2 value-requires judged-requires-2
+        returns-3)

@@ -17,7 +17,9 @@ enum-known-number : tie.Need-enum-known-number
 enum-known-number c = search needs
 
 returns : tie.Need-returns
-returns c = (version-refused _ _ _ _ (ap valuesOut (sym (c .before .number .given .1)) ∙ c .before .before .before .look-up .ensures .0))
+returns c =
+    let look-up = c .before .before .before .look-up in
+    (version-refused _ _ _ _ (ap valuesOut (sym (c .before .number .given .1)) ∙ look-up .ensures .0))
 
 enum-known-v : tie.Need-enum-known-v
 enum-known-v c = search needs
@@ -64,4 +66,6 @@ returns-4 c =
     version-is _ _ _ (version (g .before .before .before .before)) _ (backward-values g) _ (c .before .backward .ensures) (c .if1 .left)
 
 pub check-version-spec : {M : Type 1} → statement M
-check-version-spec = tie.close (tie.spec look-up-requires enum-known-number returns enum-known-v look-up-requires-2 enum-known-number-2 returns-2 enum-known-v-2 backward-requires returns-3 returns-4)
+check-version-spec =
+    tie.close (tie.spec look-up-requires enum-known-number returns enum-known-v look-up-requires-2 enum-known-number-2 returns-2
+        enum-known-v-2 backward-requires returns-3 returns-4)

@@ -18,7 +18,9 @@ enum-known-number : tie.Need-enum-known-number
 enum-known-number c = search needs
 
 returns : tie.Need-returns
-returns c = (look-refused _ _ _ _ (ap numberOut (sym (c .before .number .given .1)) ∙ c .before .before .before .one .ensures .0), tt)
+returns c =
+    let one = c .before .before .before .one in
+    (look-refused _ _ _ _ (ap numberOut (sym (c .before .number .given .1)) ∙ one .ensures .0), tt)
 
 enum-known-t : tie.Need-enum-known-t
 enum-known-t c = search needs
@@ -50,9 +52,12 @@ returns-4 c =
     let k = c .before .before .before in
     let a = k .before .before .before .before .before .before .before in
     let q = subst (ValuesIn (length (now (a .args .file))) childrenRule) (c .before .v .given .1) (k .look-up .ensures .1) in (
-      look-into _ _ _ (subfile (k .before .before)) (k .before .if1 .left) _ (ap valuesOut (sym (c .before .v .given .1)) ∙ k .look-up .ensures .0),
+      look-into _ _ _ (subfile (k .before .before)) (k .before .if1 .left) _
+          (ap valuesOut (sym (c .before .v .given .1)) ∙ k .look-up .ensures .0),
       (q .within, q .inside, λ h. inr (q .sized h)),
     )
 
 pub inspect-spec : {M : Type 1} → statement M
-inspect-spec = tie.close (tie.spec one-requires enum-known-number returns enum-known-t returns-2 look-up-requires enum-known-number-2 enum-known-v returns-3 returns-4)
+inspect-spec =
+    tie.close (tie.spec one-requires enum-known-number returns enum-known-t returns-2 look-up-requires enum-known-number-2 enum-known-v
+        returns-3 returns-4)

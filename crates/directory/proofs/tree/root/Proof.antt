@@ -19,7 +19,9 @@ enum-known-number c = search needs
 
 returns : tie.Need-returns
 unfolding rootReading
-returns c = (bind-refused _ _ _ _ _ (ap ifdOut (sym (c .before .number .given .1)) ∙ c .before .before .before .ifd-at .ensures .0), tt)
+returns c =
+    let ifd-at = c .before .before .before .ifd-at in
+    (bind-refused _ _ _ _ _ (ap ifdOut (sym (c .before .number .given .1)) ∙ ifd-at .ensures .0), tt)
 
 enum-known-d : tie.Need-enum-known-d
 enum-known-d c = search needs
@@ -29,7 +31,10 @@ opened : (c : tie.After-known-told2) → let a = c .before .before .before .befo
 opened c = ap ifdOut (sym (c .before .d .given .1)) ∙ c .before .before .before .ifd-at .ensures .0
 
 tested : (c : tie.After-known-told2) → Tested (now (c .before .before .before .before .before .args .file)) (c .before .d .given .0 .0)
-tested c = subst (IfdIn (now (c .before .before .before .before .before .args .file))) (c .before .d .given .1) (c .before .before .before .ifd-at .ensures .1)
+tested c =
+    let a = c .before .before .before .before .before .args in
+    let ifd-at = c .before .before .before .ifd-at in
+    subst (IfdIn (now (a .file))) (c .before .d .given .1) (ifd-at .ensures .1)
 
 check-version-requires : tie.Need-check-version-requires
 check-version-requires c κs = tested c
@@ -48,7 +53,9 @@ enum-told : tie.Need-enum-told
 enum-told c = search needs
 
 walk-from-requires : tie.Need-walk-from-requires
-walk-from-requires c κs = (c .before .before .before .before .before .before .before .before .pre .0, tested (c .before .before .before))
+walk-from-requires c κs =
+    let pre = c .before .before .before .before .before .before .before .before .pre in
+    (pre .0, tested (c .before .before .before))
 
 enum-known-raw : tie.Need-enum-known-raw
 enum-known-raw c = search needs
@@ -65,8 +72,9 @@ walked : (c : tie.After-walk-from) → let d = c .before .before .before .before
     ≡ run (now (a .file)) (bind (walkReading (length (now (a .file))) (d .d .given .0 .0)) (afterWalk (d .d .given .0 .0)))
 unfolding rootReading
 walked c =
+    let check-version = c .before .before .before .check-version in
     bind-is _ _ _ _ (opened (c .before .before .before .before))
-    ∙ bind-is _ _ _ _ (ap numberOut (sym (c .before .enum-told .given .1)) ∙ c .before .before .before .check-version .ensures)
+    ∙ bind-is _ _ _ _ (ap numberOut (sym (c .before .enum-told .given .1)) ∙ check-version .ensures)
 
 returns-3 : tie.Need-returns-3
 unfolding rootReading
@@ -95,4 +103,6 @@ returns-5 c =
     (sym (walked n ∙ bind-is _ _ _ (left _) (ap walkOut (sym (c .enum-told2 .given .1)) ∙ n .walk-from .ensures .0) ∙ run-answer _ _), tt)
 
 pub root-spec : {M : Type 1} → statement M
-root-spec = tie.close (tie.spec ifd-at-requires enum-known-number returns enum-known-d check-version-requires enum-known-number-2 returns-2 enum-told walk-from-requires enum-known-raw enum-known-number-3 enum-told-2 returns-3 returns-4 returns-5)
+root-spec =
+    tie.close (tie.spec ifd-at-requires enum-known-number returns enum-known-d check-version-requires enum-known-number-2 returns-2
+        enum-told walk-from-requires enum-known-raw enum-known-number-3 enum-told-2 returns-3 returns-4 returns-5)

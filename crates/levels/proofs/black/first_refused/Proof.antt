@@ -26,13 +26,16 @@ all s = let a = s .args in firstRefused (runOf (blackAt (a .kind) (a .order) (a 
 
 abbrev left : tie.After-black-at Inv-loop μ-loop → Black
 left c =
-    let a = c .before .before .before .before .args in
+    let args = c .before .before .before .before .args in
+    let a = args in
     let l = c .before .before .loop in
     firstRefused (runOf (blackAt (a .kind) (a .order) (a .s .now)) (a .step) (l .p + a .step) (a .count - (l .i + 1)))
 
-next : (c : tie.After-black-at Inv-loop μ-loop) (b : Black) → c .black-at .result ≡ b → all (c .before .before .before .before) ≡ orNext b (left c)
+next : (c : tie.After-black-at Inv-loop μ-loop) (b : Black) → c .black-at .result ≡ b →
+    all (c .before .before .before .before) ≡ orNext b (left c)
 next c b e =
-    let a = c .before .before .before .before .args in
+    let args = c .before .before .before .before .args in
+    let a = args in
     let l = c .before .before .loop in
     sym (l .inv .1)
     ∙ refused-next (blackAt (a .kind) (a .order) (a .s .now)) (a .step) (l .p) (a .count) (l .i) (c .before .loop-test .taken)
@@ -46,8 +49,9 @@ loop-holds c =
 
 black-at-requires : tie.Need-black-at-requires Inv-loop μ-loop
 black-at-requires c κs =
+    let pre = c .before .before .before .pre in
     let l = c .before .loop in
-    omega (arith, c .before .before .before .pre .0 (l .i) (c .loop-test .taken), l .inv .0)
+    omega (arith, pre .0 (l .i) (c .loop-test .taken), l .inv .0)
 
 enum-told : tie.Need-enum-told Inv-loop μ-loop
 enum-told c = search needs
@@ -66,8 +70,10 @@ returns-2 c = sym (next (c .before .before) _ (c .enum-told3 .given .1))
 
 add-p : tie.Need-add-p Inv-loop μ-loop
 add-p c =
-    let l = c .before .before .before .before .loop in
-    let t = c .before .before .before .loop-test .taken in
+    let loop = c .before .before .before .before .loop in
+    let loop-test = c .before .before .before .loop-test in
+    let l = loop in
+    let t = loop-test .taken in
     let s = c .before .before .before .before .before .before in
     let some : 0 < s .args .count = omega (arith, t) in
     omega (arith, s .pre .0 (l .i) t, s .pre .1 some, l .inv .0, s .good)
@@ -80,15 +86,18 @@ loop-less c = search needs
 
 loop-again : tie.Need-loop-again Inv-loop μ-loop
 loop-again c =
-    let l = c .before .before .before .before .loop in
-    let a = c .before .before .before .before .before .before .args in (
+    let args = c .before .before .before .before .before .before .args in
+    let loop = c .before .before .before .before .loop in
+    let l = loop in
+    let a = args in (
       omega (arith, mul-suc (a .step) (l .i), ap (λ (k : ℕ). a .step * k) (add-one (l .i)), l .inv .0),
       sym (next (c .before .before) _ (c .enum-told .given .1)),
     )
 
 returns-3 : tie.Need-returns-3 Inv-loop μ-loop
 returns-3 c =
-    let a = c .before .before .before .args in
+    let args = c .before .before .before .args in
+    let a = args in
     let l = c .before .loop in
     sym (refused-over (blackAt (a .kind) (a .order) (a .s .now)) (a .step) (l .p) (a .count) (l .i) (c .loop-test .left)) ∙ l .inv .1
 

@@ -14,7 +14,9 @@ returns-2 : tie.Need-returns-2
 returns-2 c = rw (← (c .before .before .field .ensures .0)) (axis-many _ _ (c .before .if1 .left) (c .if2 .taken))
 
 returns-3 : tie.Need-returns-3
-returns-3 c = rw (← (c .before .before .before .field .ensures .0)) (axis-one _ _ (c .before .before .if1 .left) (c .before .if2 .left) (c .if3 .taken))
+returns-3 c =
+    let field = c .before .before .before .field in
+    rw (← (field .ensures .0)) (axis-one _ _ (c .before .before .if1 .left) (c .before .if2 .left) (c .if3 .taken))
 
 above-requires : tie.Need-above-requires
 above-requires c κs = search needs

@@ -39,7 +39,8 @@ unfolding ofBits
 int-to-float-t6 c =
     let d = c .before .before in
     let s = d .before .before .before in
-    let w = whole-below (s .args .p) (s .args .points - 1) (omega (arith, s .pre .1)) (s .pre .2) (d .before .before .if1 .left) (d .if2 .left) in
+    let w = whole-below (s .args .p) (s .args .points - 1) (omega (arith, s .pre .1)) (s .pre .2) (d .before .before .if1 .left)
+        (d .if2 .left) in
     float-exact _ (omega (arith, w, s .pre .1, c .before .truncating-f64-to-u64 .ensures))
 
 returns-3 : tie.Need-returns-3
@@ -53,7 +54,8 @@ returns-3 c =
     let a = d .before .before .if1 .left in
     let e = c .before .truncating-f64-to-u64 .ensures in
     let w = whole-below p (n - 1) (omega (arith, s .pre .1)) (s .pre .2) a (d .if2 .left) in (
-      λ g. ap (λ (m : ℕ). betweenOf (sub binary64 p (floatOf m)) (g m) (g (m + 1))) e ∙ along-between n p g (λ o. omega arith) a (d .if2 .left),
+      λ g. ap (λ (m : ℕ). betweenOf (sub binary64 p (floatOf m)) (g m) (g (m + 1))) e
+          ∙ along-between n p g (λ o. omega arith) a (d .if2 .left),
       omega (arith, w, e),
     )
 

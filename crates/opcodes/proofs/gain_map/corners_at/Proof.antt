@@ -55,7 +55,8 @@ gain-requires-2 c κs =
     let s = t .before .before .before .before .before .before in
     let p = point-below _ (s .args .down) (s .pre .1) in
     let r = t .next2 .ensures .1 in
-    (s .pre .0, omega (arith, p, t .before .before .before .before .point .ensures), omega (arith, r, t .before .field2 .ensures .0), s .pre .2)
+    (s .pre .0, omega (arith, p, t .before .before .before .before .point .ensures), omega (arith, r, t .before .field2 .ensures .0),
+        s .pre .2)
 
 gain-requires-3 : tie.Need-gain-requires-3
 gain-requires-3 c κs =
@@ -69,11 +70,13 @@ gain-requires-4 c κs =
     let t = u .before .before in
     let s = t .before .before .before .before in
     let l = t .next .ensures .1 in
-    (s .pre .0, omega (arith, l, t .before .field .ensures .0), omega (arith, u .next2 .ensures .1, u .before .field2 .ensures .0), s .pre .2)
+    (s .pre .0, omega (arith, l, t .before .field .ensures .0), omega (arith, u .next2 .ensures .1, u .before .field2 .ensures .0),
+        s .pre .2)
 
 returns : tie.Need-returns
 unfolding gainMapOf
 returns c =
+    let gain = c .before .before .before .gain in
     let u = c .before .before .before .before .before .before in
     let t = u .before .before in
     let s = t .before .before .before .before in
@@ -82,7 +85,7 @@ returns c =
     let l = t .next .ensures .0 ∙ ap (λ (n : ℕ). nextOf n (i .result)) (t .before .field .ensures .0) in
     let r = u .next2 .ensures .0 ∙ ap (λ (n : ℕ). nextOf n (s .args .k)) (u .before .field2 .ensures .0) in
     corners-read m (s .args .down) (s .args .q) (s .args .k) _ _ _ _ _ _ _ (i .ensures) l r
-    (c .before .before .before .gain .ensures) (c .before .before .gain2 .ensures) (c .before .gain3 .ensures) (c .gain4 .ensures)
+    (gain .ensures) (c .before .before .gain2 .ensures) (c .before .gain3 .ensures) (c .gain4 .ensures)
 
 pub corners-at-spec : {M : Type 1} → statement M
 corners-at-spec =

@@ -23,11 +23,14 @@ across-axis-requires c κs = omega (arith, c .before .before .before .pre .0 .in
 
 located-requires-2 : tie.Need-located-requires-2
 located-requires-2 c κs =
-    let h = c .before .before .before .before .pre in
+    let pre = c .before .before .before .before .pre in
+    let h = pre in
     (subst Axis-in (sym (c .across-axis .ensures)) (h .0 .across), h .4, h .2)
 
 plane-for-requires : tie.Need-plane-for-requires
-plane-for-requires c κs = c .before .before .before .before .before .pre .0
+plane-for-requires c κs =
+    let pre = c .before .before .before .before .before .pre in
+    pre .0
 
 point-requires : tie.Need-point-requires
 point-requires c κs = search needs
@@ -37,7 +40,8 @@ corners-at-requires c κs =
     let t = c .before .before in
     let d = t .before .before in
     let h = d .before .before .before .pre in
-    let across = subst (λ (a : Axis). Bracket-in (a .points) (t .located2 .result)) (t .before .across-axis .ensures) (t .located2 .ensures .1) in
+    let across = subst (λ (a : Axis). Bracket-in (a .points) (t .located2 .result)) (t .before .across-axis .ensures)
+        (t .located2 .ensures .1) in
     let k = point-below (longOf (now (d .before .before .before .args .ps)) 36) (t .located2 .result) across in
     let down = subst (λ (a : Axis). Bracket-in (a .points) (d .located .result)) (d .before .down-axis .ensures) (d .located .ensures .1) in
     (h .0, down, c .before .plane-for .ensures .1, omega (arith, k, c .point .ensures))

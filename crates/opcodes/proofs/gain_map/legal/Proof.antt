@@ -17,13 +17,16 @@ field-requires c κs = search needs
 
 returns : tie.Need-returns
 returns c =
-    let e = sym (c .before .before .before .before .axis-legal .ensures) ∙ c .before .before .before .if1 .taken in
+    let axis-legal = c .before .before .before .before .axis-legal in
+    let if1 = c .before .before .before .if1 in
+    let e = sym (axis-legal .ensures) ∙ if1 .taken in
     let f = sym (c .before .before .axis-legal2 .ensures) ∙ c .before .if2 .taken in
     ap (λ (n : ℕ). leb 1 n) (c .field .ensures .0) ∙ legal-planes _ e f
 
 returns-2 : tie.Need-returns-2
 returns-2 c =
-    let e = sym (c .before .before .before .axis-legal .ensures) ∙ c .before .before .if1 .taken in
+    let axis-legal = c .before .before .before .axis-legal in
+    let e = sym (axis-legal .ensures) ∙ c .before .before .if1 .taken in
     legal-second _ e (sym (c .before .axis-legal2 .ensures) ∙ c .if2 .left)
 
 returns-3 : tie.Need-returns-3

@@ -15,11 +15,17 @@ planes-fit-requires c κs = search needs
 
 returns : tie.Need-returns
 unfolding fitsOf
-returns c = c .planes-fit .ensures ∙ sym (rw (sym (c .before .before .before .before .inside .ensures) ∙ c .before .before .before .if1 .taken, sym (c .before .before .inside2 .ensures) ∙ c .before .if2 .taken))
+returns c =
+    let inside = c .before .before .before .before .inside in
+    let if1 = c .before .before .before .if1 in
+    c .planes-fit .ensures ∙ sym (rw
+        (sym (inside .ensures) ∙ if1 .taken, sym (c .before .before .inside2 .ensures) ∙ c .before .if2 .taken))
 
 returns-2 : tie.Need-returns-2
 unfolding fitsOf
-returns-2 c = sym (rw (sym (c .before .before .before .inside .ensures) ∙ c .before .before .if1 .taken, sym (c .before .inside2 .ensures) ∙ c .if2 .left))
+returns-2 c =
+    let inside = c .before .before .before .inside in
+    sym (rw (sym (inside .ensures) ∙ c .before .before .if1 .taken, sym (c .before .inside2 .ensures) ∙ c .if2 .left))
 
 returns-3 : tie.Need-returns-3
 unfolding fitsOf

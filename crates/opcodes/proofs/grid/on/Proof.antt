@@ -35,16 +35,30 @@ every-requires-2 : tie.Need-every-requires-2
 every-requires-2 c κs = c .before .before .pre .1
 
 add-result : tie.Need-add-result
-add-result c = omega (arith, c .before .before .before .before .before .before .before .pre .2, c .before .before .before .before .before .before .before .pre .3)
+add-result c =
+    let pre = c .before .before .before .before .before .before .before .pre in
+    omega (arith, pre .2, pre .3)
 
 returns : tie.Need-returns
-returns c = on-planes _ _ _ _ (sym (c .before .before .before .before .before .before .every .ensures) ∙ c .before .before .before .before .before .if1 .taken) (sym (c .before .before .before .before .every2 .ensures) ∙ c .before .before .before .if2 .taken) (le-leb _ _ (c .before .if3 .taken))
+returns c =
+    let every = c .before .before .before .before .before .before .every in
+    let if1 = c .before .before .before .before .before .if1 in
+    let every2 = c .before .before .before .before .every2 in
+    let if2 = c .before .before .before .if2 in
+    on-planes _ _ _ _ (sym (every .ensures) ∙ if1 .taken) (sym (every2 .ensures) ∙ if2 .taken) (le-leb _ _ (c .before .if3 .taken))
 
 returns-2 : tie.Need-returns-2
-returns-2 c = lt-leb _ _ (c .if3 .left) ∙ on-low _ _ _ _ (sym (c .before .before .before .before .before .every .ensures) ∙ c .before .before .before .before .if1 .taken) (sym (c .before .before .before .every2 .ensures) ∙ c .before .before .if2 .taken) (lt-leb _ _ (c .if3 .left))
+returns-2 c =
+    let every = c .before .before .before .before .before .every in
+    let if1 = c .before .before .before .before .if1 in
+    let every2 = c .before .before .before .every2 in
+    lt-leb _ _ (c .if3 .left) ∙ on-low _ _ _ _ (sym (every .ensures) ∙ if1 .taken) (sym (every2 .ensures) ∙ c .before .before .if2 .taken)
+        (lt-leb _ _ (c .if3 .left))
 
 returns-3 : tie.Need-returns-3
-returns-3 c = on-column _ _ _ _ (sym (c .before .before .before .every .ensures) ∙ c .before .before .if1 .taken) (sym (c .before .every2 .ensures) ∙ c .if2 .left)
+returns-3 c =
+    let every = c .before .before .before .every in
+    on-column _ _ _ _ (sym (every .ensures) ∙ c .before .before .if1 .taken) (sym (c .before .every2 .ensures) ∙ c .if2 .left)
 
 returns-4 : tie.Need-returns-4
 returns-4 c = on-row _ _ _ _ (sym (c .before .every .ensures) ∙ c .if1 .left)

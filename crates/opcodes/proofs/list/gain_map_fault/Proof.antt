@@ -21,8 +21,10 @@ legal-requires c κs = search needs
 
 count-requires : tie.Need-count-requires
 count-requires c κs =
-    let l = legal-in (now (c .before .before .before .before .before .before .before .args .ps)) (sym (c .before .legal .ensures) ∙ c .if3 .taken) in
-    (c .before .before .before .before .before .if1 .left, l .down .1, l .across .1)
+    let a = c .before .before .before .before .before .before .before .args in
+    let if1 = c .before .before .before .before .before .if1 in
+    let l = legal-in (now (a .ps)) (sym (c .before .legal .ensures) ∙ c .if3 .taken) in
+    (if1 .left, l .down .1, l .across .1)
 
 mul-if4 : tie.Need-mul-if4
 mul-if4 c = search needs
@@ -47,7 +49,8 @@ returns-2 c =
     let l = sym (d .before .before .legal .ensures) ∙ d .before .if3 .taken in
     let n = d .count in
     c .numbers-fault .ensures
-    ∙ map-read (a .size) (now (a .ps)) h fit l (n .result) (n .ensures .0) (c .before .before .if4 .taken) _ (c .before .gain-map-refused .ensures)
+    ∙ map-read (a .size) (now (a .ps)) h fit l (n .result) (n .ensures .0) (c .before .before .if4 .taken) _
+        (c .before .gain-map-refused .ensures)
 
 returns-3 : tie.Need-returns-3
 returns-3 c =
@@ -62,18 +65,24 @@ returns-3 c =
 
 returns-4 : tie.Need-returns-4
 returns-4 c =
-    let t = sym (c .before .before .before .fits2 .ensures) ∙ c .before .before .if2 .taken in
-    let g = c .before .before .before .before .grid-at in
-    let h = c .before .before .before .before .before .if1 .left in
-    let a = c .before .before .before .before .before .before .before .args in
+    let args = c .before .before .before .before .before .before .before .args in
+    let if1 = c .before .before .before .before .before .if1 in
+    let grid-at = c .before .before .before .before .grid-at in
+    let fits2 = c .before .before .before .fits2 in
+    let t = sym (fits2 .ensures) ∙ c .before .before .if2 .taken in
+    let g = grid-at in
+    let h = if1 .left in
+    let a = args in
     let fit = own-fits (now (a .ps)) (g .result) 44 h (g .ensures .0) (a .size) true t in
     map-illegal (a .size) (now (a .ps)) h fit (sym (c .before .legal .ensures) ∙ c .if3 .left)
 
 returns-5 : tie.Need-returns-5
 returns-5 c =
-    let a = c .before .before .before .before .before .args in
+    let args = c .before .before .before .before .before .args in
+    let if1 = c .before .before .before .if1 in
+    let a = args in
     let g = c .before .before .grid-at in
-    let h = c .before .before .before .if1 .left in
+    let h = if1 .left in
     let t = sym (c .before .fits2 .ensures) ∙ c .if2 .left in
     map-grid (a .size) (now (a .ps)) h (own-fits (now (a .ps)) (g .result) 44 h (g .ensures .0) (a .size) false t)
 

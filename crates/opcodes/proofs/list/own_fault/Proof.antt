@@ -8,13 +8,17 @@ gain-map-fault-requires : tie.Need-gain-map-fault-requires
 gain-map-fault-requires c κs = search needs
 
 returns : tie.Need-returns
-returns c = let a = c .before .before .before .args in c .gain-map-fault .ensures ∙ fault-map (a .size) (a .id) _ (c .before .if1 .taken)
+returns c =
+    let args = c .before .before .before .args in
+    let a = args in c .gain-map-fault .ensures ∙ fault-map (a .size) (a .id) _ (c .before .if1 .taken)
 
 plain-fault-requires : tie.Need-plain-fault-requires
 plain-fault-requires c κs = search needs
 
 returns-2 : tie.Need-returns-2
-returns-2 c = let a = c .before .before .before .args in c .plain-fault .ensures ∙ fault-plain (a .size) (a .id) _ (c .before .if1 .left)
+returns-2 c =
+    let args = c .before .before .before .args in
+    let a = args in c .plain-fault .ensures ∙ fault-plain (a .size) (a .id) _ (c .before .if1 .left)
 
 pub own-fault-spec : {M : Type 1} → statement M
 own-fault-spec = tie.close (tie.spec gain-map-fault-requires plain-fault-requires returns returns-2)

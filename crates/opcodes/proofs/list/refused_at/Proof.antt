@@ -15,16 +15,20 @@ refused-requires : tie.Need-refused-requires
 refused-requires c κs = search needs
 
 float-at-requires : tie.Need-float-at-requires
-float-at-requires c κs = ⊎-elim (λ e. omega (arith, c .before .before .pre .0)) (λ e. absurd (c .if1 .left e)) (c .before .before .pre .1)
+float-at-requires c κs =
+    let pre = c .before .before .pre in
+    ⊎-elim (λ e. omega (arith, pre .0)) (λ e. absurd (c .if1 .left e)) (pre .1)
 
 refused-requires-2 : tie.Need-refused-requires-2
 refused-requires-2 c κs = search needs
 
 returns : tie.Need-returns
-returns c = c .refused .ensures ∙ ap refusedReal (c .before .double-at .ensures) ∙ simp (eq-eqb _ _ (c .before .before .if1 .taken), pick-yes)
+returns c =
+    c .refused .ensures ∙ ap refusedReal (c .before .double-at .ensures) ∙ simp (eq-eqb _ _ (c .before .before .if1 .taken), pick-yes)
 
 returns-2 : tie.Need-returns-2
-returns-2 c = c .refused2 .ensures ∙ ap refusedReal (c .before .float-at .ensures) ∙ simp (ne-eqb _ _ (c .before .before .if1 .left), pick-no)
+returns-2 c =
+    c .refused2 .ensures ∙ ap refusedReal (c .before .float-at .ensures) ∙ simp (ne-eqb _ _ (c .before .before .if1 .left), pick-no)
 
 pub refused-at-spec : {M : Type 1} → statement M
 refused-at-spec = tie.close (tie.spec double-at-requires refused-requires float-at-requires refused-requires-2 returns returns-2)

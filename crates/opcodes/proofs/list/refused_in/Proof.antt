@@ -9,7 +9,8 @@ use Rattle.opcodes.proofs.list.refused_in.Statement.{statement}
 use Rattle.opcodes.proofs.list.refused_in.Tie as tie
 
 abbrev Inv-loop : tie.InvT-loop
-Inv-loop file width at n left₀ p₀ left p = (refusedIn width file at n ≡ refusedIn width file p left × (p + width * left ≤ length file) × (left ≤ n))
+Inv-loop file width at n left₀ p₀ left p =
+    (refusedIn width file at n ≡ refusedIn width file p left × (p + width * left ≤ length file) × (left ≤ n))
 
 abbrev μ-loop : tie.MeasureT-loop
 μ-loop file width at n left₀ p₀ left p = left
@@ -19,17 +20,24 @@ loop-holds c = (refl, c .before .pre .0, omega arith)
 
 refused-at-requires : tie.Need-refused-at-requires Inv-loop μ-loop
 refused-at-requires c κs =
-    let some : 0 < c .before .loop .left = c .loop-test .taken in
-    let w = within (c .before .before .before .args .width) (c .before .loop .left) 0 some in
-    (omega (arith, c .before .loop .inv .1, w), c .before .before .before .pre .1 (omega (arith, c .before .loop .inv .2)))
+    let a = c .before .before .before .args in
+    let pre = c .before .before .before .pre in
+    let loop = c .before .loop in
+    let some : 0 < loop .left = c .loop-test .taken in
+    let w = within (a .width) (loop .left) 0 some in
+    (omega (arith, loop .inv .1, w), pre .1 (omega (arith, loop .inv .2)))
 
 returns : tie.Need-returns Inv-loop μ-loop
-returns c = sym (c .before .before .before .loop .inv .0 ∙ refused-here _ _ _ _ (c .before .before .loop-test .taken) (sym (c .before .refused-at .ensures) ∙ c .if1 .taken))
+returns c =
+    let loop = c .before .before .before .loop in
+    sym (loop .inv .0 ∙ refused-here _ _ _ _ (c .before .before .loop-test .taken) (sym (c .before .refused-at .ensures) ∙ c .if1 .taken))
 
 add-p : tie.Need-add-p Inv-loop μ-loop
 add-p c =
-    let w = within (c .before .before .before .before .before .args .width) (c .before .before .before .loop .left) 0 (c .before .before .loop-test .taken) in
-    omega (arith, c .before .before .before .loop .inv .1, w)
+    let a = c .before .before .before .before .before .args in
+    let loop = c .before .before .before .loop in
+    let w = within (a .width) (loop .left) 0 (c .before .before .loop-test .taken) in
+    omega (arith, loop .inv .1, w)
 
 sub-left : tie.Need-sub-left Inv-loop μ-loop
 sub-left c = c .before .before .loop-test .taken
@@ -39,10 +47,12 @@ loop-less c = omega (arith, c .before .before .loop-test .taken)
 
 loop-again : tie.Need-loop-again Inv-loop μ-loop
 loop-again c =
-    let some : 0 < c .before .before .before .loop .left = c .before .before .loop-test .taken in (
-      c .before .before .before .loop .inv .0 ∙ refused-there _ _ _ _ some (sym (c .before .refused-at .ensures) ∙ c .if1 .left),
-      omega (arith, c .before .before .before .loop .inv .1, one-less (c .before .before .before .before .before .args .width) (c .before .before .before .loop .left) some),
-      omega (arith, c .before .before .before .loop .inv .2),
+    let a = c .before .before .before .before .before .args in
+    let loop = c .before .before .before .loop in
+    let some : 0 < loop .left = c .before .before .loop-test .taken in (
+      loop .inv .0 ∙ refused-there _ _ _ _ some (sym (c .before .refused-at .ensures) ∙ c .if1 .left),
+      omega (arith, loop .inv .1, one-less (a .width) (loop .left) some),
+      omega (arith, loop .inv .2),
     )
 
 returns-2 : tie.Need-returns-2 Inv-loop μ-loop

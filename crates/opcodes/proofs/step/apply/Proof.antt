@@ -29,10 +29,16 @@ enum-known-step-4 : tie.Need-enum-known-step-4
 enum-known-step-4 c = search needs
 
 table-size-requires : tie.Need-table-size-requires
-table-size-requires c κs = let t : TableIn (now (c .before .before .before .before .args .file)) _ = subst (StepIn (now (c .before .before .before .before .args .file))) (c .before .step4 .given .1) (c .before .before .before .before .pre) in omega (arith, t .inside)
+table-size-requires c κs =
+    let a = c .before .before .before .before .args in
+    let pre = c .before .before .before .before .pre in
+    let t : TableIn (now (a .file)) _ = subst (StepIn (now (a .file))) (c .before .step4 .given .1) pre in omega (arith, t .inside)
 
 mapped-requires : tie.Need-mapped-requires
-mapped-requires c κs = (subst (StepIn (now (c .before .before .before .before .before .args .file))) (c .before .before .step4 .given .1) (c .before .before .before .before .before .pre), c .table-size .ensures)
+mapped-requires c κs =
+    let a = c .before .before .before .before .before .args in
+    let pre = c .before .before .before .before .before .pre in
+    (subst (StepIn (now (a .file))) (c .before .before .step4 .given .1) pre, c .table-size .ensures)
 
 clip-requires-4 : tie.Need-clip-requires-4
 clip-requires-4 c κs = search needs
@@ -51,7 +57,11 @@ returns-3 c = rw (c .before .before .step3 .given .1) (c .clip3 .ensures)
 
 returns-4 : tie.Need-returns-4
 unfolding appliedOf resultOf hornerOf
-returns-4 c = rw (c .before .before .before .before .step4 .given .1) (c .clip4 .ensures ∙ ap clipOf (c .before .mapped .ensures))
+returns-4 c =
+    let step4 = c .before .before .before .before .step4 in
+    rw (step4 .given .1) (c .clip4 .ensures ∙ ap clipOf (c .before .mapped .ensures))
 
 pub apply-spec : {M : Type 1} → statement M
-apply-spec = tie.close (tie.spec enum-known-step clip-requires enum-known-step-2 clip-requires-2 enum-known-step-3 clip-requires-3 enum-known-step-4 table-size-requires mapped-requires clip-requires-4 returns returns-2 returns-3 returns-4)
+apply-spec =
+    tie.close (tie.spec enum-known-step clip-requires enum-known-step-2 clip-requires-2 enum-known-step-3 clip-requires-3 enum-known-step-4
+        table-size-requires mapped-requires clip-requires-4 returns returns-2 returns-3 returns-4)

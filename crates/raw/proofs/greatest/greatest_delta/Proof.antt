@@ -21,7 +21,8 @@ use Rattle.raw.proofs.greatest.greatest_delta.Tie as tie
 
 abbrev Inv-loop : tie.InvT-loop
 Inv-loop file order deltas n step first times best₀ k₀ best k =
-    Folded (λ (k : ℕ). getD (run file (blacksReading order kind.SignedRational deltas)) (first + step * k) (pos 0)) (timesOf n step first) k (toZ w64 best)
+    Folded (λ (k : ℕ). getD (run file (blacksReading order kind.SignedRational deltas)) (first + step * k) (pos 0)) (timesOf n step first) k
+        (toZ w64 best)
     × (natAbs (toZ w64 best) ≤ 16776960)
 
 abbrev μ-loop : tie.MeasureT-loop
@@ -29,7 +30,9 @@ abbrev μ-loop : tie.MeasureT-loop
 
 -- the k-th delta
 abbrev delta : tie.Start Inv-loop μ-loop → ℕ → ℤ
-delta s k = let a = s .args in getD (run (now (a .file)) (blacksReading (a .order) kind.SignedRational (a .deltas))) (a .first + a .step * k) (pos 0)
+delta s k =
+    let a = s .args in
+    getD (run (now (a .file)) (blacksReading (a .order) kind.SignedRational (a .deltas))) (a .first + a .step * k) (pos 0)
 
 returns : tie.Need-returns Inv-loop μ-loop
 returns c =
@@ -43,7 +46,8 @@ few s = let a = s .args in omega (arith, div-le-self (a .n - 1 - a .first) (a .s
 
 there : (s : tie.Start Inv-loop μ-loop) → let a = s .args in
     0 < a .deltas .count → (k : ℕ) → k < timesOf (a .n) (a .step) (a .first) → a .first + a .step * k < a .deltas .count
-there s some = let a = s .args in delta-inside (now (a .file)) (a .order) (a .deltas) (a .n) (a .step) (a .first) (s .pre .0) some (s .pre .1 .3)
+there s some =
+    let a = s .args in delta-inside (now (a .file)) (a .order) (a .deltas) (a .n) (a .step) (a .first) (s .pre .0) some (s .pre .1 .3)
 
 sub-times : tie.Need-sub-times Inv-loop μ-loop
 sub-times c = search needs
@@ -85,7 +89,9 @@ mul-delta-at : tie.Need-mul-delta-at Inv-loop μ-loop
 mul-delta-at c = omega (arith, place-fits c)
 
 add-delta-at : tie.Need-add-delta-at Inv-loop μ-loop
-add-delta-at c = let h = c .before .before .before .before .before .before .pre .1 in omega (arith, place-fits c, h .0, h .3)
+add-delta-at c =
+    let pre = c .before .before .before .before .before .before .pre in
+    let h = pre .1 in omega (arith, place-fits c, h .0, h .3)
 
 delta-at-requires-2 : tie.Need-delta-at-requires-2 Inv-loop μ-loop
 delta-at-requires-2 c κs =
@@ -104,7 +110,8 @@ loop-less c = search needs
 
 loop-again : tie.Need-loop-again Inv-loop μ-loop
 loop-again c =
-    let l = c .before .before .before .loop in
+    let loop = c .before .before .before .loop in
+    let l = loop in
     let s = c .before .before .before .before .before .before .before .before in
     let n = c .before .delta-at2 in
     let t = c .before .before .loop-test .taken in

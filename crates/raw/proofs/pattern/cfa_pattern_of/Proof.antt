@@ -32,7 +32,9 @@ enum-known-number c = search needs
 
 returns : tie.Need-returns
 unfolding cfaPatternReading
-returns c = bind-refused _ _ _ _ _ (ap valuesOut (sym (c .before .number .given .1)) ∙ c .before .before .before .look-up .ensures .0)
+returns c =
+    let look-up = c .before .before .before .look-up in
+    bind-refused _ _ _ _ _ (ap valuesOut (sym (c .before .number .given .1)) ∙ look-up .ensures .0)
 
 enum-known-v : tie.Need-enum-known-v
 enum-known-v c = search needs
@@ -76,11 +78,14 @@ places-requires c κs = search needs
 returns-2 : tie.Need-returns-2
 unfolding cfaPatternReading
 returns-2 c =
+    let byte = c .before .before .before .before .byte in
+    let byte2 = c .before .before .before .byte2 in
     let k = c .before .before .before .before .before .before in
-    let q = four-bytes _ _ (k .v .given .0 .0) _ _ _ (c .before .before .before .before .byte .ensures .0) (c .before .before .before .byte2 .ensures .0)
+    let q = four-bytes _ _ (k .v .given .0 .0) _ _ _ (byte .ensures .0) (byte2 .ensures .0)
     (c .before .before .byte3 .ensures .0) _ (c .before .byte4 .ensures .0) in
     c .places .ensures ∙ q ∙ sym (bind-is _ _ _ _ (values k .0))
 
 pub cfa-pattern-of-spec : {M : Type 1} → statement M
-cfa-pattern-of-spec = tie.close (tie.spec look-up-requires enum-known-number returns enum-known-v byte-requires cast-a add-byte byte-requires-2 cast-b
+cfa-pattern-of-spec =
+    tie.close (tie.spec look-up-requires enum-known-number returns enum-known-v byte-requires cast-a add-byte byte-requires-2 cast-b
     add-byte-2 byte-requires-3 cast-c add-byte-3 byte-requires-4 cast-d places-requires returns-2)

@@ -18,7 +18,8 @@ colours : (k : tie.After-p) → let a = k .before .before .before .before .befor
     is (k .p .given .0 .0) ≡ run (now (a .file)) (cfaPatternReading (a .ifd))
 colours k = ap patternOut (sym (k .p .given .1)) ∙ k .before .before .cfa-pattern-of .ensures
 
-planes : (k : tie.After-enum-told2) → let a = k .before .before .before .before .before .before .before .before .before .before .before .args in
+planes : (k : tie.After-enum-told2) → let a =
+    k .before .before .before .before .before .before .before .before .before .before .before .args in
     is (k .enum-told2 .given .0 .0) ≡ run (now (a .file)) (planeColorReading (a .ifd))
 planes k = ap numberOut (sym (k .enum-told2 .given .1)) ∙ k .before .before .plane-color-of .ensures
 
@@ -29,7 +30,9 @@ enum-known-number : tie.Need-enum-known-number
 enum-known-number c = search needs
 
 returns : tie.Need-returns
-returns c = pattern-dim _ _ _ _ (ap valuesOut (sym (c .before .number .given .1)) ∙ c .before .before .before .repeat-dim-of .ensures)
+returns c =
+    let repeat-dim-of = c .before .before .before .repeat-dim-of in
+    pattern-dim _ _ _ _ (ap valuesOut (sym (c .before .number .given .1)) ∙ repeat-dim-of .ensures)
 
 enum-told : tie.Need-enum-told
 enum-told c = search needs
@@ -42,7 +45,8 @@ enum-known-number-2 c = search needs
 
 returns-2 : tie.Need-returns-2
 returns-2 c =
-    let e = ap patternOut (sym (c .before .number2 .given .1)) ∙ c .before .before .before .cfa-pattern-of .ensures in
+    let cfa-pattern-of = c .before .before .before .cfa-pattern-of in
+    let e = ap patternOut (sym (c .before .number2 .given .1)) ∙ cfa-pattern-of .ensures in
     pattern-colours _ _ _ (dim (c .before .before .before .before)) _ _ e
 
 enum-known-p : tie.Need-enum-known-p
@@ -56,7 +60,8 @@ enum-known-number-3 c = search needs
 
 returns-3 : tie.Need-returns-3
 returns-3 c =
-    let e = ap numberOut (sym (c .before .number3 .given .1)) ∙ c .before .before .before .plane-color-of .ensures in
+    let plane-color-of = c .before .before .before .plane-color-of in
+    let e = ap numberOut (sym (c .before .number3 .given .1)) ∙ plane-color-of .ensures in
     let p = c .before .before .before .before .before in
     pattern-planes _ _ _ (dim (p .before .before .before)) _ (colours p) _ _ e
 
@@ -71,7 +76,8 @@ enum-known-number-4 c = search needs
 
 returns-4 : tie.Need-returns-4
 returns-4 c =
-    let e = ap numberOut (sym (c .before .number4 .given .1)) ∙ c .before .before .before .cfa-layout-of .ensures in
+    let cfa-layout-of = c .before .before .before .cfa-layout-of in
+    let e = ap numberOut (sym (c .before .number4 .given .1)) ∙ cfa-layout-of .ensures in
     let q = c .before .before .before .before in
     let p = q .before .before .before .before in
     pattern-layout _ _ _ (dim (p .before .before .before)) _ (colours p) _ (planes q) _ _ e
@@ -87,6 +93,8 @@ returns-5 c =
     pattern-is _ _ _ (dim (p .before .before .before)) _ (colours p) _ (planes q) _ e
 
 pub pattern-of-spec : {M : Type 1} → statement M
-pattern-of-spec = tie.close (tie.spec repeat-dim-of-requires enum-known-number returns enum-told cfa-pattern-of-requires enum-known-number-2 returns-2
+pattern-of-spec =
+    tie.close (tie.spec repeat-dim-of-requires enum-known-number returns enum-told cfa-pattern-of-requires enum-known-number-2 returns-2
     enum-known-p
-    plane-color-of-requires enum-known-number-3 returns-3 enum-told-2 cfa-layout-of-requires enum-known-number-4 returns-4 enum-told-3 returns-5)
+    plane-color-of-requires enum-known-number-3 returns-3 enum-told-2 cfa-layout-of-requires enum-known-number-4 returns-4 enum-told-3
+        returns-5)

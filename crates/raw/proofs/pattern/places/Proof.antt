@@ -27,12 +27,13 @@ first-requires-3 c κs = search needs
 
 returns : tie.Need-returns
 returns c =
+    let first = c .before .before .before .first in
     let k = c .before .before .before .before in
     let q = k .before .before in
     let x = sym (q .before .before .before .times .ensures) ∙ q .before .before .if1 .taken in
     let y = sym (q .before .times2 .ensures) ∙ q .if2 .taken in
     let z = sym (k .before .times3 .ensures) ∙ k .if3 .taken in
-    places-are _ _ _ _ x y z _ _ _ _ (c .before .before .before .first .ensures) (c .before .before .first2 .ensures) (c .before .last .ensures)
+    places-are _ _ _ _ x y z _ _ _ _ (first .ensures) (c .before .before .first2 .ensures) (c .before .last .ensures)
     (c .first3 .ensures)
 
 returns-2 : tie.Need-returns-2
@@ -44,12 +45,14 @@ returns-2 c =
 
 returns-3 : tie.Need-returns-3
 returns-3 c =
-    let x = sym (c .before .before .before .times .ensures) ∙ c .before .before .if1 .taken in
+    let times = c .before .before .before .times in
+    let x = sym (times .ensures) ∙ c .before .before .if1 .taken in
     places-greens _ _ _ _ x (λ h. c .if2 .left (c .before .times2 .ensures ∙ h))
 
 returns-4 : tie.Need-returns-4
 returns-4 c = places-reds _ _ _ _ (λ h. c .if1 .left (c .before .times .ensures ∙ h))
 
 pub places-spec : {M : Type 1} → statement M
-places-spec = tie.close (tie.spec times-requires times-requires-2 times-requires-3 first-requires first-requires-2 last-requires first-requires-3
+places-spec =
+    tie.close (tie.spec times-requires times-requires-2 times-requires-3 first-requires first-requires-2 last-requires first-requires-3
     returns returns-2 returns-3 returns-4)

@@ -19,7 +19,9 @@ use Rattle.raw.proofs.pattern.plane_color_of.Tie as tie
 values : (g : tie.After-v) → let a = g .before .before .before .before .args in
     (is (g .v .given .0 .0) ≡ run (now (a .file)) (valuesReading (a .ifd) (optional 50710 kinds.Byte 3)))
     × Placed-values (length (now (a .file))) (optional 50710 kinds.Byte 3) (g .v .given .0 .0)
-values g = let a = g .before .before .before .before .args in looked-up (now (a .file)) (a .ifd) _ (g .v .given .1) (g .before .before .look-up .ensures)
+values g =
+    let a = g .before .before .before .before .args in
+    looked-up (now (a .file)) (a .ifd) _ (g .v .given .1) (g .before .before .look-up .ensures)
 
 inside : (k : tie.Else1) → let g = k .before .before in
     g .v .given .0 .0 .place + 3 ≤ length (now (g .before .before .before .before .args .file))
@@ -33,7 +35,9 @@ enum-known-number c = search needs
 
 returns : tie.Need-returns
 unfolding planeColorReading
-returns c = bind-refused _ _ _ _ _ (ap valuesOut (sym (c .before .number .given .1)) ∙ c .before .before .before .look-up .ensures .0)
+returns c =
+    let look-up = c .before .before .before .look-up in
+    bind-refused _ _ _ _ _ (ap valuesOut (sym (c .before .number .given .1)) ∙ look-up .ensures .0)
 
 enum-known-v : tie.Need-enum-known-v
 enum-known-v c = search needs
@@ -77,11 +81,14 @@ plane-color-requires-2 c κs = search needs
 returns-3 : tie.Need-returns-3
 unfolding planeColorReading
 returns-3 c =
+    let if1 = c .before .before .before .before .if1 in
+    let byte = c .before .before .before .byte in
     let k = c .before .before .before .before .before .before in
-    let q = three-bytes _ _ (k .v .given .0 .0) _ _ _ (c .before .before .before .byte .ensures .0) (c .before .before .byte2 .ensures .0)
-    (c .before .byte3 .ensures .0) (c .before .before .before .before .if1 .left) in
+    let q = three-bytes _ _ (k .v .given .0 .0) _ _ _ (byte .ensures .0) (c .before .before .byte2 .ensures .0)
+    (c .before .byte3 .ensures .0) (if1 .left) in
     c .plane-color2 .ensures ∙ q ∙ sym (bind-is _ _ _ _ (values k .0))
 
 pub plane-color-of-spec : {M : Type 1} → statement M
-plane-color-of-spec = tie.close (tie.spec look-up-requires enum-known-number returns enum-known-v plane-color-requires returns-2 byte-requires cast-a add-byte
+plane-color-of-spec =
+    tie.close (tie.spec look-up-requires enum-known-number returns enum-known-v plane-color-requires returns-2 byte-requires cast-a add-byte
     byte-requires-2 cast-b add-byte-2 byte-requires-3 cast-c plane-color-requires-2 returns-3)

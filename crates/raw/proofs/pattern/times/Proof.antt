@@ -24,10 +24,13 @@ one-requires-4 c κs = search needs
 
 add-result-3 : tie.Need-add-result-3
 add-result-3 c =
-    omega (arith, c .before .before .before .one .ensures .1, c .before .before .one2 .ensures .1, c .before .one3 .ensures .1, c .one4 .ensures .1)
+    let one = c .before .before .before .one in
+    omega (arith, one .ensures .1, c .before .before .one2 .ensures .1, c .before .one3 .ensures .1, c .one4 .ensures .1)
 
 returns : tie.Need-returns
-returns c = rw (c .before .before .before .one .ensures .0, c .before .before .one2 .ensures .0, c .before .one3 .ensures .0, c .one4 .ensures .0) refl
+returns c =
+    let one = c .before .before .before .one in
+    rw (one .ensures .0, c .before .before .one2 .ensures .0, c .before .one3 .ensures .0, c .one4 .ensures .0) refl
 
 pub times-spec : {M : Type 1} → statement M
 times-spec = tie.close (tie.spec one-requires one-requires-2 add-result one-requires-3 add-result-2 one-requires-4 add-result-3 returns)

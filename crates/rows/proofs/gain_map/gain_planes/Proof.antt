@@ -41,27 +41,35 @@ skipped-requires c κs = let h = c .before .before .before .pre .0 in (h .1 .col
 
 first-at-requires : tie.Need-first-at-requires Inv-loop μ-loop
 first-at-requires c κs =
-    let h = c .before .before .before .before .pre .0 in
+    let pre = c .before .before .before .before .pre in
+    let h = pre .0 in
     (h .1 .column-pitch, h .2, h .3, omega (arith, h .1 .some-columns, h .1 .columns, h .0 .columns), h .0 .few)
 
 end-at-requires : tie.Need-end-at-requires Inv-loop μ-loop
-end-at-requires c κs = let h = c .before .before .before .before .before .pre .0 in (omega (arith, h .1 .columns, h .0 .columns), h .0 .few)
+end-at-requires c κs =
+    let pre = c .before .before .before .before .before .pre in
+    let h = pre .0 in (omega (arith, h .1 .columns, h .0 .columns), h .0 .few)
 
 loop-holds : tie.Need-loop-holds Inv-loop μ-loop
 loop-holds c =
-    let h = c .before .before .before .before .before .before .pre .0 in
+    let pre = c .before .before .before .before .before .before .pre in
+    let h = pre .0 in
     (omega arith, omega arith, refl, planes-start _ _ _ _ _ _ _ (h .1 .column-pitch) _)
 
 sub-plane-for : tie.Need-sub-plane-for Inv-loop μ-loop
 sub-plane-for c = omega (arith, c .before .loop .inv .0)
 
 plane-for-requires : tie.Need-plane-for-requires Inv-loop μ-loop
-plane-for-requires c κs = c .before .before .before .before .before .before .before .before .pre .1 .0
+plane-for-requires c κs =
+    let pre = c .before .before .before .before .before .before .before .before .pre in
+    pre .1 .0
 
 add-t24 : tie.Need-add-t24 Inv-loop μ-loop
 add-t24 c =
-    let h = c .before .before .before .before .before .before .before .before .before .pre .0 in
-    let f = c .before .before .before .before .first-at .ensures .1 in
+    let pre = c .before .before .before .before .before .before .before .before .before .pre in
+    let first-at = c .before .before .before .before .first-at in
+    let h = pre .0 in
+    let f = first-at .ensures .1 in
     omega (arith, f, c .before .before .loop .inv .1, h .1 .planes, h .0 .few)
 
 mul-t25 : tie.Need-mul-t25 Inv-loop μ-loop
@@ -94,7 +102,8 @@ sweep-gain-requires c κs =
           skip = k .1;
           inside = λ m o.
               let u = column-below (g .left) (g .right) (g .«column_pitch») _ (h .1 .column-pitch)
-              (hits (g .left) (g .right) (g .«column_pitch») (a .l) (a .size .samples) (v .p) _ m (h .1 .column-pitch) q _ _ _ (k .0) f e o) in
+              (hits (g .left) (g .right) (g .«column_pitch») (a .l) (a .size .samples) (v .p) _ m (h .1 .column-pitch) q _ _ _ (k .0) f e o)
+                  in
               omega (arith, u, h .1 .columns);
         },
         h .0 .columns,
@@ -104,51 +113,53 @@ sweep-gain-requires c κs =
 
 add-p : tie.Need-add-p Inv-loop μ-loop
 add-p c =
+    let loop-test = c .before .before .before .before .before .loop-test in
     let d = c .before .before .before .before .before .before in
     let h = d .before .before .before .before .before .before .before .pre .0 in
-    omega (arith, d .loop .inv .1, h .1 .planes, h .0 .few, c .before .before .before .before .before .loop-test .taken)
+    omega (arith, d .loop .inv .1, h .1 .planes, h .0 .few, loop-test .taken)
 
 loop-less : tie.Need-loop-less Inv-loop μ-loop
-loop-less c = omega (arith, c .before .before .before .before .before .loop-test .taken)
+loop-less c =
+    let loop-test = c .before .before .before .before .before .loop-test in
+    omega (arith, loop-test .taken)
 
 loop-again : tie.Need-loop-again Inv-loop μ-loop
 loop-again c =
+    let loop-test = c .before .before .before .before .before .loop-test in
+    let plane-for = c .before .before .before .before .plane-for in
     let d = c .before .before .before .before .before .before in
     let s = d .before .before .before .before .before .before .before in
     let a = s .args in
     let h = s .pre .0 in
     let g = a .grid in
     let v = d .loop in
-    let t = c .before .before .before .before .before .loop-test .taken in
+    let t = loop-test .taken in
     let w = c .before .before .sweep-gain in
     let e = d .before .end-at in
     let f = d .before .before .first-at in
     let k = d .before .before .before .skipped in
     let step = g .«column_pitch» * a .size .samples in
-    let swept : ℕ → List Float = λ q.
-    sweptOf (f .result + v .p) (e .result) step
-    (λ m x.
-    let j = k .result + (m - (f .result + v .p)) / step in
-    timesGain (now (a .ps)) (a .down) q (a .size .columns) (g .left + j * g .«column_pitch») x) (v .out) in (
-      omega (arith, v .inv .0),
-      omega (arith, t),
-      w .kept .1 .1 .1 .1 .1 .1 .0 ∙ v .inv .2,
-      planes-next (gainLine (now (a .ps)) (a .size) g (a .down)) _ _ _ _ _ _ (h .1 .column-pitch) (v .p) _ _ _ _ (now (a .out)) (v .out) _ (k .ensures .0)
-          (f .ensures .0) (e .ensures) (v .inv .0) (omega (arith, h .1 .planes, t)) refl (v .inv .3)
-          (w .ensures ∙ ap swept (c .before .before .before .before .plane-for .ensures .0)),
-    )
+    let swept : ℕ → List Float = λ q. sweptOf (f .result + v .p) (e .result) step
+        (λ m x. let j = k .result + (m - (f .result + v .p)) / step in timesGain (now (a .ps)) (a .down) q (a .size .columns)
+        (g .left + j * g .«column_pitch») x) (v .out) in
+    ( omega (arith, v .inv .0), omega (arith, t), w .kept .1 .1 .1 .1 .1 .1 .0 ∙ v .inv .2,
+        planes-next (gainLine (now (a .ps)) (a .size) g (a .down)) _ _ _ _ _ _ (h .1 .column-pitch) (v .p) _ _ _ _ (now (a .out)) (v .out) _
+        (k .ensures .0) (f .ensures .0) (e .ensures) (v .inv .0) (omega (arith, h .1 .planes, t)) refl (v .inv .3)
+        (w .ensures ∙ ap swept (plane-for .ensures .0)), )
 
 same-length : tie.Need-same-length Inv-loop μ-loop
 same-length c = c .before .loop .inv .2
 
 returns : tie.Need-returns Inv-loop μ-loop
 returns c =
-    let a = c .before .before .before .before .before .before .before .before .args in
+    let args = c .before .before .before .before .before .before .before .before .args in
+    let a = args in
     let g = a .grid in
     let v = c .before .loop in
     let e : v .p ≡ g .plane + g .planes = omega (arith, v .inv .1, c .loop-test .left) in
     let R = gainLine (now (a .ps)) (a .size) g (a .down) in
-    subst (λ (q : ℕ). v .out ≡ planesOf R (g .left) (g .right) (g .«column_pitch») (a .l) (a .size .samples) (g .plane) q (now (a .out))) e (v .inv .3)
+    subst (λ (q : ℕ). v .out ≡ planesOf R (g .left) (g .right) (g .«column_pitch») (a .l) (a .size .samples) (g .plane) q (now (a .out))) e
+        (v .inv .3)
 
 pub gain-planes-spec : {M : Type 1} → statement M
 gain-planes-spec =

@@ -24,7 +24,8 @@ abbrev μ-loop : tie.MeasureT-loop
 μ-loop file order tags column q out₀ rows r₀ a₀ out r a = rows - r
 
 -- a row of the repeat has its place
-inside : (s : tie.Start Inv-loop μ-loop) (r : ℕ) → r < s .args .tags .levels .repeat .rows → r * s .args .q + s .args .q ≤ length (now (s .args .out))
+inside : (s : tie.Start Inv-loop μ-loop) (r : ℕ) → r < s .args .tags .levels .repeat .rows →
+    r * s .args .q + s .args .q ≤ length (now (s .args .out))
 inside s r h =
     let n : (r + 1) * s .args .q ≤ s .args .tags .levels .repeat .rows * s .args .q = mul-le-mul-right (s .args .q) (omega arith) in
     omega (arith, add-mul r 1 (s .args .q), s .pre .4)
@@ -73,18 +74,17 @@ loop-less c = search needs
 
 loop-again : tie.Need-loop-again Inv-loop μ-loop
 loop-again c =
+    let loop = c .before .before .before .before .before .loop in
+    let loop-test = c .before .before .before .before .loop-test in
+    let cells-row = c .before .before .cells-row in
     let s = c .before .before .before .before .before .before .before .before in
-    let l = c .before .before .before .before .before .loop in
+    let l = loop in
     let v = run (now (s .args .file)) (levelsReading (s .args .order) (s .args .tags)) in
-    let i : l .r * s .args .q + s .args .q ≤ length (now (s .args .out)) = inside s (l .r)
-    (omega (arith, c .before .before .before .before .loop-test .taken)) in (
-      search needs,
-      omega (arith, c .before .before .before .before .loop-test .taken),
-      omega (arith, add-mul (l .r) 1 (s .args .q), l .inv .2),
-      rows-more nan (λ r k. ofParts (cellAlong v (s .args .tags .frame .samples) r (s .args .column .0) k)) (s .args .q) (l .r) (l .a) (l .out)
-          (c .before .before .cells-row .last .1 .1 .1 .1 .1 .0) (l .inv .2) (omega (arith, i, l .inv .2, l .inv .0)) (search needs) (l .inv .3)
-          (λ k b. c .before .before .cells-row .ensures k (search needs)),
-    )
+    let i : l .r * s .args .q + s .args .q ≤ length (now (s .args .out)) = inside s (l .r) (omega (arith, loop-test .taken)) in
+    ( search needs, omega (arith, loop-test .taken), omega (arith, add-mul (l .r) 1 (s .args .q), l .inv .2),
+        rows-more nan (λ r k. ofParts (cellAlong v (s .args .tags .frame .samples) r (s .args .column .0) k)) (s .args .q) (l .r) (l .a)
+        (l .out) (cells-row .last .1 .1 .1 .1 .1 .0) (l .inv .2) (omega (arith, i, l .inv .2, l .inv .0)) (search needs) (l .inv .3)
+        (λ k b. cells-row .ensures k (search needs)), )
 
 same-length : tie.Need-same-length Inv-loop μ-loop
 same-length c = search needs

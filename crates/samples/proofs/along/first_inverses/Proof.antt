@@ -19,7 +19,8 @@ use Rattle.samples.proofs.along.first_inverses.Statement.{statement}
 use Rattle.samples.proofs.along.first_inverses.Tie as tie
 
 abbrev Inv-loop : tie.InvT-loop
-Inv-loop file out₀ spans i₀ out i = (length out ≡ length out₀) × (i ≤ length out₀) × Filled nan (λ (k : ℕ). inverseOf (spanAt spans k)) i out
+Inv-loop file out₀ spans i₀ out i =
+    (length out ≡ length out₀) × (i ≤ length out₀) × Filled nan (λ (k : ℕ). inverseOf (spanAt spans k)) i out
 
 abbrev μ-loop : tie.MeasureT-loop
 μ-loop file out₀ spans i₀ out i = length out₀ - i
@@ -51,8 +52,9 @@ loop-less c = search needs
 
 loop-again : tie.Need-loop-again Inv-loop μ-loop
 loop-again c =
+    let loop = c .before .before .before .loop in
     let a = c .before .before .before .before .before .before .before in
-    let l = c .before .before .before .loop in
+    let l = loop in
     let h : l .i < length (now (a .args .out)) = omega (arith, c .before .before .loop-test .taken, l .inv .0) in
     let z = c .before .span-at in
     let s = a .pre .0 .spans (l .i) (omega (arith, a .pre .1)) in

@@ -1,5 +1,6 @@
 use Prim.Native.Nat.{ℕ, _+_, _*_, _/_, _≤_, min}
-use native.Mathlib.Nat.{mul-le-mul, mul-pos, mul-mod-left, le-div-iff-mul-le, div-mul-le-self, mul-comm, mul-le-mul-left, le-trans, le-of-eq}
+use native.Mathlib.Nat.{mul-le-mul, mul-pos, mul-mod-left, le-div-iff-mul-le, div-mul-le-self, mul-comm, mul-le-mul-left, le-trans}
+use native.Mathlib.Nat.{le-of-eq}
 use native.Mathlib.Omega.{arith}
 use borrow.Author.Needs.{needs}
 use Rattle.samples.proofs.along.piece.Statement.{statement}

@@ -14,7 +14,8 @@ use Rattle.samples.proofs.line.fill_numbers.Tie as tie
 abbrev Inv-loop : tie.InvT-loop
 Inv-loop file out₀ order bytes place table count i₀ out i =
     (length out ≡ length out₀) × (i ≤ length out₀)
-    × ((down : Float) → Filled 0 (numberAt file (record { order = order; bytes = bytes; place = place; table = table; count = count; down = down })) i out)
+    × ((down : Float) → Filled 0 (numberAt file
+        (record { order = order; bytes = bytes; place = place; table = table; count = count; down = down })) i out)
 
 abbrev μ-loop : tie.MeasureT-loop
 μ-loop file out₀ order bytes place table count i₀ out i = length out₀ - i
@@ -28,7 +29,9 @@ stored-at-requires c κs =
     (a .pre .inside (c .before .loop .i) (omega (arith, c .loop-test .taken, c .before .loop .inv .0)), a .pre .some, a .pre .few)
 
 through-requires : tie.Need-through-requires Inv-loop μ-loop
-through-requires c κs = c .before .before .before .before .before .pre .table
+through-requires c κs =
+    let pre = c .before .before .before .before .before .pre in
+    pre .table
 
 mul-out : tie.Need-mul-out Inv-loop μ-loop
 mul-out c = search needs
@@ -44,13 +47,15 @@ loop-less c = search needs
 
 loop-again : tie.Need-loop-again Inv-loop μ-loop
 loop-again c =
+    let loop = c .before .before .before .loop in
+    let loop-test = c .before .before .loop-test in
     let a = c .before .before .before .before .before .before in
-    let l = c .before .before .before .loop in
+    let l = loop in
     let t = tableOf (a .args .line .order) (now (a .args .file)) (a .args .line .table) (a .args .line .count) in
     let v = c .through in (
       search needs,
-      omega (arith, c .before .before .loop-test .taken, l .inv .0),
-      λ down. filled-more 0 _ (l .i) (l .out) (v .result) (omega (arith, c .before .before .loop-test .taken)) (l .inv .2 down)
+      omega (arith, loop-test .taken, l .inv .0),
+      λ down. filled-more 0 _ (l .i) (l .out) (v .result) (omega (arith, loop-test .taken)) (l .inv .2 down)
           (v .ensures ∙ ap (throughOf t) (c .before .stored-at .ensures)),
     )
 

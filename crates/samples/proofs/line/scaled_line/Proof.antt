@@ -29,8 +29,9 @@ scaled-by-numbers-requires-2 c κs = search needs
 
 scaled-shorts-requires : tie.Need-scaled-shorts-requires
 scaled-shorts-requires c κs =
+    let if1 = c .before .before .before .if1 in
     let s = c .before .before .before .before .before .before .before .before .before in
-    ((s .pre .0 .0, two (s .args .line) (now (s .args .file)) _ (s .pre .0 .0) (c .before .if2 .left), c .before .before .before .if1 .left), s .pre .1)
+    ((s .pre .0 .0, two (s .args .line) (now (s .args .file)) _ (s .pre .0 .0) (c .before .if2 .left), if1 .left), s .pre .1)
 
 same-length-2 : tie.Need-same-length-2
 same-length-2 c = search needs

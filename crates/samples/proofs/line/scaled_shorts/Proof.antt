@@ -14,13 +14,15 @@ use Rattle.samples.proofs.line.scaled_shorts.Tie as tie
 abbrev Inv-loop : tie.InvT-loop
 Inv-loop file blacks inverses out₀ order place down i₀ out i =
     (length out ≡ length out₀) × (i ≤ length out₀)
-    × ((black span : ℕ → ℤ) → Levelled black span blacks inverses down (length out₀) → Filled nan (plainValue file order 2 place black span) i out)
+    × ((black span : ℕ → ℤ) → Levelled black span blacks inverses down (length out₀) →
+        Filled nan (plainValue file order 2 place black span) i out)
 
 abbrev μ-loop : tie.MeasureT-loop
 μ-loop file blacks inverses out₀ order place down i₀ out i = length out₀ - i
 
 -- the i-th sample lies in the file
-inside : (s : tie.Start Inv-loop μ-loop) (i : ℕ) → i < length (now (s .args .out)) → s .args .line .place + 2 * i + 2 ≤ length (now (s .args .file))
+inside : (s : tie.Start Inv-loop μ-loop) (i : ℕ) → i < length (now (s .args .out)) →
+    s .args .line .place + 2 * i + 2 ≤ length (now (s .args .file))
 inside s i h = plain-inside (now (s .args .file)) (s .args .line) (length (now (s .args .out))) 2 i (s .pre .0 .0) (s .pre .0 .1) h
 
 loop-holds : tie.Need-loop-holds Inv-loop μ-loop
@@ -73,18 +75,18 @@ loop-less c = search needs
 
 loop-again : tie.Need-loop-again Inv-loop μ-loop
 loop-again c =
+    let loop = c .before .before .before .before .before .loop in
+    let loop-test = c .before .before .before .before .loop-test in
+    let short = c .before .before .before .short in
     let s = c .before .before .before .before .before .before .before .before .before .before in
-    let l = c .before .before .before .before .before .loop in
+    let l = loop in
     let i = l .i in
-    let h : i < length (now (s .args .out)) = omega (arith, c .before .before .before .before .loop-test .taken, l .inv .0) in (
-      search needs,
-      omega arith,
-      λ black span w.
-          filled-more nan (plainValue (now (s .args .file)) (s .args .line .order) 2 (s .args .line .place) black span) i (l .out) _ (omega (arith, l .inv .0))
-          (l .inv .2 black span w)
-          (c .scaled-by .ensures (black i) (span i) (w .black-is i h) (w .inverse-is i h)
-          ∙ plain-is (now (s .args .file)) (s .args .line .order) 2 (s .args .line .place) black span i _ (c .before .before .before .short .ensures)),
-    )
+    let h : i < length (now (s .args .out)) = omega (arith, loop-test .taken, l .inv .0) in
+    ( search needs, omega arith, λ black span w. filled-more nan
+        (plainValue (now (s .args .file)) (s .args .line .order) 2 (s .args .line .place) black span) i (l .out) _
+        (omega (arith, l .inv .0)) (l .inv .2 black span w)
+        (c .scaled-by .ensures (black i) (span i) (w .black-is i h) (w .inverse-is i h)
+        ∙ plain-is (now (s .args .file)) (s .args .line .order) 2 (s .args .line .place) black span i _ (short .ensures)), )
 
 same-length : tie.Need-same-length Inv-loop μ-loop
 same-length c = search needs

@@ -33,12 +33,15 @@ short-requires c κs = let s = c .before .before in omega (arith, inside s 2 (tw
 
 returns : tie.Need-returns
 returns c =
-    let a = c .before .before .before .args in
+    let args = c .before .before .before .args in
+    let a = args in
     let e : a .place + a .i ≡ a .place + 1 * a .i = omega arith in
     rw (c .before .if1 .taken) (c .byte .ensures .0 ∙ ap (λ (n : ℕ). numberOf (a .order) (part (now (a .file)) n 1)) e)
 
 returns-2 : tie.Need-returns-2
-returns-2 c = let e : c .before .before .before .args .bytes ≡ 2 = two (c .before .before .before) (c .before .if1 .left) in rw e (c .short .ensures)
+returns-2 c =
+    let a = c .before .before .before .args in
+    let e : a .bytes ≡ 2 = two (c .before .before .before) (c .before .if1 .left) in rw e (c .short .ensures)
 
 pub stored-at-spec : {M : Type 1} → statement M
 stored-at-spec = tie.close (tie.spec add-byte byte-requires mul-short add-short short-requires returns returns-2)

@@ -40,13 +40,15 @@ shared-slice-copy-out-number-of c = search needs
 
 cast-number-of : tie.Need-cast-number-of Inv-loop μ-loop
 cast-number-of c =
+    let loop = c .before .before .before .loop in
     let a = c .before .before .before .before .before .before in
-    sfits64-of32 (getD (now (a .args .deltas)) (a .args .at + c .before .before .before .loop .i) (pos 0)) (a .pre .2 _)
+    sfits64-of32 (getD (now (a .args .deltas)) (a .args .at + loop .i) (pos 0)) (a .pre .2 _)
 
 number-of-requires : tie.Need-number-of-requires Inv-loop μ-loop
 number-of-requires c κs =
+    let loop = c .before .before .before .loop in
     let a = c .before .before .before .before .before .before in
-    let k = a .args .at + c .before .before .before .loop .i in
+    let k = a .args .at + loop .i in
     rw (held-long (getD (now (a .args .deltas)) k (pos 0)) (a .pre .2 k)) (omega (arith, a .pre .2 k))
 
 mul-out-2 : tie.Need-mul-out-2 Inv-loop μ-loop
@@ -63,9 +65,11 @@ loop-less c = search needs
 
 loop-again : tie.Need-loop-again Inv-loop μ-loop
 loop-again c =
+    let loop = c .before .before .before .before .loop in
+    let loop-test = c .before .before .before .loop-test in
     let a = c .before .before .before .before .before .before .before in
-    let l = c .before .before .before .before .loop in
-    let h : l .i < length (now (a .args .out)) = omega (arith, c .before .before .before .loop-test .taken, l .inv .0) in
+    let l = loop in
+    let h : l .i < length (now (a .args .out)) = omega (arith, loop-test .taken, l .inv .0) in
     let z : ℤ = getD (now (a .args .deltas)) (a .args .at + l .i) (pos 0) in (
       search needs,
       omega arith,

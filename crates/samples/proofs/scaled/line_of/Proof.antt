@@ -46,6 +46,8 @@ number-of-requires c κs = let h = c .before .delta-at .ensures .1 in rw (back (
 
 returns : tie.Need-returns
 returns c =
+    let stored-row = c .before .before .before .before .stored-row in
+    let stored-column = c .before .before .before .stored-column in
     let s = c .before .before .before .before .before .before .before .before .before .before in
     let f = now (s .args .file) in
     let t = s .args .raw .tags in
@@ -57,7 +59,7 @@ returns c =
       bytes = refl;
       place =
           c .before .place-of .ensures .0
-          ∙ (λ i. placeOf t o (c .before .before .before .before .stored-row .ensures i) (c .before .before .before .stored-column .ensures i) 0);
+          ∙ (λ i. placeOf t o (stored-row .ensures i) (stored-column .ensures i) 0);
       table = refl;
       count = refl;
       down = record {
@@ -67,4 +69,5 @@ returns c =
     }
 
 pub line-of-spec : {M : Type 1} → statement M
-line-of-spec = tie.close (tie.spec stored-row-requires stored-column-requires delta-at-requires place-of-requires number-of-requires returns)
+line-of-spec =
+    tie.close (tie.spec stored-row-requires stored-column-requires delta-at-requires place-of-requires number-of-requires returns)
