@@ -179,6 +179,11 @@ number-or-fraction k e =
     (λ h. inr (⊎-elim (λ q. inl (long-code k q)) (λ q. inr (other-code k 5 tt (one-key 5 _ q))) (more-keys 4 (5 ∷ []) (plainOf k) h)))
     (more-keys 3 (4 ∷ 5 ∷ []) (plainOf k) e)
 
+-- SHORT or RATIONAL
+pub short-or-fraction : (k : Kind) → allowsOf kinds.ShortOrRational k ≡ true → (codeOf k ≡ 3) ⊎ (codeOf k ≡ 5)
+short-or-fraction k e =
+    ⊎-elim (λ h. inl (other-code k 3 tt h)) (λ h. inr (other-code k 5 tt (one-key 5 _ h))) (more-keys 3 (5 ∷ []) (plainOf k) e)
+
 -- the bytes of one value of a type that is allowed
 pub size-in : (ks : Kinds) (k : Kind) → allowsOf ks k ≡ true → SizeIn ks (sizeOf k)
 size-in kinds.Byte k e = only k 1 tt (one-key 1 _ e)
