@@ -3,18 +3,17 @@
 use mathlib.Core.Path.{_≡_, refl, sym, subst, _∙_}
 use mathlib.Core.Bool.{Bool, true, false}
 use mathlib.Core.List.{List}
-use Prim.Native.Nat.{ℕ, zero, suc, _+_, _*_, _≤_, _<_}
+use Prim.Native.Nat.{ℕ, zero, suc, _+_, _*_, _≤_}
 use native.Mathlib.Nat.{mul-suc}
 use native.Mathlib.Omega.{arith}
 use lib.Dec.{eqb, leb, ltb}
 use lib.ListN.{length}
 use borrow.Author.Tests.{eqb-true, eqb-false, leb-true, leb-false, ltb-false}
 use Rattle.reading.specs.Bytes.{part}
-use Rattle.reading.specs.Number.{numberOf}
 use Rattle.reading.specs.Reading.{Reading, Reading.answer, run, pick, numberAt}
 use Rattle.reading.specs.declared.number.Order.{Order}
 use Rattle.reading.specs.declared.number.Order.the-variants.{Little, Big}
-use Rattle.reading.proofs.Reading.{run-answer, run-ask, run-andThen, run-number, pick-yes, pick-no}
+use Rattle.reading.proofs.Reading.{run-answer, run-ask, run-andThen}
 use Rattle.directory.specs.Out.{Out, Out.refused, Out.is}
 use Rattle.directory.specs.Widths.{headWidth, entryWidth, classic, bigTiff, Laid}
 use Rattle.directory.specs.Entry.{bytesOf, headerOf}
@@ -35,24 +34,24 @@ use Rattle.directory.specs.declared.tag.Values.{Values}
 use Rattle.directory.specs.declared.tree.Roots.{Roots}
 use Rattle.directory.proofs.Outs.{bind-inverse, not-refused, same-value}
 use Rattle.directory.proofs.Tags.{find-none, find-here, find-later, PlacedIn, found-placed, values-found, absent-in}
-use Rattle.directory.proofs.Tags.{kind-wrong, count-low, count-high, in-entry, elsewhere, inside-entry, inside-file}
+use Rattle.directory.proofs.Tags.{in-entry, elsewhere, inside-entry, inside-file}
 use Rattle.directory.proofs.Tags.{judged-is, judged-bad, first-default, first-is}
 use Rattle.directory.proofs.Trees.{classic-laid, big-tiff-laid}
 
 -- ---- a test that refuses
 module _ {A : Type 0} (f : List ℕ) (p : Reading (Out A)) (n d : ℕ) (v : A) where
-  pub passed : (b : Bool) → is v ≡ run f (pick b p (answer (refused n d))) → (b ≡ true) × (is v ≡ run f p)
+  passed : (b : Bool) → is v ≡ run f (pick b p (answer (refused n d))) → (b ≡ true) × (is v ≡ run f p)
   unfolding pick
   passed true e = (refl, e)
   passed false e = absurd (not-refused v n d (e ∙ run-answer f _))
 
-  pub not-stopped : (b : Bool) → is v ≡ run f (pick b (answer (refused n d)) p) → (b ≡ false) × (is v ≡ run f p)
+  not-stopped : (b : Bool) → is v ≡ run f (pick b (answer (refused n d)) p) → (b ≡ false) × (is v ≡ run f p)
   unfolding pick
   not-stopped true e = absurd (not-refused v n d (e ∙ run-answer f _))
   not-stopped false e = (refl, e)
 
 -- one way or the other
-pub either : {A : Type 0} {C : Type 0} (f : List ℕ) (p q : Reading A) (v : A) (b : Bool) → (v ≡ run f p → C) → (v ≡ run f q → C) →
+either : {A : Type 0} {C : Type 0} (f : List ℕ) (p q : Reading A) (v : A) (b : Bool) → (v ≡ run f p → C) → (v ≡ run f q → C) →
     v ≡ run f (pick b p q) → C
 unfolding pick
 either f p q v true x y e = x e

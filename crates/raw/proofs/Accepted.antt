@@ -33,7 +33,7 @@ use Rattle.raw.proofs.Strip.{strip-in}
 
 module _ (f : List ℕ) (d : Ifd) where
   -- a strip has a row
-  layout-rows : (s : ℕ) (l : Layout) → is l ≡ run f (layoutReading d s) → 1 ≤ l .rows
+  pub layout-rows : (s : ℕ) (l : Layout) → is l ≡ run f (layoutReading d s) → 1 ≤ l .rows
   unfolding layoutReading stripRowsReading
   layout-rows s l e =
       let a = bind-inverse f (depthReading d s) _ l e in
@@ -47,7 +47,7 @@ module _ (f : List ℕ) (d : Ifd) where
       rw q (one-in f d _ _ _ (r .0) (r .1) .legal)
 
   module _ (t : Tested f d) where
-    strips-accepted : (fr : Frame) (l : Layout) (v : Values) → is v ≡ run f (stripsReading (length f) d fr l) →
+    pub strips-accepted : (fr : Frame) (l : Layout) (v : Values) → is v ≡ run f (stripsReading (length f) d fr l) →
         Strips-in f (d .order) fr l v
     unfolding stripsReading
     strips-accepted fr l v e =
@@ -66,7 +66,7 @@ module _ (f : List ℕ) (d : Ifd) where
               n i (os .place) (cs .place) (fr .length) (s .1) h;
         })
 
-    list-accepted : (v : Values) → is v ≡ run f (listReading d) → Placed-values (length f) listRule v
+    pub list-accepted : (v : Values) → is v ≡ run f (listReading d) → Placed-values (length f) listRule v
     unfolding listReading
     list-accepted v e =
         let a = bind-inverse f (notCarried d 51008) _ v e in
