@@ -72,7 +72,7 @@ joined-length g m e i (suc n) =
 module _ (row : ℕ → List (List Float)) (m : ℕ) (e : (r : ℕ) → length (joined (row r)) ≡ m) where
   lines-rows :
       (h t k : ℕ) → linesText m h (joined (runOf (λ (r : ℕ). joined (row r)) 1 t h)) ++ rowsText (runOf row 1 (t + h) k) ≡ rowsText
-          (runOf row 1 t (h + k))
+      (runOf row 1 t (h + k))
   unfolding runOf linesText
   lines-rows zero t k =
       let a : t + 0 ≡ t = omega arith in
@@ -155,7 +155,7 @@ module _ (f : List ℕ) (z : Size) (q : Listed f z) (t h : ℕ) (old : List Floa
   pub block-values :
       1 ≤ h → t + h ≤ z .rows → length old ≡ h * (z .columns * z .samples) → (a : Answer) (new : List Float)
       → windowWith a new ≡ windowCall f t 0 h (z .columns) old →
-          new ≡ valuesOf (aloneIn f file) t 0 h (sizeOf (file .picture) .columns) (sizeOf (file .picture) .samples)
+      new ≡ valuesOf (aloneIn f file) t 0 h (sizeOf (file .picture) .columns) (sizeOf (file .picture) .samples)
   block-values s b n a new e =
       let zf : Size = sizeOf (file .picture) in
       let zr : z .rows ≡ zf .rows = ap (λ (y : Size). y .rows) (q .size) in
@@ -164,13 +164,13 @@ module _ (f : List ℕ) (z : Size) (q : Listed f z) (t h : ℕ) (old : List Floa
       let x : ℕ → ℕ → ℕ → Float = standing (frameOf f file) in
       let r : spansRows zf t 0 h (zf .columns) ≡ true = rw (le-leb 1 h s, le-leb (t + h) (zf .rows) (omega arith)) refl in
       let c : spansColumns zf t 0 h (zf .columns) ≡ true = rw
-          (le-leb 1 (zf .columns) (omega (arith, q .some-columns)), le-leb (0 + zf .columns) (zf .columns) (omega arith)) refl in
+      (le-leb 1 (zf .columns) (omega (arith, q .some-columns)), le-leb (0 + zf .columns) (zf .columns) (omega arith)) refl in
       let m : length old ≡ h * zf .columns * zf .samples = n ∙ ap (λ (y : Size). h * (y .columns * y .samples)) (q .size)
-          ∙ sym (mul-assoc h (zf .columns) (zf .samples)) in
+      ∙ sym (mul-assoc h (zf .columns) (zf .samples)) in
       let g = fault-none zf t 0 h (zf .columns) (zf .samples) (length old) r c m in
       let d : windowWith a new ≡ windowWith (record { number = 0; detail = 0 }) (valuesOf x t 0 h (zf .columns) (zf .samples)) =
       e ∙ ap (λ (y : Size). windowOf f t 0 h (y .columns) old (opened f)) (q .size)
-          ∙ ap (windowOf f t 0 h (zf .columns) old) (sym (q .accepted))
+      ∙ ap (windowOf f t 0 h (zf .columns) old) (sym (q .accepted))
       ∙ sym (filled-none zf t 0 h (zf .columns) (zf .samples) old x (valuesOf x t 0 h (zf .columns) (zf .samples)) g refl) in
       ap (λ (w : Window). w .slice) d
       ∙ values-same _ _ t 0 h (zf .columns) (zf .samples) (λ i j k u v y w l.
@@ -189,7 +189,7 @@ module _ (f : List ℕ) (z : Size) (q : Listed f z) (t h : ℕ) (old : List Floa
       let k : t + h ≤ sizeOf (file .picture) .rows = subst (λ (y : Size). t + h ≤ y .rows) (q .size) b in
       ap (λ (y : Size). linesText (y .columns * y .samples) h new ++ bodyText f (t + h) (listedOf f)) (q .size)
       ∙ ap (λ (y : Out Opened). linesText (sizeOf (file .picture) .columns * sizeOf (file .picture) .samples) h new ++ bodyText f (t + h) y)
-          (sym (q .listed))
+      (sym (q .listed))
       ∙ body-next f file t h k new (block-values s b n a new e)
       ∙ ap (λ (y : Out Opened). bodyText f t y) (q .listed)
 
@@ -220,7 +220,7 @@ module _ (f : List ℕ) where
   pub headed-refused :
       (n d : ℕ) → refused n d ≡ listedOf f → (h : First) (text : List ℕ)
       → (h .length ≤ length text) × (take (h .length) text ≡ refusedText n d) × (h .size .rows ≡ 0) × (h .opening ≡ opening.Refused n d) →
-          Headed f h text
+      Headed f h text
   headed-refused n d e h text p =
       record {
         inside = p .0;

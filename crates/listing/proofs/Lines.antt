@@ -125,8 +125,14 @@ pub record Lines (xs : List Float) (m h : ℕ) (old : List ℕ) (i a : ℕ) (tex
 
 module _ (xs : List Float) (m h : ℕ) (old : List ℕ) where
   pub lines-start : Lines xs m h old 0 0 old 0
-  lines-start = record { most = omega arith; values = sym (zero-mul m); place = refl; same = refl; lines = ap (λ (j : ℕ). linesText m j xs)
-      (sub-zero h) }
+  lines-start = record {
+    most = omega arith;
+    values = sym (zero-mul m);
+    place = refl;
+    same = refl;
+    lines = ap (λ (j : ℕ). linesText m j xs)
+        (sub-zero h);
+  }
 
   -- the next line's values, and those that are put
   pub lines-inside : (i a : ℕ) (text : List ℕ) (end : ℕ) → Lines xs m h old i a text end → length xs ≡ h * m → i < h → a + m ≤ length xs
@@ -144,7 +150,7 @@ module _ (xs : List Float) (m h : ℕ) (old : List ℕ) where
       let g = lines-inside i a text end l n b in
       let k : length (take w (drop a xs)) ≡ m = simp (ew, length-take, length-drop) (omega arith) in
       let ln : length (valuesText (take w (drop a xs))) ≡ 17 * length (take w (drop a xs)) = line-length (take w (drop a xs)) (omega arith)
-          in
+      in
       let r : h - i ≡ suc (h - (i + 1)) = omega arith in
       let d : drop m (drop a xs) ≡ drop e xs = drop-drop m a xs ∙ ap (λ (j : ℕ). drop j xs) (sym ea) in
       let line = valuesText (take w (drop a xs)) in

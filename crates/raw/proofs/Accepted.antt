@@ -57,8 +57,8 @@ module _ (f : List ℕ) (d : Ifd) where
         let cs : Values = b .0 in
         let n : ℕ = stripCount fr l in
         let s = bind-inverse f
-            (stripFrom (length f) (d .order) (os .size) (cs .size) (l .rows) (rowBytes fr l) n (os .place) (cs .place) (fr .length))
-            _ v (b .2) in
+        (stripFrom (length f) (d .order) (os .size) (cs .size) (l .rows) (rowBytes fr l) n (os .place) (cs .place) (fr .length))
+        _ v (b .2) in
         subst (Strips-in f (d .order) fr l) (sym (same-value v os (s .2 ∙ run-answer f _)))
         (record {
           placed = values-placed f (offsetsRule fr l) os d t (a .1);

@@ -19,8 +19,7 @@ same-length c = search needs
 
 returns : tie.Need-returns
 returns c =
-    let colour-window = c .before .before .before .colour-window in
-    let e = colour-window .ensures in
+    let e = c .before .before .before .colour-window .ensures in
     (c .packed .ensures ∙ both (ap (λ (s : Window). s .number) e) (ap (λ (s : Window). s .detail) e), ap (λ (s : Window). s .slice) e)
 
 pub dng-colour-window-spec : {M : Type 1} → statement M

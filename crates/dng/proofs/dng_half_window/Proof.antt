@@ -16,8 +16,7 @@ same-length c = search needs
 
 returns : tie.Need-returns
 returns c =
-    let half-window = c .before .before .before .half-window in
-    let e = half-window .ensures in
+    let e = c .before .before .before .half-window .ensures in
     (c .packed .ensures ∙ both (ap (λ (s : Window). s .number) e) (ap (λ (s : Window). s .detail) e), ap (λ (s : Window). s .slice) e)
 
 pub dng-half-window-spec : {M : Type 1} → statement M

@@ -14,7 +14,7 @@ packed-requires c κs = search needs
 returns : tie.Need-returns
 returns c =
     c .packed .ensures ∙ both (ap (λ (s : SpotAnswer). s .number) (c .before .spot .ensures))
-        (ap (λ (s : SpotAnswer). s .detail) (c .before .spot .ensures))
+    (ap (λ (s : SpotAnswer). s .detail) (c .before .spot .ensures))
 
 pub dng-spot-spec : {M : Type 1} → statement M
 dng-spot-spec = tie.close (tie.spec spot-requires packed-requires returns)

@@ -19,8 +19,7 @@ same-length c = search needs
 
 returns : tie.Need-returns
 returns c =
-    let window = c .before .before .before .window in
-    let e = window .ensures in
+    let e = c .before .before .before .window .ensures in
     (c .packed .ensures ∙ both (ap (λ (s : Window). s .number) e) (ap (λ (s : Window). s .detail) e), ap (λ (s : Window). s .slice) e)
 
 pub dng-window-spec : {M : Type 1} → statement M

@@ -23,8 +23,7 @@ block-requires c κs =
 
 put-rows-requires : tie.Need-put-rows-requires Inv-loop μ-loop
 put-rows-requires c κs =
-    let loop = c .before .before .before .before .before .loop in
-    let v = loop in
+    let v = c .before .before .before .before .before .loop in
     let s = c .before .before .before .before .before .before .before .before .before .before in
     ((omega (arith, v .inv .0, s .pre .0), omega (arith, v .inv .1, s .pre .1), s .pre .2, s .pre .3), c .before .before .block .ensures)
 
