@@ -165,6 +165,16 @@ half-inverse f p m e = go (eqb (p .raw .tags .frame .samples) 1) refl
         (eqb-true _ _ t, rw v (pattern-below f (p .directory) (q .0) (q .1)))
     go false t = absurd (not-refused m 15 0 (e ∙ sym (half-not f p (eqb-false _ _ t))))
 
+-- the colour of a whole block, from samples each worked out alone
+pub block-alone :
+    (f : List ℕ) (o : Opened) (m : Half) → is m ≡ run f (halfFor (o .picture)) →
+    (i j : ℕ) → i < blocksOf (sizeOf (o .picture)) .rows → j < blocksOf (sizeOf (o .picture)) .columns → (k : ℕ) →
+    blockIn m (developedIn f o) i j k ≡ blockIn m (aloneIn f o) i j k
+block-alone f o m em i j a b k =
+    let h = half-inverse f (o .picture) m em in
+    ap (λ (v : Xyz). channelOf v k) (block-same m (h .1) (developedIn f o) (aloneIn f o) i j i j (λ n hn.
+    developed-alone f o _ _ 0 (record { row = omega arith; column = omega arith; plane = omega (arith, h .0) })))
+
 -- ---- no answer shows a NaN
 unit-developed : (x : Float) → unit x → Developed x
 unit-developed x u =

@@ -62,7 +62,8 @@ module _ (t : Tags) (some : 1 ≤ t .frame .samples) where
         sample-inside =
             let c : t .area .left + l + k / n < t .frame .width = omega (arith, h .area .right) in
             let b : t .area .top + r < t .frame .length = omega (arith, h .area .bottom) in
-            let q = place-inside f o t h (t .area .top + r) (t .area .left + l + k / n) (k % n) b c (mod-lt k some) in
+            let q = place-inside f o t (h .layout .some-rows) (h .strips) (t .area .top + r) (t .area .left + l + k / n) (k % n) b c
+            (mod-lt k some) in
             let s : placeOf t (run f (storedReading o t) .offsets) (t .area .top + r) (t .area .left + l + k / n) (k % n) ≡ x .place + x
             .bytes * k =
             ap (λ z. placeOf t (z .offsets) (t .area .top + r) (t .area .left + l + k / n) (k % n)) (stored-run f o t r l (k % n)) ∙ sym at in
