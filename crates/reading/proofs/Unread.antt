@@ -1,12 +1,12 @@
 -- Laws of a byte that is not read.
 -- Assumes nothing.
 use mathlib.Core.Path.{_≡_, refl, sym, _∙_}
-use mathlib.Core.Bool.{Bool, true, false, _&&_, _||_, true≢false}
+use mathlib.Core.Bool.{Bool, true, false, _||_, true≢false}
 use mathlib.Core.List.{List, [], _∷_, _++_}
 use Prim.Native.Nat.{ℕ, _+_, _≤_, _<_}
 use native.Mathlib.Omega.{arith}
 use lib.Dec.{leb, ltb}
-use borrow.Author.Tests.{le-leb, lt-leb, le-ltb, lt-ltb, leb-false, ltb-false}
+use borrow.Author.Tests.{le-leb, lt-leb, le-ltb, leb-false, ltb-false}
 use Rattle.reading.specs.Bytes.{part}
 use Rattle.reading.specs.Reading.{Reading, Reading.answer, Reading.ask, Stretch, run, trace, andThen, pick, covers, reads, numberAt}
 use Rattle.reading.specs.declared.number.Order.{Order}
