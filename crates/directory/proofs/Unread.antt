@@ -148,7 +148,8 @@ module _ (w : Widths) (f : List ℕ) (size : ℕ) (o : Order) where
       (unread-answer f j (orderTest low tag)) (λ next _. shape-unread j n (at + entryWidth w) next later))
 
   -- accepted, it reads just these stretches
-  pub shape-asks : (n at low z : ℕ) → is z ≡ run f (shapeFrom w size o n at low) → trace f (shapeFrom w size o n at low) ≡ entriesAsked w f o n at
+  pub shape-asks :
+      (n at low z : ℕ) → is z ≡ run f (shapeFrom w size o n at low) → trace f (shapeFrom w size o n at low) ≡ entriesAsked w f o n at
   unfolding shapeFrom entriesAsked
   shape-asks zero at low z e = trace-answer f (is low)
   shape-asks (suc n) at low z e =

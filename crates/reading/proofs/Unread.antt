@@ -80,7 +80,8 @@ module _ (f : List ℕ) (j : ℕ) where
   pub unread-then : {A B : Type 0} (p : Reading A) (g : A → Reading B) → Unread f j p → Unread f j (g (run f p)) → Unread f j (andThen p g)
   unread-then p g h e = rw (trace-andThen f p g) (off-append j (trace f p) (trace f (g (run f p))) h e)
 
-  pub unread-pick : {A : Type 0} (b : Bool) (p q : Reading A) → (b ≡ true → Unread f j p) → (b ≡ false → Unread f j q) → Unread f j (pick b p q)
+  pub unread-pick :
+      {A : Type 0} (b : Bool) (p q : Reading A) → (b ≡ true → Unread f j p) → (b ≡ false → Unread f j q) → Unread f j (pick b p q)
   unfolding pick
   unread-pick true p q h g = h refl
   unread-pick false p q h g = g refl
