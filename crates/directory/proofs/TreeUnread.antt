@@ -4,24 +4,27 @@
 use mathlib.Core.Path.{_≡_, refl, sym, ap, subst, _∙_}
 use mathlib.Core.Bool.{Bool, true, false}
 use mathlib.Core.List.{List}
-use Prim.Native.Nat.{ℕ, zero, suc, _+_, _*_, _<_}
+use mathlib.Core.Logic.{_⊎_, inl, inr}
+use Prim.Native.Nat.{ℕ, zero, suc, _+_, _*_, _≤_, _<_}
 use native.Mathlib.Nat.{mul-suc, mul-zero}
 use native.Mathlib.Omega.{arith}
-use lib.Dec.{eqb}
+use lib.Dec.{eqb, ltb}
 use borrow.Author.Tests.{eqb-false}
 use Rattle.reading.specs.Bytes.{part}
 use Rattle.reading.specs.Number.{numberOf}
 use Rattle.reading.specs.Reading.{Reading, Reading.answer, run, pick, reads, numberAt}
 use Rattle.reading.specs.declared.number.Order.{Order}
-use Rattle.reading.specs.declared.number.Order.the-variants.{Big}
+use Rattle.reading.specs.declared.number.Order.the-variants.{Little, Big}
 use Rattle.reading.proofs.Reading.{run-answer, run-number}
-use Rattle.reading.proofs.Unread.{Unread, Off, off-inside, off-rest, unread-answer, unread-number, unread-then, unread-pick}
+use Rattle.reading.proofs.Unread.{Unread, Off, off-behind, off-inside, off-rest, unread-answer, unread-ask, unread-number, unread-then, unread-pick}
 use Rattle.directory.specs.Out.{Out, Out.refused, Out.is, bind}
+use Rattle.directory.specs.Widths.{classic, bigTiff}
 use Rattle.directory.specs.Shape.{ifd, ifdReading}
 use Rattle.directory.specs.Tag.{valuesReading, optional, range}
 use Rattle.directory.specs.Tree.{Seen, raw-one, parent, childrenRule, subfileReading, lookReading, versionRule, backwardRule}
 use Rattle.directory.specs.Tree.{backwardReading, versionReading, Walked, raw, left, afterLook, afterChild, childrenReading}
-use Rattle.directory.specs.Tree.{visitReading, listVisit, afterWalk, walkReading, rootReading}
+use Rattle.directory.specs.Tree.{visitReading, listVisit, afterWalk, walkReading, rootReading, sameBytes, classicMark, bigTiffMark}
+use Rattle.directory.specs.Tree.{offsetReading, bigTiffReading, treeReading}
 use Rattle.directory.specs.declared.Ifd.{Ifd}
 use Rattle.directory.specs.declared.Widths.{Widths}
 use Rattle.directory.specs.declared.tag.Kinds.the-variants as kinds
@@ -187,3 +190,49 @@ module _ (w : Widths) (f : List ℕ) (size : ℕ) (o : Order) (j : ℕ) (Visited
         found : (d : Ifd) (x : Walked) → Unread f j (afterWalk d x)
         found d (raw y) = unread-answer f j _
         found d (left v) = unread-answer f j _
+
+-- ---- the file
+
+-- what the header says: the layout, the byte order and where IFD 0 is
+abbrev pub Header : List ℕ → Widths → Order → ℕ → Type 0
+Header f w o at =
+    ((sameBytes (part f 0 4) (classicMark o) ≡ true) × (w ≡ classic) × (at ≡ numberOf o (part f 4 4)))
+    ⊎ ((sameBytes (part f 0 4) (bigTiffMark o) ≡ true) × (w ≡ bigTiff) × (at ≡ numberOf o (part f 8 8)))
+
+module _ (f : List ℕ) (size j : ℕ) (behind : 16 ≤ j) where
+  offset-unread :
+      (w : Widths) (o : Order) (p : ℕ) → p + w .word ≤ 16 → Unread f j (rootReading w size o (numberOf o (part f p (w .word)))) →
+      Unread f j (offsetReading w size o p)
+  unfolding offsetReading
+  offset-unread w o p l h =
+      unread-then f j (numberAt o p (w .word)) (rootReading w size o)
+      (unread-number f j o p (w .word) (off-behind j p (w .word) (omega arith)))
+      (subst (λ (at : ℕ). Unread f j (rootReading w size o at)) (sym (run-number f o p (w .word))) h)
+
+  big-tiff-unread : (o : Order) → Unread f j (rootReading bigTiff size o (numberOf o (part f 8 8))) → Unread f j (bigTiffReading size o)
+  unfolding bigTiffReading
+  big-tiff-unread o h =
+      unread-pick f j (ltb size 16) (answer (refused 1 0)) _ (λ _. unread-answer f j (refused 1 0))
+      (λ _. unread-then f j (numberAt o 4 2) _ (unread-number f j o 4 2 (off-behind j 4 2 (omega arith)))
+          (unread-pick f j (eqb (run f (numberAt o 4 2)) 8) _ (answer (refused 2 0))
+              (λ _. unread-then f j (numberAt o 6 2) _ (unread-number f j o 6 2 (off-behind j 6 2 (omega arith)))
+                  (unread-pick f j (eqb (run f (numberAt o 6 2)) 0) (offsetReading bigTiff size o 8) (answer (refused 2 0))
+                      (λ _. offset-unread bigTiff o 8 (omega arith) h) (λ _. unread-answer f j (refused 2 0))))
+              (λ _. unread-answer f j (refused 2 0))))
+
+  -- a byte behind the header that is not read from IFD 0 on is not read for the tree
+  pub tree-unread :
+      ((w : Widths) (o : Order) (at : ℕ) → Header f w o at → Unread f j (rootReading w size o at)) → Unread f j (treeReading size)
+  unfolding treeReading
+  tree-unread h =
+      unread-pick f j (ltb size 8) (answer (refused 1 0)) _ (λ _. unread-answer f j (refused 1 0))
+      (λ _. unread-pick f j (ltb 67108864 size) (answer (refused 1 0)) _ (λ _. unread-answer f j (refused 1 0))
+      (λ _. unread-ask f j 0 4 _ (off-behind j 0 4 (omega arith))
+      (unread-pick f j (sameBytes (part f 0 4) (classicMark Little)) (offsetReading classic size Little 4) _
+          (λ e. offset-unread classic Little 4 (omega arith) (h classic Little _ (inl (e, refl, refl))))
+      (λ _. unread-pick f j (sameBytes (part f 0 4) (classicMark Big)) (offsetReading classic size Big 4) _
+          (λ e. offset-unread classic Big 4 (omega arith) (h classic Big _ (inl (e, refl, refl))))
+      (λ _. unread-pick f j (sameBytes (part f 0 4) (bigTiffMark Little)) (bigTiffReading size Little) _
+          (λ e. big-tiff-unread Little (h bigTiff Little _ (inr (e, refl, refl))))
+      (λ _. unread-pick f j (sameBytes (part f 0 4) (bigTiffMark Big)) (bigTiffReading size Big) (answer (refused 2 0))
+          (λ e. big-tiff-unread Big (h bigTiff Big _ (inr (e, refl, refl)))) (λ _. unread-answer f j (refused 2 0))))))))
