@@ -8,10 +8,11 @@ use native.Mathlib.Omega.{arith}
 use lib.Ieee.{Float, nan}
 use lib.ListN.{length, getD, take, drop, length-append, length-drop, length-take, drop-of-length-le, replicate, length-replicate}
 use lib.Seq.{paste, drop-cons, drop-drop, take-paste, length-paste, take-length, getD-take, getD-drop}
+use Rattle.opcodes.specs.declared.grid.Size.{Size}
 use Rattle.rows.specs.Part.{Units}
-use Rattle.listing.specs.Text.{valueText, endText, valuesText}
+use Rattle.listing.specs.Text.{decimalOf, valueText, endText, valuesText, refusedWord, frameWord, refusedText, frameText}
 use Rattle.listing.specs.Body.{Puts, linesText}
-use Rattle.listing.proofs.Numerals.{value-length}
+use Rattle.listing.proofs.Numerals.{value-length, decimal-short}
 
 -- a whole word copied
 pub pasted : (old word new : List ℕ) (at n : ℕ) → new ≡ paste old at word n → n ≡ length word → at + length word ≤ length old →
@@ -57,6 +58,26 @@ line-length (x ∷ xs) h =
     let v = value-length x in
     length-append (valueText x) (endText (map valueText xs)) ∙ omega (arith, e, v)
 
+-- ---- the first line is short
+numbers-short : (ns : List ℕ) → length (endText (map decimalOf ns)) ≤ 21 * length ns + 1
+numbers-short [] = omega arith
+numbers-short (n ∷ ns) =
+    let a = length-append (32 ∷ decimalOf n) (endText (map decimalOf ns)) in
+    omega (arith, a, numbers-short ns, decimal-short n)
+
+pub refused-short : (n d : ℕ) → length (refusedText n d) ≤ 50
+refused-short n d =
+    let ns : List ℕ = n ∷ d ∷ [] in
+    let a : length (refusedText n d) ≡ 7 + length (endText (map decimalOf ns)) = length-append refusedWord (endText (map decimalOf ns)) in
+    omega (arith, a, numbers-short ns)
+
+pub frame-short : (z : Size) → length (frameText z) ≤ 69
+frame-short z =
+    let ns : List ℕ = z .rows ∷ z .columns ∷ z .samples ∷ [] in
+    let a : length (frameText z) ≡ 5 + length (endText (map decimalOf ns)) = length-append frameWord (endText (map decimalOf ns)) in
+    omega (arith, a, numbers-short ns)
+
+-- ---- a line's values, one by one
 -- the first i values are put; `old` has the first one, to `start`
 pub record Lined (xs : List Float) (old : List ℕ) (start i : ℕ) (text : List ℕ) (end : ℕ) : Type 0 where
   pub some : 1 ≤ i
