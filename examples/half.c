@@ -30,7 +30,9 @@ int main(int count, char **names)
         fputs("usage: half FILE.dng\n", stderr);
         return 2;
     }
-    size_t rows = dng_card(file, len, 2) / 2, columns = dng_card(file, len, 3) / 2;
+    uint64_t card[7];
+    dng_card(file, len, card);
+    size_t rows = card[DNG_ROWS] / 2, columns = card[DNG_COLUMNS] / 2;
     double *xyz = malloc((columns + 1) * 3 * sizeof *xyz);
     if (xyz == NULL)
         return 2;

@@ -9,21 +9,25 @@
 extern "C" {
 #endif
 
-/* No call reads outside its file or writes outside its slice, and none tests anything beforehand. A slice of length 0 may
-   have any pointer but NULL, aligned as its elements. The file and the slice must not overlap. */
+/* A caller need test no file and no number before a call: any bytes and any arguments are answered. No call reads outside its
+   file or writes outside what it is lent. A pointer is good for its length, aligned as its elements and not NULL, also where
+   the length is 0, and what is written does not overlap the file. */
 
-/* which: 0 number, 1 detail, 2 active rows, 3 active columns, 4 samples per pixel, 5 opcodes kept, 6 opcodes skipped;
-   other: 0. A refused file has zeros in 2 to 6. */
-uint64_t dng_card(const uint8_t *file, size_t file_len, uint32_t which);
+/* The places of a card's numbers: number and detail, active rows, active columns, samples per pixel, opcodes kept, opcodes
+   skipped. */
+enum { DNG_NUMBER, DNG_DETAIL, DNG_ROWS, DNG_COLUMNS, DNG_SAMPLES, DNG_KEPT, DNG_SKIPPED };
 
-/* The others answer number * 2^32 + detail; 0 is done. A refused window leaves its slice as it was. */
+/* All seven are written. A refused file has zeros from DNG_ROWS on. */
+void dng_card(const uint8_t *file, size_t file_len, uint64_t numbers[7]);
+
+/* The others answer number * 2^32 + detail; 0 is done. */
+
+/* The value is written: +0.0 of a refused spot. */
+uint64_t dng_spot(const uint8_t *file, size_t file_len, size_t row, size_t column, size_t plane, double *value);
+
+/* A refused window of any kind leaves its slice as it was. */
 uint64_t dng_window(const uint8_t *file, size_t file_len, size_t top, size_t left, size_t height, size_t width,
                     double *out, size_t out_len);
-
-uint64_t dng_spot(const uint8_t *file, size_t file_len, size_t row, size_t column, size_t plane);
-
-/* The value of a spot; +0.0 of a refused one. */
-double dng_spot_value(const uint8_t *file, size_t file_len, size_t row, size_t column, size_t plane);
 
 /* Three values to a pixel: X, Y, Z (D50). */
 uint64_t dng_colour_window(const uint8_t *file, size_t file_len, size_t top, size_t left, size_t height, size_t width,

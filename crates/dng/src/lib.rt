@@ -1,46 +1,30 @@
-// The C interface: each function is the call of the same name.
+// The C interface: each function dng_NAME makes the call of its name and hands over its whole answer; `packed` puts number and
+// detail in one.
 ghost use mathlib.Core.Path.{_≡_};
 ghost use Prim.Native.Nat.{_<_};
 ghost use Rattle.develop.specs.Calls.{cardCall, spotCall, windowCall, colourWindowCall, halfWindowCall};
-ghost use Rattle.dng.specs.Field.{fieldOf, packedOf};
+ghost use Rattle.dng.specs.Interface.{numbersOf, packedOf};
 use develop::card;
-use develop::card::CardAnswer;
 use develop::colour_window;
 use develop::half_window;
 use develop::spot;
 use develop::window;
 
-// One number of a card.
-fn field(card: CardAnswer, which: u32) -> u64
-    ensures { λ r. ⌜ r ≡ fieldOf card which ⌝ }
-{
-    if which == 0 {
-        return card.number as u64;
-    }
-    if which == 1 {
-        return card.detail as u64;
-    }
-    if which == 2 {
-        return card.rows as u64;
-    }
-    if which == 3 {
-        return card.columns as u64;
-    }
-    if which == 4 {
-        return card.samples as u64;
-    }
-    if which == 5 {
-        return card.kept as u64;
-    }
-    if which == 6 { card.skipped as u64 } else { 0 }
-}
-
-// 0 number, 1 detail, 2 active rows, 3 active columns, 4 samples, 5 opcodes kept, 6 opcodes skipped; other: 0.
+// Number, detail, active rows, active columns, samples, opcodes kept, opcodes skipped.
 #[no_mangle]
-pub extern "C" fn dng_card(file: &[u8], which: u32) -> u64
-    ensures { λ r. ⌜ r ≡ fieldOf (cardCall (now (file .entry))) which ⌝ }
+pub extern "C" fn dng_card(file: &[u8], numbers: &mut [u64; 7])
+    ensures { λ _. ⌜ now (numbers .exit) ≡ numbersOf (cardCall (now (file .entry))) ⌝ }
 {
-    field(card::card(file), which)
+    let answer = card::card(file);
+    *numbers = [
+        answer.number as u64,
+        answer.detail as u64,
+        answer.rows as u64,
+        answer.columns as u64,
+        answer.samples as u64,
+        answer.kept as u64,
+        answer.skipped as u64,
+    ];
 }
 
 // A number and its detail in one: number * 2^32 + detail.
@@ -69,19 +53,19 @@ pub extern "C" fn dng_window(
 }
 
 #[no_mangle]
-pub extern "C" fn dng_spot(file: &[u8], row: usize, column: usize, plane: usize) -> u64
+pub extern "C" fn dng_spot(
+    file: &[u8],
+    row: usize,
+    column: usize,
+    plane: usize,
+    value: &mut f64,
+) -> u64
     ensures { λ r. ⌜ r ≡ packedOf (spotCall (now (file .entry)) row column plane .number) (spotCall (now (file .entry)) row column plane .detail) ⌝ }
+    ensures { λ r. ⌜ now (value .exit) ≡ spotCall (now (file .entry)) row column plane .value ⌝ }
 {
     let answer = spot::spot(file, row, column, plane);
+    *value = answer.value;
     packed(answer.number, answer.detail)
-}
-
-#[no_mangle]
-pub extern "C" fn dng_spot_value(file: &[u8], row: usize, column: usize, plane: usize) -> f64
-    ensures { λ r. ⌜ r ≡ spotCall (now (file .entry)) row column plane .value ⌝ }
-{
-    let answer = spot::spot(file, row, column, plane);
-    answer.value
 }
 
 #[no_mangle]

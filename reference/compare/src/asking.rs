@@ -13,8 +13,6 @@ type Window = fn(&[u8], u64, u64, u64, u64, &mut [f64]) -> Answer;
 /// The calls of one of the two programs.
 pub struct Program {
     card: fn(&[u8]) -> Card,
-    /// A number that no card has; 0 is right.
-    other_field: fn(&[u8], u32) -> u64,
     window: Window,
     spot: fn(&[u8], u64, u64, u64) -> (Answer, f64),
     colour_window: Window,
@@ -23,7 +21,6 @@ pub struct Program {
 
 const CORE: Program = Program {
     card: core::card,
-    other_field: core::field,
     window: core::window,
     spot: core::spot,
     colour_window: core::colour_window,
@@ -32,7 +29,6 @@ const CORE: Program = Program {
 
 pub const REFERENCE: Program = Program {
     card: reference::card,
-    other_field: |_, _| 0,
     window: reference::window,
     spot: reference::spot,
     colour_window: reference::colour_window,
@@ -62,8 +58,8 @@ fn untouched(place: usize) -> u64 {
     0x7FF8_5A5A_0000_0000 | place as u64
 }
 
-/// Number and detail; then the card's five counts and two fields that there
-/// are not, the bits of the spot, or those of the slice with its margins.
+/// Number and detail; then the card's five counts, the bits of the spot, or
+/// those of the slice with its margins.
 #[derive(Clone, Debug, PartialEq, Eq)]
 pub struct Outcome {
     pub answer: Answer,
@@ -75,10 +71,8 @@ impl Program {
         match *call {
             Call::Card => {
                 let card = (self.card)(file);
-                let [seventh, last] = [7, u32::MAX].map(|which| (self.other_field)(file, which));
                 let Card { rows, columns, samples, kept, skipped, .. } = card;
-                let bits = vec![rows, columns, samples, kept, skipped, seventh, last];
-                Outcome { answer: card.answer(), bits }
+                Outcome { answer: card.answer(), bits: vec![rows, columns, samples, kept, skipped] }
             }
             Call::Spot { row, column, plane } => {
                 let (answer, value) = (self.spot)(file, row, column, plane);

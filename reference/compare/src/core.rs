@@ -3,7 +3,7 @@
 use reference::{Answer, Card};
 
 extern "C" {
-    fn dng_card(file: *const u8, file_len: usize, which: u32) -> u64;
+    fn dng_card(file: *const u8, file_len: usize, numbers: &mut [u64; 7]);
     fn dng_window(
         file: *const u8,
         file_len: usize,
@@ -14,8 +14,14 @@ extern "C" {
         out: *mut f64,
         out_len: usize,
     ) -> u64;
-    fn dng_spot(file: *const u8, file_len: usize, row: usize, column: usize, plane: usize) -> u64;
-    fn dng_spot_value(file: *const u8, file_len: usize, row: usize, column: usize, plane: usize) -> f64;
+    fn dng_spot(
+        file: *const u8,
+        file_len: usize,
+        row: usize,
+        column: usize,
+        plane: usize,
+        value: &mut f64,
+    ) -> u64;
     fn dng_colour_window(
         file: *const u8,
         file_len: usize,
@@ -48,40 +54,25 @@ fn ask(call: Window, file: &[u8], rectangle: [u64; 4], out: &mut [f64]) -> Answe
     answer(unsafe { call(file.as_ptr(), file.len(), top, left, height, width, out.as_mut_ptr(), out.len()) })
 }
 
-/// One number of the card.
-pub fn field(file: &[u8], which: u32) -> u64 {
-    unsafe { dng_card(file.as_ptr(), file.len(), which) }
-}
-
+/// Before the call every number is one that no card has.
 pub fn card(file: &[u8]) -> Card {
-    let small = |which| u32::try_from(field(file, which)).expect("a number or a detail is a LONG");
-    Card {
-        number: small(0),
-        detail: small(1),
-        rows: field(file, 2),
-        columns: field(file, 3),
-        samples: field(file, 4),
-        kept: field(file, 5),
-        skipped: field(file, 6),
-    }
+    let mut numbers = [u64::MAX; 7];
+    unsafe { dng_card(file.as_ptr(), file.len(), &mut numbers) };
+    let [number, detail, rows, columns, samples, kept, skipped] = numbers;
+    let [number, detail] = [number, detail].map(|n| u32::try_from(n).expect("32 bits"));
+    Card { number, detail, rows, columns, samples, kept, skipped }
 }
 
 pub fn window(file: &[u8], top: u64, left: u64, height: u64, width: u64, out: &mut [f64]) -> Answer {
     ask(dng_window, file, [top, left, height, width], out)
 }
 
+/// Before the call the value is a NaN, which no call answers.
 pub fn spot(file: &[u8], row: u64, column: u64, plane: u64) -> (Answer, f64) {
-    (spot_answer(file, row, column, plane), spot_value(file, row, column, plane))
-}
-
-pub fn spot_answer(file: &[u8], row: u64, column: u64, plane: u64) -> Answer {
     let [row, column, plane] = [row, column, plane].map(|n| n as usize);
-    answer(unsafe { dng_spot(file.as_ptr(), file.len(), row, column, plane) })
-}
-
-pub fn spot_value(file: &[u8], row: u64, column: u64, plane: u64) -> f64 {
-    let [row, column, plane] = [row, column, plane].map(|n| n as usize);
-    unsafe { dng_spot_value(file.as_ptr(), file.len(), row, column, plane) }
+    let mut value = f64::NAN;
+    let packed = unsafe { dng_spot(file.as_ptr(), file.len(), row, column, plane, &mut value) };
+    (answer(packed), value)
 }
 
 pub fn colour_window(file: &[u8], top: u64, left: u64, height: u64, width: u64, out: &mut [f64]) -> Answer {

@@ -16,8 +16,9 @@ packed-requires c κs =
 
 returns : tie.Need-returns
 returns c =
-    c .packed .ensures ∙ both (ap (λ (s : SpotAnswer). s .number) (c .before .spot .ensures))
-        (ap (λ (s : SpotAnswer). s .detail) (c .before .spot .ensures))
+    let e = c .before .spot .ensures in
+    let n = both (ap (λ (s : SpotAnswer). s .number) e) (ap (λ (s : SpotAnswer). s .detail) e) in
+    (c .packed .ensures ∙ n, ap (λ (s : SpotAnswer). s .value) e)
 
 pub dng-spot-spec : {M : Type 1} → statement M
 dng-spot-spec = tie.close (tie.spec spot-requires packed-requires returns)

@@ -1,6 +1,6 @@
 use mathlib.Core.Path.{refl}
 use native.Mathlib.Omega.{arith}
-use Rattle.dng.specs.Field.{packedOf}
+use Rattle.dng.specs.Interface.{packedOf}
 use Rattle.dng.proofs.packed.Statement.{statement}
 use Rattle.dng.proofs.packed.Tie as tie
 

@@ -253,7 +253,7 @@ fn print_small(name: &str, file: &[u8], rows: usize) {
         let (of_spots, of_windows) = (places(SPOTS, 1), places(SMALL_WINDOWS, SMALL));
         spots.run(|| {
             for (row, column) in of_spots {
-                assert_eq!(core::spot_answer(file, row, column, 0), Answer::DONE);
+                assert_eq!(core::spot(file, row, column, 0).0, Answer::DONE);
             }
         });
         windows.run(|| {

@@ -103,7 +103,9 @@ fn compare(order: ByteOrder, widths: Widths, values: Values, in_order: bool, nam
     let (mut ours, mut rust) = (Times::default(), Times::default());
     for _ in 0..REPETITIONS {
         rust.run(|| (0..CALLS).for_each(|_| assert_eq!(tested(black_box(&file), order, widths), expected)));
-        ours.run(|| (0..CALLS).for_each(|_| assert_eq!(core::field(black_box(&file), 0), expected)));
+        ours.run(|| {
+            (0..CALLS).for_each(|_| assert_eq!(u64::from(core::card(black_box(&file)).number), expected))
+        });
     }
     print_ratio(name, &ours, &rust, "the same tests in Rust");
 }

@@ -146,7 +146,7 @@ fn at_the_limit(mut subject: Subject) -> Subject {
     let greatest = subject.greatest_black().expect("every number is carried");
     for (white, number) in [(greatest.div_euclid(256), 9), (greatest.div_euclid(256) + 1, 0)] {
         subject.set_white(white);
-        assert_eq!((core::field(&subject.file, 0), subject.answer()), (number, number));
+        assert_eq!((u64::from(core::card(&subject.file).number), subject.answer()), (number, number));
     }
     subject
 }
@@ -155,7 +155,7 @@ fn compare(name: &str, subject: &Subject) {
     let (mut ours, mut rust) = (Times::default(), Times::default());
     for _ in 0..REPETITIONS {
         rust.run(|| (0..CALLS).for_each(|_| assert_eq!(black_box(subject).answer(), 0)));
-        ours.run(|| (0..CALLS).for_each(|_| assert_eq!(core::field(black_box(&subject.file), 0), 0)));
+        ours.run(|| (0..CALLS).for_each(|_| assert_eq!(core::card(black_box(&subject.file)).number, 0)));
     }
     let each = |seconds: f64| 1e6 * seconds / CALLS as f64;
     println!(

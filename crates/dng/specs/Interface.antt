@@ -1,0 +1,12 @@
+-- What an answer shows through the C interface.
+use Prim.Native.Nat.{ℕ, _+_, _*_}
+use mathlib.Core.List.{List, [], _∷_}
+use Rattle.develop.specs.declared.card.CardAnswer.{CardAnswer}
+
+-- a card: number, detail, active rows, active columns, samples, opcodes kept, opcodes skipped
+unfoldable pub numbersOf : CardAnswer → List ℕ
+numbersOf c = c .number ∷ c .detail ∷ c .rows ∷ c .columns ∷ c .samples ∷ c .kept ∷ c .skipped ∷ []
+
+-- number * 2^32 + detail: no number is above 15, and a detail is 0, a tag or a place
+unfoldable pub packedOf : ℕ → ℕ → ℕ
+packedOf n d = n * 0x1_0000_0000 + d
