@@ -61,7 +61,7 @@ gainThere = gainOf (gainMapOf shading) four-by-four 1 2 0
 
 pub gain-numbers :
     Number (four-gains .«upper_left») × Number (four-gains .«upper_right») × Number (four-gains .«lower_left»)
-        × Number (four-gains .«lower_right»)
+    × Number (four-gains .«lower_right»)
 unfolding isNan cornersOf gainMapOf numberOf bigOf realOf ofBits pick
 gain-numbers = (tt, tt, tt, tt)
 

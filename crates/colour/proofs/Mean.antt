@@ -28,7 +28,7 @@ plus-of (fin false m e) a c h = tt
 round-plus : (j : ℕ) → Exact j → (a c : ℕ) → 0 < c → a ≤ 2 ^ j * c → Plus (round binary64 false a c)
 round-plus j x a c C h =
     plus-of (round binary64 false a c) (grid binary64 a c) (2 ^ 1074)
-        (round-value false a c (fin false 1 (pos j)) tt (below-power j x a c C h))
+    (round-value false a c (fin false 1 (pos j)) tt (below-power j x a c C h))
 
 from-zero : round binary64 false 0 1 ≡ fin false 0 (pos 0)
 unfolding round
@@ -38,9 +38,10 @@ from-zero = refl
 round-developed : (a c : ℕ) → 0 < c → a ≤ c → Developed (round binary64 false a c)
 round-developed a c C h =
     let k : a ≤ 2 ^ 0 * c = omega (arith, one-mul c) in
-    let low : T (le (round binary64 false 0 1) (round binary64 false a c)) = round-mono binary64 0 1 a c (zero-lt-suc 0) C (omega arith) in
-    ((subst (λ (z : Float). T (le z (round binary64 false a c))) from-zero low, below-power 0 exact-0 a c C k),
-        round-plus 0 exact-0 a c C k)
+    let low : T (le (round binary64 false 0 1) (round binary64 false a c)) = round-mono binary64 0 1 a c (zero-lt-suc 0) C (omega arith) in (
+      (subst (λ (z : Float). T (le z (round binary64 false a c))) from-zero low, below-power 0 exact-0 a c C k),
+      round-plus 0 exact-0 a c C k,
+    )
 
 halved : (x : Float) → Within 2 x → Plus x → Developed (mul binary64 x half)
 halved nan w p = absurd p
@@ -57,7 +58,7 @@ added (fin false m e) (fin false n d) v p w q =
     let C : 0 < c = mul-pos (down-pos e) (down-pos d) in
     let h : a ≤ 2 ^ 1 * c = summed (m * up e) (n * up d) (down e) (down d) 1 1 2 v w (omega arith) in
     let o : add binary64 (fin false m e) (fin false n d) ≡ round binary64 false a c = add-opened false m e false n d
-        ∙ sum-opened false _ false _ c in
+    ∙ sum-opened false _ false _ c in
     (subst (Within 2) (sym o) (round-within 1 exact-1 false a c C h), subst Plus (sym o) (round-plus 1 exact-1 a c C h))
 added nan y v p w q = absurd p
 added (inf s) y v p w q = absurd p

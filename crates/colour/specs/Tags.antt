@@ -7,7 +7,9 @@ use Rattle.reading.specs.declared.number.Order.{Order}
 use Rattle.reading.specs.declared.fraction.FractionKind.{FractionKind}
 use Rattle.reading.specs.declared.fraction.FractionKind.the-variants as kind
 use Rattle.directory.specs.Out.{Out, Out.refused, Out.is, bind}
+use Rattle.directory.specs.Entry.{codeOf}
 use Rattle.directory.specs.Tag.{valuesReading, notCarried, required}
+use Rattle.directory.specs.declared.entry.Kind.{Kind}
 use Rattle.directory.specs.declared.Ifd.{Ifd}
 use Rattle.directory.specs.declared.tag.Kinds.the-variants as kinds
 use Rattle.directory.specs.declared.tag.Rule.{Rule}
@@ -40,14 +42,14 @@ matrixReading d =
 abbrev pub neutralRule : Rule
 neutralRule = required 50728 kinds.ShortOrRational 3
 
--- the type of a value of the neutral by its bytes
-unfoldable pub neutralKind : ℕ → FractionKind
-neutralKind s = pick (eqb s 2) kind.Short kind.Rational
+-- SHORT or RATIONAL, by the entry's type
+unfoldable pub neutralKind : Kind → FractionKind
+neutralKind k = pick (eqb (codeOf k) 3) kind.Short kind.Rational
 
 -- 50728: "SHORT or RATIONAL 3, required, no numerator or denominator 0"
 unfoldable pub neutralReading : Ifd → Reading (Out Triple)
 neutralReading d =
-    bind (valuesReading d neutralRule) (λ v. tripleReading (d .order) (neutralKind (v .size)) (v .size) 50728 true (v .place))
+    bind (valuesReading d neutralRule) (λ v. tripleReading (d .order) (neutralKind (v .kind)) (v .size) 50728 true (v .place))
 
 abbrev pub colourOf : Matrix → Triple → Colour
 colourOf m n =

@@ -12,6 +12,8 @@ use crate::value::Triple;
 use crate::value::Tripled;
 use directory::Ifd;
 use directory::Number;
+use directory::entry;
+use directory::entry::Kind;
 use directory::tag;
 use directory::tag::Given;
 use directory::tag::Kinds;
@@ -63,11 +65,12 @@ fn matrix_of(file: &[u8], ifd: Ifd) -> Forward
     Forward::Is(Matrix { x, y, z })
 }
 
-// The type of a value of the neutral by its bytes.
-fn neutral_kind(size: usize) -> FractionKind
-    ensures { λ r. ⌜ r ≡ neutralKind size ⌝ }
+// SHORT or RATIONAL, by the entry's type.
+fn neutral_kind(kind: Kind) -> FractionKind
+    ensures { λ r. ⌜ r ≡ neutralKind kind ⌝ }
 {
-    if size == 2 {
+    let t = entry::code(kind);
+    if t == 3 {
         FractionKind::Short
     } else {
         FractionKind::Rational
@@ -93,7 +96,8 @@ fn neutral_of(file: &[u8], ifd: Ifd) -> Tripled
     let size = v.size;
     let place = v.place;
     let order = ifd.order;
-    let kind = neutral_kind(size);
+    let values_kind = v.kind;
+    let kind = neutral_kind(values_kind);
     value::triple_at(file, order, kind, size, 50728, true, place)
 }
 

@@ -81,7 +81,7 @@ module _ (x : ℕ → ℕ → ℕ → Float) (t l w : ℕ) (xs rest : List Float
       let m : r * w ≤ 1 * w = mul-le-mul-right w (omega arith) in
       let b : r * w + c < length (valuesOf x t l 2 w 1) = omega (arith, m, window-length x t l 2 w 1, mul-one w) in
       pair-at xs w r c 0 ∙ ap (λ (ys : List Float). getD ys (r * w + c) nan) e
-          ∙ List·getD-append (valuesOf x t l 2 w 1) rest nan (r * w + c) b
+      ∙ List·getD-append (valuesOf x t l 2 w 1) rest nan (r * w + c) b
       ∙ ap (λ (n : ℕ). getD (valuesOf x t l 2 w 1) n nan) i ∙ values-at x t l 2 w 1 r c 0 nan hr hc (omega arith)
 
 -- their blocks are those of the window
@@ -124,7 +124,7 @@ block-row-at x l w r k h =
     let z : 0 + 1 * (k % 3) ≡ k % 3 = omega (arith, one-mul (k % 3)) in
     ap (λ (n : ℕ). getD (blockRow x l w r) n nan) (sym (div-add-mod' k 3))
     ∙ joined-at (λ (c : ℕ). runOf (x r c) 1 0 3) 3 (block-length x r) l w (k / 3) (k % 3) nan c p
-        ∙ run-at (x r (l + k / 3)) 1 0 3 (k % 3) nan p
+    ∙ run-at (x r (l + k / 3)) 1 0 3 (k % 3) nan p
     ∙ ap (x r (l + k / 3)) z
 
 pub block-row-length : (x : ℕ → ℕ → ℕ → Float) (l w r : ℕ) → length (blockRow x l w r) ≡ w * 3
@@ -165,6 +165,16 @@ half-inverse f p m e = go (eqb (p .raw .tags .frame .samples) 1) refl
         (eqb-true _ _ t, rw v (pattern-below f (p .directory) (q .0) (q .1)))
     go false t = absurd (not-refused m 15 0 (e ∙ sym (half-not f p (eqb-false _ _ t))))
 
+-- the colour of a whole block, from samples each worked out alone
+pub block-alone :
+    (f : List ℕ) (o : Opened) (m : Half) → is m ≡ run f (halfFor (o .picture)) →
+    (i j : ℕ) → i < blocksOf (sizeOf (o .picture)) .rows → j < blocksOf (sizeOf (o .picture)) .columns → (k : ℕ) →
+    blockIn m (developedIn f o) i j k ≡ blockIn m (aloneIn f o) i j k
+block-alone f o m em i j a b k =
+    let h = half-inverse f (o .picture) m em in
+    ap (λ (v : Xyz). channelOf v k) (block-same m (h .1) (developedIn f o) (aloneIn f o) i j i j (λ n hn.
+    developed-alone f o _ _ 0 (record { row = omega arith; column = omega arith; plane = omega (arith, h .0) })))
+
 -- ---- no answer shows a NaN
 unit-developed : (x : Float) → unit x → Developed x
 unit-developed x u =
@@ -180,7 +190,7 @@ half-finite f o m e c i j a b =
     let h = half-inverse f (o .picture) m e in
     block-finite m c (h .1) (developedIn f o) i j (λ k n.
     let d = developed-alone f o (2 * i + k / 2) (2 * j + k % 2) 0
-        (record { row = omega arith; column = omega arith; plane = omega (arith, h .0) }) in
+    (record { row = omega arith; column = omega arith; plane = omega (arith, h .0) }) in
     subst Developed (sym d) (unit-developed _ (alone-is-unit f o (2 * i + k / 2) (2 * j + k % 2) 0)))
 
 -- ---- the half window's answer
@@ -219,13 +229,13 @@ module _ (f : List ℕ) (v : View) (q : Viewed f v) (t l h w : ℕ) (old : List 
 
       pub halved-none :
           (new : List Float) → 0 ≡ windowFault (blocksOf (v .size)) 3 t l h w (length old) →
-              new ≡ valuesOf (blockIn m (aloneIn f file)) t l h w 3 →
+          new ≡ valuesOf (blockIn m (aloneIn f file)) t l h w 3 →
           windowWith (record { number = 0; detail = 0 }) new ≡ halvedOf f t l h w old file (is m)
       halved-none new e d =
           let k = none-inside (blocksOf (v .size)) t l h w 3 (length old) e in
           let x = blockIn m (standing (frameOf f file)) in
           filled-none (blocksOf (v .size)) t l h w 3 old x new e (d ∙ blocks-alone (k .0))
-              ∙ ap (λ (z : Size). filledOf z 3 t l h w old x) (sym blocks-is)
+          ∙ ap (λ (z : Size). filledOf z 3 t l h w old x) (sym blocks-is)
 
   pub halved-fault :
       (m : Half) (n : ℕ) → n ≡ windowFault (blocksOf (v .size)) 3 t l h w (length old) → (n ≡ 0 → ⊥) →
@@ -237,4 +247,4 @@ module _ (f : List ℕ) (v : View) (q : Viewed f v) (t l h w : ℕ) (old : List 
   pub half-called : (x : Out Half) → x ≡ run f (halfFor (v .picture)) → halvedOf f t l h w old file x ≡ halfWindowCall f t l h w old
   half-called x e =
       ap (halvedOf f t l h w old file) (e ∙ ap (λ (p : Picture). run f (halfFor p)) (sym (q .picture)))
-          ∙ ap (halfWindowOf f t l h w old) (q .accepted)
+      ∙ ap (halfWindowOf f t l h w old) (q .accepted)

@@ -47,13 +47,13 @@ module _ (f : List ℕ) (v : View) (h : Viewed f v) (r c p : ℕ) where
 
   pub spot-viewed :
       within (v .size) r c p ≡ true → (y : Float) →
-          y ≡ alone (o .opcodes) r c p (scaledIn f (v .picture .order) (v .picture .raw .tags) r c p) →
+      y ≡ alone (o .opcodes) r c p (scaledIn f (v .picture .order) (v .picture .raw .tags) r c p) →
       record { number = 0; detail = 0; value = y } ≡ spotCall f r c p
   spot-viewed t y e =
       let a : ActiveIn (o .picture .raw .tags) r c p = within-active (o .picture) r c p (within-is ∙ t) in
       let d : y ≡ standing (frameOf f o) r c p = e ∙ sym (viewed-alone f v h r c p) ∙ sym (developed-alone f o r c p a) in
       let s : spotOf f r c p (is o) ≡ record { number = 0; detail = 0; value = standing (frameOf f o) r c p } = simp
-          (within-is, t, pick-yes) in
+      (within-is, t, pick-yes) in
       ap (λ (x : Float). record { number = 0; detail = 0; value = x }) d ∙ sym s ∙ ap (spotOf f r c p) (h .accepted)
 
   pub spot-outside : within (v .size) r c p ≡ false → refusedSpot 13 0 ≡ spotCall f r c p
@@ -113,7 +113,7 @@ module _ (z : Size) (t l h w : ℕ) where
     filled-none new e q =
         let k = none-inside n (length old) e in
         ap (λ (xs : List Float). windowWith (record { number = 0; detail = 0 }) xs) q
-            ∙ sym (simp (k .0, eq-eqb (length old) (h * w * n) (k .1), pick-yes))
+        ∙ sym (simp (k .0, eq-eqb (length old) (h * w * n) (k .1), pick-yes))
 
     pub filled-fault : (m : ℕ) → m ≡ windowFault z n t l h w (length old) → (m ≡ 0 → ⊥) →
         windowWith (record { number = m; detail = 0 }) old ≡ filledOf z n t l h w old x
@@ -164,18 +164,18 @@ module _ (f : List ℕ) (v : View) (q : Viewed f v) (t l h w : ℕ) (old : List 
 
   pub window-none :
       (new : List Float) → 0 ≡ windowFault (v .size) (v .size .samples) t l h w (length old) →
-          new ≡ valuesOf (aloneIn f file) t l h w (v .size .samples) →
+      new ≡ valuesOf (aloneIn f file) t l h w (v .size .samples) →
       windowWith (record { number = 0; detail = 0 }) new ≡ windowCall f t l h w old
   window-none new e d =
       let k = none-inside (v .size) t l h w (v .size .samples) (length old) e in
       filled-none (v .size) t l h w (v .size .samples) old (standing (frameOf f file)) new e
-          (d ∙ values-alone (v .size .samples) refl (k .0))
+      (d ∙ values-alone (v .size .samples) refl (k .0))
       ∙ ap (λ (z : Size). filledOf z (z .samples) t l h w old (standing (frameOf f file))) (sym size-is)
       ∙ ap (windowOf f t l h w old) (q .accepted)
 
   pub window-fault :
       (m : ℕ) → m ≡ windowFault (v .size) (v .size .samples) t l h w (length old) → (m ≡ 0 → ⊥) →
-          windowWith (record { number = m; detail = 0 }) old ≡ windowCall f t l h w old
+      windowWith (record { number = m; detail = 0 }) old ≡ windowCall f t l h w old
   window-fault m e s =
       filled-fault (v .size) t l h w (v .size .samples) old (standing (frameOf f file)) m e s
       ∙ ap (λ (z : Size). filledOf z (z .samples) t l h w old (standing (frameOf f file))) (sym size-is)
@@ -189,18 +189,18 @@ module _ (f : List ℕ) (v : View) (q : Viewed f v) (t l h w : ℕ) (old : List 
 
     pub coloured-none :
         (mid new : List Float) → 0 ≡ windowFault (v .size) 3 t l h w (length old) →
-            mid ≡ valuesOf (aloneIn f (q .file)) t l h w (v .size .samples) → new ≡ passOf m mid →
+        mid ≡ valuesOf (aloneIn f (q .file)) t l h w (v .size .samples) → new ≡ passOf m mid →
         windowWith (record { number = 0; detail = 0 }) new ≡ colouredOf f t l h w old (q .file) (is m)
     coloured-none mid new e d p =
         let k = none-inside (v .size) t l h w 3 (length old) e in
         filled-none (v .size) t l h w 3 old (pixelIn m (frameOf f (q .file))) new e
         (p ∙ ap (passOf m) (d ∙ ap (valuesOf (aloneIn f (q .file)) t l h w) three ∙ values-alone f v q t l h w old 3 (sym three) (k .0))
-            ∙ pass-values m (frameOf f (q .file)) t l h w)
+        ∙ pass-values m (frameOf f (q .file)) t l h w)
         ∙ sized (pixelIn m (frameOf f (q .file)))
 
     pub coloured-fault :
         (n : ℕ) → n ≡ windowFault (v .size) 3 t l h w (length old) → (n ≡ 0 → ⊥) →
-            windowWith (record { number = n; detail = 0 }) old ≡ colouredOf f t l h w old (q .file) (is m)
+        windowWith (record { number = n; detail = 0 }) old ≡ colouredOf f t l h w old (q .file) (is m)
     coloured-fault n e s = filled-fault (v .size) t l h w 3 old (pixelIn m (frameOf f (q .file))) n e s
         ∙ sized (pixelIn m (frameOf f (q .file)))
 
@@ -212,7 +212,7 @@ module _ (f : List ℕ) (v : View) (q : Viewed f v) (t l h w : ℕ) (old : List 
       colouredOf f t l h w old (q .file) x ≡ colourWindowCall f t l h w old
   colour-tags e x d =
       let s : run f (colourFor (q .file .picture)) ≡ run f (colourReading (q .file .picture .first)) = simp
-          (eq-eqb _ 3 (sym samples-is ∙ e), pick-yes) in
+      (eq-eqb _ 3 (sym samples-is ∙ e), pick-yes) in
       let e = d ∙ ap (λ (p : Picture). run f (colourReading (p .first))) (sym (q .picture)) ∙ sym s in
       ap (colouredOf f t l h w old (q .file)) e ∙ ap (colourWindowOf f t l h w old) (q .accepted)
 

@@ -5,9 +5,9 @@ ghost use Rattle.develop.specs.Calls;
 ghost use Rattle.develop.specs.View.{Viewed};
 use crate::Opening;
 use crate::View;
+use levels::active::ActiveColumn;
+use levels::active::ActiveRow;
 use opcodes::grid::Size;
-use raw::area::ActiveColumn;
-use raw::area::ActiveRow;
 use raw::sample;
 
 pub struct SpotAnswer {
@@ -38,27 +38,13 @@ fn spot_in(file: &[u8], view: View, row: usize, column: usize, plane: usize) -> 
         let order = picture.order;
         let raw = picture.raw;
         let values = raw.tags.list;
-        let x = sample::scaled_at(
-            file,
-            order,
-            raw,
-            ActiveRow(row),
-            ActiveColumn(column),
-            plane,
-        );
+        let r = ActiveRow(row);
+        let c = ActiveColumn(column);
+        let x = sample::scaled_at(file, order, raw, r, c, plane);
         return SpotAnswer {
             number: 0,
             detail: 0,
-            value: rows::list::list_at(
-                file,
-                view.size,
-                values.place,
-                values.count,
-                row,
-                column,
-                plane,
-                x,
-            ),
+            value: rows::list::list_at(file, view.size, values.place, values.count, r, c, plane, x),
         };
     }
     SpotAnswer {

@@ -83,7 +83,7 @@ module _ (w : Widths) (f : List ℕ) (o : Order) where
   module _ (tag : ℕ) where
     found-step : (n at low z : ℕ) →
         ((t : ℕ) → is z ≡ run f (shapeFrom w (length f) o n (at + entryWidth w) t) →
-            PlacedIn w f o (run f (findFrom w o n (at + entryWidth w) tag))) →
+        PlacedIn w f o (run f (findFrom w o n (at + entryWidth w) tag))) →
         is z ≡ run f (shapeFrom w (length f) o (suc n) at low) →
         (r : Out ℕ) → r ≡ run f (entryReading w (length f) o at) → (b : Bool) → eqb (headerOf w o (part f at (headWidth w)) .tag) tag ≡ b →
         PlacedIn w f o (run f (findFrom w o (suc n) at tag))
@@ -92,11 +92,11 @@ module _ (w : Widths) (f : List ℕ) (o : Order) where
         (not-refused z k d (s ∙ sym (shape-refused w f (length f) o at low (suc n) n (omega arith) k d e)))
     found-step n at low z rec s (is t) e true q =
         subst (PlacedIn w f o) (find-here w f o at tag (suc n) n (omega arith) (headerOf w o (part f at (headWidth w))) refl
-            (eqb-true _ _ q))
+        (eqb-true _ _ q))
         (entry-placed at t e)
     found-step n at low z rec s (is t) e false q =
         subst (PlacedIn w f o) (sym (find-later w f o at tag (suc n) n (omega arith) (headerOf w o (part f at (headWidth w))) refl
-            (eqb-false _ _ q)))
+        (eqb-false _ _ q)))
         (rec (t + 1) (go (ltb t low) refl))
       where
         go : (c : Bool) → ltb t low ≡ c → is z ≡ run f (shapeFrom w (length f) o n (at + entryWidth w) (t + 1))
@@ -178,6 +178,11 @@ number-or-fraction k e =
     ⊎-elim (λ h. inl (other-code k 3 tt h))
     (λ h. inr (⊎-elim (λ q. inl (long-code k q)) (λ q. inr (other-code k 5 tt (one-key 5 _ q))) (more-keys 4 (5 ∷ []) (plainOf k) h)))
     (more-keys 3 (4 ∷ 5 ∷ []) (plainOf k) e)
+
+-- SHORT or RATIONAL
+pub short-or-fraction : (k : Kind) → allowsOf kinds.ShortOrRational k ≡ true → (codeOf k ≡ 3) ⊎ (codeOf k ≡ 5)
+short-or-fraction k e =
+    ⊎-elim (λ h. inl (other-code k 3 tt h)) (λ h. inr (other-code k 5 tt (one-key 5 _ h))) (more-keys 3 (5 ∷ []) (plainOf k) e)
 
 -- the bytes of one value of a type that is allowed
 pub size-in : (ks : Kinds) (k : Kind) → allowsOf ks k ≡ true → SizeIn ks (sizeOf k)

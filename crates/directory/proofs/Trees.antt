@@ -135,13 +135,13 @@ four (a ∷ b ∷ c ∷ d ∷ l) h = refl
 
 pub start-is : (f m : List ℕ) → 4 ≤ length f → length m ≡ 4 →
     (eqb (getD f 0 0) (getD m 0 0) &&
-        (eqb (getD f 1 0) (getD m 1 0) && (eqb (getD f 2 0) (getD m 2 0) && (eqb (getD f 3 0) (getD m 3 0) && true))))
+    (eqb (getD f 1 0) (getD m 1 0) && (eqb (getD f 2 0) (getD m 2 0) && (eqb (getD f 3 0) (getD m 3 0) && true))))
     ≡ sameBytes (take 4 f) m
 start-is f m h e = rw (four f h) (go m e)
   where
     go : (m : List ℕ) → length m ≡ 4 →
         (eqb (getD f 0 0) (getD m 0 0) &&
-            (eqb (getD f 1 0) (getD m 1 0) && (eqb (getD f 2 0) (getD m 2 0) && (eqb (getD f 3 0) (getD m 3 0) && true))))
+        (eqb (getD f 1 0) (getD m 1 0) && (eqb (getD f 2 0) (getD m 2 0) && (eqb (getD f 3 0) (getD m 3 0) && true))))
         ≡ sameBytes (getD f 0 0 ∷ getD f 1 0 ∷ getD f 2 0 ∷ getD f 3 0 ∷ []) m
     go [] q = absurd (omega arith)
     go (a ∷ []) q = absurd (omega arith)

@@ -1,8 +1,15 @@
 -- Number and detail of an answer, in one.
 -- Assumes nothing.
 use mathlib.Core.Path.{_≡_, ap, _∙_}
-use Prim.Native.Nat.{ℕ}
+use Prim.Native.Nat.{ℕ, _<_}
+use native.Mathlib.Omega.{arith}
+use Rattle.develop.proofs.Refusals.{Fits}
 use Rattle.dng.specs.Field.{packedOf}
 
-pub both : {n d m e : ℕ} → n ≡ m → d ≡ e → packedOf n d ≡ packedOf m e
-both {n} {d} {m} {e} a b = ap (λ (k : ℕ). packedOf k d) a ∙ ap (packedOf m) b
+module _ {n d m e : ℕ} (a : n ≡ m) (b : d ≡ e) where
+  pub both : packedOf n d ≡ packedOf m e
+  both = ap (λ (k : ℕ). packedOf k d) a ∙ ap (packedOf m) b
+
+  -- each has 32 bits
+  pub halves : Fits m e → (n < 0x1_0000_0000) × (d < 0x1_0000_0000)
+  halves h = (omega (arith, a, h .0), omega (arith, b, h .1))

@@ -1,5 +1,6 @@
 // The C interface: each function is the call of the same name.
 ghost use mathlib.Core.Path.{_≡_};
+ghost use Prim.Native.Nat.{_<_};
 ghost use Rattle.develop.specs.Calls.{cardCall, spotCall, windowCall, colourWindowCall, halfWindowCall};
 ghost use Rattle.dng.specs.Field.{fieldOf, packedOf};
 use develop::card;
@@ -44,14 +45,11 @@ pub extern "C" fn dng_card(file: &[u8], which: u32) -> u64
 
 // A number and its detail in one: number * 2^32 + detail.
 fn packed(number: usize, detail: usize) -> u64
+    requires { ⌜ number < 0x1_0000_0000 ⌝ }
+    requires { ⌜ detail < 0x1_0000_0000 ⌝ }
     ensures { λ r. ⌜ r ≡ packedOf number detail ⌝ }
 {
-    if number < 0x1_0000_0000 {
-        if detail < 0x1_0000_0000 {
-            return (number * 0x1_0000_0000 + detail) as u64;
-        }
-    }
-    0xFFFF_FFFF_FFFF_FFFF
+    (number * 0x1_0000_0000 + detail) as u64
 }
 
 #[no_mangle]

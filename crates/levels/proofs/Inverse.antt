@@ -49,7 +49,7 @@ module _ (S : ℕ) (some : 0 < S) (small : S < 67108864) where
   reciprocal-is =
       let e : raisedUnits * 256 * (S * 2097152) ≡ raisedUnits * (536870912 * S) = omega arith in
       div-values mostRaised (ofParts (pos S)) false raisedUnits 536870912 S 256 (zero-lt-suc _) some raised-value
-          (parts-value (pos S) (omega arith))
+      (parts-value (pos S) (omega arith))
       ∙ round-same binary64 false (raisedUnits * 256) (536870912 * S) raisedUnits (S * 2097152) (mul-pos (zero-lt-suc _) some) span-some e
 
   reciprocal-close : Close (raisedUnits * 2 ^ 1074) (gridOf S * spanOf S)
@@ -73,7 +73,7 @@ module _ (S : ℕ) (some : 0 < S) (small : S < 67108864) where
   grid-least =
       let h : raisedUnits * 2 ^ 1074 ≤ 2 * (gridOf S * 140737488355328) =
       le-trans (close-least (raisedUnits * 2 ^ 1074) (gridOf S * spanOf S) reciprocal-close)
-          (mul-le-mul-left 2 (mul-le-mul-left (gridOf S) span-most)) in
+      (mul-le-mul-left 2 (mul-le-mul-left (gridOf S) span-most)) in
       let e : 2 * (gridOf S * 140737488355328) ≡ gridOf S * 281474976710656 = omega arith in
       le-of-mul-le-mul-right {k = 281474976710656} (le-trans (lit≤ tt) (le-trans h (le-of-eq e))) (zero-lt-suc _)
 
@@ -137,7 +137,7 @@ module _ (S D : ℕ) (some : 0 < S) (small : S < 67108864) (any : 0 < D) (few : 
   product-most : productGrid S D ≤ 2 * (67108864 * (2 * (raisedUnits * 2 ^ 1074)))
   product-most =
       le-trans (times-more S some small (productGrid S D) 256 (zero-lt-suc _))
-          (le-trans (close-most (D * gridOf S) (productGrid S D * 256) once)
+      (le-trans (close-most (D * gridOf S) (productGrid S D * 256) once)
       (mul-le-mul-left 2 (le-trans (mul-le-mul-right (gridOf S) (le-of-lt few)) (mul-le-mul-left 67108864 (grid-most S some small)))))
 
   product-value : HasValue (productOf S D) false (productGrid S D) (2 ^ 1074)
@@ -353,20 +353,20 @@ module _ (S D : ℕ) (some : 0 < S) (small : S < 67108864) where
       let shape : Shape false (productOf S D) = subst (Shape false) (sym (product-is S D some small reach))
       (round-shape binary64 false (D * gridOf S) (256 * 2 ^ 1074)) in
       let more : S * gridOf S * (256 * 2 ^ 1074) ≤ D * gridOf S * (256 * 2 ^ 1074) = mul-le-mul-right (256 * 2 ^ 1074)
-          (mul-le-mul-right (gridOf S) over) in
+      (mul-le-mul-right (gridOf S) over) in
       let low : T (le (productOf S S) (productOf S D)) =
       subst (λ (x : Float). T (le x (productOf S D))) (sym (product-is S S some small (omega arith)))
       (subst (λ (x : Float). T (le (round binary64 false (S * gridOf S) (256 * 2 ^ 1074)) x)) (sym (product-is S D some small reach))
       (round-mono binary64 (S * gridOf S) (256 * 2 ^ 1074) (D * gridOf S) (256 * 2 ^ 1074) unit-some unit-some more)) in
       let e : cappedOf (productOf S D) ≡ most =
       capped-over (productOf S D) (productOf S S) (productGrid S S) (2 ^ 1074) shape (pow-pos 1074)
-          (product-value S S some small some small) full-over low in
+      (product-value S S some small some small) full-over low in
       ap wholeOf e ∙ whole-is 65535 (omega arith) most (most-near 65535 refl)
 
   pub level-by-reciprocal : D < 2 ^ 53 → wholeOf (cappedOf (productOf S D)) ≡ ofInt binary64 (pos (roundedOf (65535 * min D S) S))
   level-by-reciprocal reach =
       ⊎-elim (λ l. let e : min D S ≡ D = omega arith in level-inside l
-          ∙ ap (λ (m : ℕ). ofInt binary64 (pos (roundedOf (65535 * m) S))) (sym e))
+      ∙ ap (λ (m : ℕ). ofInt binary64 (pos (roundedOf (65535 * m) S))) (sym e))
       (λ l. let e : min D S ≡ S = omega arith in
       level-over (le-of-lt l) reach ∙ ap (λ (n : ℕ). ofInt binary64 (pos n)) (sym (rounded-full S D some))
       ∙ ap (λ (m : ℕ). ofInt binary64 (pos (roundedOf (65535 * m) S))) (sym e))

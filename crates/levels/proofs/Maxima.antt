@@ -186,7 +186,7 @@ module _ (f : ℕ → ℤ) (n : ℕ) where
   unfolding maxFrom
   fold-step i best next found s h e g =
       let more : maxFrom best (runOf f 1 i (n - i)) ≡ maxFrom (greaterOf best (f i)) (runOf f 1 (i + 1) (n - (i + 1))) = rw
-          (run-next f 1 i n i h) in
+      (run-next f 1 i n i h) in
       rw (g, e) (sym more ∙ s)
 
   pub fold-end : (i : ℕ) (best : ℤ) → Folded f n i best → n ≤ i → best ≡ maxBelow n f

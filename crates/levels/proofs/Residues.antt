@@ -43,11 +43,15 @@ module _ (n step i : ℕ) (some : 1 ≤ step) (low : i < step) (occurs : i < n) 
   pub delta-greatest : (deltas : List ℤ) → Greatest (Residue n step i) (λ x. getD deltas (x .place) (pos 0)) (greatestDelta deltas n step i)
   delta-greatest deltas =
       carried-over (Below (timesOf n step i)) (Residue n step i) (λ x. getD deltas (i + step * x .place) (pos 0))
-          (λ x. getD deltas (x .place) (pos 0))
+      (λ x. getD deltas (x .place) (pos 0))
       (maxBelow (timesOf n step i) (λ (k : ℕ). getD deltas (i + step * k) (pos 0)))
       (record {
-        to = λ x. record { place = i + step * x .place; inside = nth-inside n step i (x .place) occurs (x .inside); same = nth-residue
-            (x .place) };
+        to = λ x. record {
+          place = i + step * x .place;
+          inside = nth-inside n step i (x .place) occurs (x .inside);
+          same = nth-residue
+              (x .place);
+        };
         to-same = λ x. refl;
         from = λ y. record { place = y .place / step; inside = which (y .place) (y .inside) (y .same) };
         from-above = λ y.
@@ -101,7 +105,7 @@ module _
     column-delta s =
         let h = s .column .inside in
         by-residue-greatest (l .columns) (l .repeat-columns) (s .column .place) across (omega arith) (omega arith) (l .column-deltas)
-            columns by-columns
+        columns by-columns
 
     -- the sample where they meet
     met : Pair → Sample
@@ -130,8 +134,11 @@ module _
         let c = s .column in
         record {
           row = record { place = r .place % l .repeat-rows; inside = residue-below (l .rows) (l .repeat-rows) (r .place) down (r .inside) };
-          column = record { place = c .place % l .repeat-columns; inside = residue-below (l .columns) (l .repeat-columns) (c .place) across
-              (c .inside) };
+          column = record {
+            place = c .place % l .repeat-columns;
+            inside = residue-below (l .columns) (l .repeat-columns) (c .place) across
+                (c .inside);
+          };
         }
 
     residues-above : (s : Sample) → leZ (atSample s) (atPair (residues s)) ≡ true
@@ -154,8 +161,8 @@ module _
         let z = greatestByResidues l columns rows p (min (l .repeat-rows) (l .rows)) (min (l .repeat-columns) (l .columns)) in
         let pairs : Greatest Pair atPair z =
         pairs-greatest (min (l .repeat-rows) (l .rows)) (min (l .repeat-columns) (l .columns)) (residueBlack l columns rows p) (omega arith)
-            (omega arith) in
+        (omega arith) in
         let meets : Meets Pair Sample atPair atSample = record
-            { to = met; to-same = met-same; from = residues; from-above = residues-above } in
+        { to = met; to-same = met-same; from = residues; from-above = residues-above } in
         let samples = spots-greatest (l .rows) (l .columns) (λ (r c : ℕ). blackFor l r c p) some-rows some-columns in
         rw (e, f) (unique Sample atSample z _ (carried-over Pair Sample atPair atSample z meets pairs) samples)

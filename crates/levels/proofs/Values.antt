@@ -29,7 +29,7 @@ mul-opened m e n d = refl
 
 pub mul-values :
     (x y : Float) (a c b d : ℕ) → 0 < c → 0 < d → HasValue x false a c → HasValue y false b d →
-        mul binary64 x y ≡ round binary64 false (a * b) (c * d)
+    mul binary64 x y ≡ round binary64 false (a * b) (c * d)
 mul-values nan y a c b d C D h k = absurd h
 mul-values (inf s) y a c b d C D h k = absurd h
 mul-values (fin true m e) y a c b d C D h k = absurd (true≢false (h .0))
@@ -56,7 +56,7 @@ div-opened s m e n d = refl
 some-of : (x d y : ℕ) → 0 < y → x * d ≡ y → 0 < x
 some-of x d y h e =
     ⊎-elim (λ l. let z : x ≡ 0 = omega arith in absurd (let n : x * d ≡ 0 = ap (λ (k : ℕ). k * d) z ∙ zero-mul d in omega arith)) (λ l. l)
-        (le-or-lt x 0)
+    (le-or-lt x 0)
 
 cross-div : (x y e g a b c d : ℕ) → x * c ≡ a * e → y * d ≡ b * g → x * g * (c * b) ≡ a * d * (y * e)
 cross-div x y e g a b c d p q =
@@ -104,7 +104,7 @@ cross-add x y e g a b c d p q =
 
 pub add-values :
     (x y : Float) (a c b d : ℕ) → 0 < c → 0 < d → HasValue x false a c → HasValue y false b d →
-        add binary64 x y ≡ round binary64 false (a * d + b * c) (c * d)
+    add binary64 x y ≡ round binary64 false (a * d + b * c) (c * d)
 add-values nan y a c b d C D h k = absurd h
 add-values (inf s) y a c b d C D h k = absurd h
 add-values (fin true m e) y a c b d C D h k = absurd (true≢false (h .0))

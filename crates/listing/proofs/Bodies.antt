@@ -2,9 +2,10 @@
 -- Assumes nothing.
 use mathlib.Core.Path.{_≡_, refl, sym, ap, _∙_, subst}
 use mathlib.Core.Bool.{Bool, true}
-use mathlib.Core.List.{List, [], _∷_, _++_, append-assoc}
+use mathlib.Core.List.{List, [], _∷_, _++_, append-nil, append-assoc}
 use Prim.Native.Nat.{ℕ, zero, suc, _+_, _-_, _*_, _/_, _≤_, _<_}
-use native.Mathlib.Nat.{zero-add, zero-mul, one-mul, suc-mul, mul-assoc, mul-le-mul, mul-le-mul-right, le-div-iff-mul-le, div-mul-le-self}
+use native.Mathlib.Nat.{zero-add, sub-zero, zero-mul, one-mul, suc-mul, mul-assoc, mul-le-mul, mul-le-mul-right}
+use native.Mathlib.Nat.{le-div-iff-mul-le, div-mul-le-self}
 use native.Mathlib.Omega.{arith}
 use lib.Ieee.{Float, nan}
 use lib.ListN.{length, take, drop, length-append}
@@ -28,9 +29,10 @@ use Rattle.develop.specs.declared.Answer.{Answer}
 use Rattle.develop.proofs.Answers.{frame-alone, developed-alone, values-same, alone-is-unit}
 use Rattle.develop.proofs.Called.{spansRows, spansColumns, fault-none, filled-none}
 use Rattle.develop.proofs.Windows.{viewed-sized}
-use Rattle.listing.specs.Text.{valuesText, rowsText, refusedText, frameText, listedOf, headText, bodyText}
-use Rattle.listing.specs.Body.{linesText, Listed, OpenedIs, Headed}
+use Rattle.listing.specs.Text.{valuesText, rowsText, refusedText, frameText, listedOf, headText, bodyText, listingOf}
+use Rattle.listing.specs.Body.{linesText, Listed, rowsFrom, OpenedIs, RefusedIs, Headed}
 use Rattle.listing.specs.declared.First.{First}
+use Rattle.listing.proofs.Lines.{line-length, refused-short, frame-short}
 
 -- ---- the values of a row
 module _ (z : Size) (q : Sized-in z) where
@@ -72,7 +74,7 @@ joined-length g m e i (suc n) =
 module _ (row : ℕ → List (List Float)) (m : ℕ) (e : (r : ℕ) → length (joined (row r)) ≡ m) where
   lines-rows :
       (h t k : ℕ) → linesText m h (joined (runOf (λ (r : ℕ). joined (row r)) 1 t h)) ++ rowsText (runOf row 1 (t + h) k) ≡ rowsText
-          (runOf row 1 t (h + k))
+      (runOf row 1 t (h + k))
   unfolding runOf linesText
   lines-rows zero t k =
       let a : t + 0 ≡ t = omega arith in
@@ -92,6 +94,15 @@ module _ (row : ℕ → List (List Float)) (m : ℕ) (e : (r : ℕ) → length (
       ∙ ap (λ (j : ℕ). valuesText first ++ (linesText m h others ++ rowsText (runOf row 1 j k))) a
       ∙ ap (λ (xs : List ℕ). valuesText first ++ xs) (lines-rows h (t + 1) k)
       ∙ ap (λ (j : ℕ). rowsText (runOf row 1 t j)) (sym b)
+
+  rows-length : 1 ≤ m → (t n : ℕ) → length (rowsText (runOf row 1 t n)) ≡ n * (17 * m)
+  unfolding runOf
+  rows-length s t zero = sym (zero-mul (17 * m))
+  rows-length s t (suc n) =
+      let first = joined (row t) in
+      let k : 1 ≤ length first = omega (arith, e t) in
+      length-append (valuesText first) (rowsText (runOf row 1 (t + 1) n))
+      ∙ omega (arith, e t, line-length first k, rows-length s (t + 1) n, suc-mul n (17 * m))
 
 -- ---- an accepted file
 module _ (f : List ℕ) (o : Opened) where
@@ -128,6 +139,11 @@ module _ (f : List ℕ) (o : Opened) where
       let n : z .rows - t ≡ 0 = omega arith in
       ap rowsText (frame-from t) ∙ ap (λ (k : ℕ). rowsText (runOf row 1 t k)) n
 
+  pub body-length : 1 ≤ z .columns * z .samples → length (bodyText f 0 (is o)) ≡ z .rows * (17 * (z .columns * z .samples))
+  body-length s =
+      ap (λ (q : Frame). length (rowsText q)) (frame-from 0) ∙ rows-length row (z .columns * z .samples) row-length s 0 (z .rows - 0)
+      ∙ ap (λ (k : ℕ). k * (17 * (z .columns * z .samples))) (sub-zero (z .rows))
+
 -- ---- numbers from 0 to 1
 units-append : (xs ys : List Float) → Units xs → Units ys → Units (xs ++ ys)
 units-append [] ys a b k h = b k h
@@ -155,7 +171,7 @@ module _ (f : List ℕ) (z : Size) (q : Listed f z) (t h : ℕ) (old : List Floa
   pub block-values :
       1 ≤ h → t + h ≤ z .rows → length old ≡ h * (z .columns * z .samples) → (a : Answer) (new : List Float)
       → windowWith a new ≡ windowCall f t 0 h (z .columns) old →
-          new ≡ valuesOf (aloneIn f file) t 0 h (sizeOf (file .picture) .columns) (sizeOf (file .picture) .samples)
+      new ≡ valuesOf (aloneIn f file) t 0 h (sizeOf (file .picture) .columns) (sizeOf (file .picture) .samples)
   block-values s b n a new e =
       let zf : Size = sizeOf (file .picture) in
       let zr : z .rows ≡ zf .rows = ap (λ (y : Size). y .rows) (q .size) in
@@ -164,13 +180,13 @@ module _ (f : List ℕ) (z : Size) (q : Listed f z) (t h : ℕ) (old : List Floa
       let x : ℕ → ℕ → ℕ → Float = standing (frameOf f file) in
       let r : spansRows zf t 0 h (zf .columns) ≡ true = rw (le-leb 1 h s, le-leb (t + h) (zf .rows) (omega arith)) refl in
       let c : spansColumns zf t 0 h (zf .columns) ≡ true = rw
-          (le-leb 1 (zf .columns) (omega (arith, q .some-columns)), le-leb (0 + zf .columns) (zf .columns) (omega arith)) refl in
+      (le-leb 1 (zf .columns) (omega (arith, q .some-columns)), le-leb (0 + zf .columns) (zf .columns) (omega arith)) refl in
       let m : length old ≡ h * zf .columns * zf .samples = n ∙ ap (λ (y : Size). h * (y .columns * y .samples)) (q .size)
-          ∙ sym (mul-assoc h (zf .columns) (zf .samples)) in
+      ∙ sym (mul-assoc h (zf .columns) (zf .samples)) in
       let g = fault-none zf t 0 h (zf .columns) (zf .samples) (length old) r c m in
       let d : windowWith a new ≡ windowWith (record { number = 0; detail = 0 }) (valuesOf x t 0 h (zf .columns) (zf .samples)) =
       e ∙ ap (λ (y : Size). windowOf f t 0 h (y .columns) old (opened f)) (q .size)
-          ∙ ap (windowOf f t 0 h (zf .columns) old) (sym (q .accepted))
+      ∙ ap (windowOf f t 0 h (zf .columns) old) (sym (q .accepted))
       ∙ sym (filled-none zf t 0 h (zf .columns) (zf .samples) old x (valuesOf x t 0 h (zf .columns) (zf .samples)) g refl) in
       ap (λ (w : Window). w .slice) d
       ∙ values-same _ _ t 0 h (zf .columns) (zf .samples) (λ i j k u v y w l.
@@ -189,7 +205,7 @@ module _ (f : List ℕ) (z : Size) (q : Listed f z) (t h : ℕ) (old : List Floa
       let k : t + h ≤ sizeOf (file .picture) .rows = subst (λ (y : Size). t + h ≤ y .rows) (q .size) b in
       ap (λ (y : Size). linesText (y .columns * y .samples) h new ++ bodyText f (t + h) (listedOf f)) (q .size)
       ∙ ap (λ (y : Out Opened). linesText (sizeOf (file .picture) .columns * sizeOf (file .picture) .samples) h new ++ bodyText f (t + h) y)
-          (sym (q .listed))
+      (sym (q .listed))
       ∙ body-next f file t h k new (block-values s b n a new e)
       ∙ ap (λ (y : Out Opened). bodyText f t y) (q .listed)
 
@@ -215,18 +231,45 @@ viewed-listed f v q h =
       some-columns = omega (arith, c, q .picture-in .raw .tags .area .columns);
     }
 
+-- no row comes behind the last one
+pub rows-none : (f : List ℕ) (z : Size) → Listed f z → (t : ℕ) → z .rows ≤ t → rowsFrom f t ≡ []
+rows-none f z q t b =
+    let s : sizeOf (q .file .picture) .rows ≤ t = subst (λ (y : Size). y .rows ≤ t) (q .size) b in
+    sym (ap (bodyText f t) (q .listed)) ∙ body-end f (q .file) t s
+
+-- ---- the listing's length is a 64-bit number
+abbrev lengthOf : List ℕ → Out Opened → ℕ
+lengthOf f o = length (headText o ++ bodyText f 0 o)
+
+pub short-refused : (f : List ℕ) (n d : ℕ) → refused n d ≡ listedOf f → length (listingOf f) < 18446744073709551616
+short-refused f n d e =
+    let a : lengthOf f (refused n d) ≡ length (refusedText n d) = ap length (append-nil (refusedText n d)) in
+    let b : lengthOf f (refused n d) < 18446744073709551616 = omega (arith, a, refused-short n d) in
+    subst (λ (o : Out Opened). lengthOf f o < 18446744073709551616) e b
+
+pub short-listed : (f : List ℕ) (z : Size) → Listed f z → length (listingOf f) < 18446744073709551616
+short-listed f z q =
+    let o = q .file in
+    let y = sizeOf (o .picture) in
+    let s : Sized-in y = subst Sized-in (q .size) (q .sized) in
+    let c : 1 ≤ y .columns = subst (λ (x : Size). 1 ≤ x .columns) (q .size) (q .some-columns) in
+    let m = y .columns * y .samples in
+    let w : 17 * m ≤ 835584 = omega (arith, width-most y s) in
+    let r : y .rows * (17 * m) ≤ 16384 * 835584 = mul-le-mul (s .rows) w in
+    let a : lengthOf f (is o) ≡ length (frameText y) + length (bodyText f 0 (is o)) = length-append (frameText y) (bodyText f 0 (is o)) in
+    let b : lengthOf f (is o) < 18446744073709551616 = omega (arith, a, frame-short y, body-length f o (width-some y s c), r) in
+    subst (λ (x : Out Opened). lengthOf f x < 18446744073709551616) (q .listed) b
+
 -- ---- the first line
 module _ (f : List ℕ) where
-  pub headed-refused :
-      (n d : ℕ) → refused n d ≡ listedOf f → (h : First) (text : List ℕ)
-      → (h .length ≤ length text) × (take (h .length) text ≡ refusedText n d) × (h .size .rows ≡ 0) × (h .opening ≡ opening.Refused n d) →
-          Headed f h text
+  pub headed-refused : (n d : ℕ) → refused n d ≡ listedOf f → (h : First) (text : List ℕ) → RefusedIs n d h text → Headed f h text
   headed-refused n d e h text p =
       record {
         inside = p .0;
         line = p .1 ∙ ap headText e;
         rows = λ k. absurd (omega (arith, k, p .2));
         all = sym (ap (bodyText f (h .size .rows)) e);
+        short = short-refused f n d e;
         file = subst (OpenedIs f (h .size)) (sym (p .3)) (p .2);
       }
 
@@ -234,11 +277,11 @@ module _ (f : List ℕ) where
       (v : View) (h : First) (text : List ℕ) → Listed f (h .size) → Viewed f v → h .size ≡ v .size → h .opening ≡ opening.Is v
       → (h .length ≤ length text) × (take (h .length) text ≡ frameText (h .size)) → Headed f h text
   headed-frame v h text q w sv o p =
-      let s : sizeOf (q .file .picture) .rows ≤ h .size .rows = subst (λ (y : Size). y .rows ≤ h .size .rows) (q .size) (omega arith) in
       record {
         inside = p .0;
         line = p .1 ∙ ap frameText (q .size) ∙ ap headText (q .listed);
         rows = λ k. q;
-        all = sym (ap (bodyText f (h .size .rows)) (q .listed)) ∙ body-end f (q .file) (h .size .rows) s;
+        all = rows-none f (h .size) q (h .size .rows) (omega arith);
+        short = short-listed f (h .size) q;
         file = subst (OpenedIs f (h .size)) (sym o) (sv, subst (Listed f) sv q, w);
       }

@@ -1,3 +1,4 @@
 pub mod Numerals
 pub mod Lines
 pub mod Bodies
+pub mod Pieces

@@ -8,10 +8,11 @@ use native.Mathlib.Omega.{arith}
 use lib.Ieee.{Float, nan}
 use lib.ListN.{length, getD, take, drop, length-append, length-drop, length-take, drop-of-length-le, replicate, length-replicate}
 use lib.Seq.{paste, drop-cons, drop-drop, take-paste, length-paste, take-length, getD-take, getD-drop}
+use Rattle.opcodes.specs.declared.grid.Size.{Size}
 use Rattle.rows.specs.Part.{Units}
-use Rattle.listing.specs.Text.{valueText, endText, valuesText}
+use Rattle.listing.specs.Text.{decimalOf, valueText, endText, valuesText, refusedWord, frameWord, refusedText, frameText}
 use Rattle.listing.specs.Body.{Puts, linesText}
-use Rattle.listing.proofs.Numerals.{value-length}
+use Rattle.listing.proofs.Numerals.{value-length, decimal-short}
 
 -- a whole word copied
 pub pasted : (old word new : List ℕ) (at n : ℕ) → new ≡ paste old at word n → n ≡ length word → at + length word ≤ length old →
@@ -57,6 +58,26 @@ line-length (x ∷ xs) h =
     let v = value-length x in
     length-append (valueText x) (endText (map valueText xs)) ∙ omega (arith, e, v)
 
+-- ---- the first line is short
+numbers-short : (ns : List ℕ) → length (endText (map decimalOf ns)) ≤ 21 * length ns + 1
+numbers-short [] = omega arith
+numbers-short (n ∷ ns) =
+    let a = length-append (32 ∷ decimalOf n) (endText (map decimalOf ns)) in
+    omega (arith, a, numbers-short ns, decimal-short n)
+
+pub refused-short : (n d : ℕ) → length (refusedText n d) ≤ 50
+refused-short n d =
+    let ns : List ℕ = n ∷ d ∷ [] in
+    let a : length (refusedText n d) ≡ 7 + length (endText (map decimalOf ns)) = length-append refusedWord (endText (map decimalOf ns)) in
+    omega (arith, a, numbers-short ns)
+
+pub frame-short : (z : Size) → length (frameText z) ≤ 69
+frame-short z =
+    let ns : List ℕ = z .rows ∷ z .columns ∷ z .samples ∷ [] in
+    let a : length (frameText z) ≡ 5 + length (endText (map decimalOf ns)) = length-append frameWord (endText (map decimalOf ns)) in
+    omega (arith, a, numbers-short ns)
+
+-- ---- a line's values, one by one
 -- the first i values are put; `old` has the first one, to `start`
 pub record Lined (xs : List Float) (old : List ℕ) (start i : ℕ) (text : List ℕ) (end : ℕ) : Type 0 where
   pub some : 1 ≤ i
@@ -125,8 +146,14 @@ pub record Lines (xs : List Float) (m h : ℕ) (old : List ℕ) (i a : ℕ) (tex
 
 module _ (xs : List Float) (m h : ℕ) (old : List ℕ) where
   pub lines-start : Lines xs m h old 0 0 old 0
-  lines-start = record { most = omega arith; values = sym (zero-mul m); place = refl; same = refl; lines = ap (λ (j : ℕ). linesText m j xs)
-      (sub-zero h) }
+  lines-start = record {
+    most = omega arith;
+    values = sym (zero-mul m);
+    place = refl;
+    same = refl;
+    lines = ap (λ (j : ℕ). linesText m j xs)
+        (sub-zero h);
+  }
 
   -- the next line's values, and those that are put
   pub lines-inside : (i a : ℕ) (text : List ℕ) (end : ℕ) → Lines xs m h old i a text end → length xs ≡ h * m → i < h → a + m ≤ length xs
@@ -144,7 +171,7 @@ module _ (xs : List Float) (m h : ℕ) (old : List ℕ) where
       let g = lines-inside i a text end l n b in
       let k : length (take w (drop a xs)) ≡ m = simp (ew, length-take, length-drop) (omega arith) in
       let ln : length (valuesText (take w (drop a xs))) ≡ 17 * length (take w (drop a xs)) = line-length (take w (drop a xs)) (omega arith)
-          in
+      in
       let r : h - i ≡ suc (h - (i + 1)) = omega arith in
       let d : drop m (drop a xs) ≡ drop e xs = drop-drop m a xs ∙ ap (λ (j : ℕ). drop j xs) (sym ea) in
       let line = valuesText (take w (drop a xs)) in

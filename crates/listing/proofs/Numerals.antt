@@ -1,13 +1,13 @@
 -- The fewest decimal digits of a number are its digits without the zeros in front.
 -- Assumes nothing.
 use mathlib.Core.Path.{_≡_, refl, sym, ap, _∙_}
-use mathlib.Core.Bool.{Bool, true, cond}
+use mathlib.Core.Bool.{Bool, true, false, cond}
 use mathlib.Core.List.{List, [], _∷_, _++_}
 use Prim.Native.Nat.{ℕ, zero, suc, _+_, _-_, _*_, _/_, _%_, _^_, _≤_, _<_}
 use mathlib.Core.Logic.{⊎-elim}
 use native.Mathlib.Nat.{pow-suc, pow-le-pow-right, mod-eq-of-lt, le-div-iff-mul-le, div-lt-iff-lt-mul}
 use native.Mathlib.Omega.{arith}
-use lib.Dec.{ltb}
+use lib.Dec.{ltb, eqb}
 use lib.Ieee.{Float, binary64, toBits}
 use lib.ListN.{length, length-append}
 use borrow.Author.Tests.{lt-ltb, ne-eqb}
@@ -100,6 +100,25 @@ pub decimal-length : (k n : ℕ) → Fewest 10 1 n k → k ≤ 20 → length (de
 decimal-length k n h b = ap length (sym (decimal-is k n h b)) ∙ digits-length 10 k n
 
 -- ---- how many digits a 64-bit number takes
+-- a choice is no longer than both of its cases
+choice-short : (b : Bool) (xs ys : List ℕ) (n : ℕ) → length xs ≤ n → length ys ≤ n → length (cond b xs ys) ≤ n
+choice-short true xs ys n x y = x
+choice-short false xs ys n x y = y
+
+unpadded-short : (ds : List ℕ) → length (unpadded ds) ≤ length ds
+unpadded-short [] = omega arith
+unpadded-short (d ∷ []) = omega arith
+unpadded-short (d ∷ e ∷ ds) =
+    let r = unpadded-short (e ∷ ds) in
+    choice-short (eqb d 48) (unpadded (e ∷ ds)) (d ∷ e ∷ ds) (length (d ∷ e ∷ ds)) (omega (arith, r)) (omega arith)
+
+decimal-within : (k n : ℕ) → length (unpadded (digits 10 k n)) ≤ k
+decimal-within k n = let a = unpadded-short (digits 10 k n) in omega (arith, a, digits-length 10 k n)
+
+pub decimal-short : (n : ℕ) → length (decimalOf n) ≤ 20
+unfolding decimalOf
+decimal-short n = decimal-within 20 n
+
 pub at-most-20 : (k n : ℕ) → Fewest 10 1 n k → n < 18446744073709551616 → k ≤ 20
 at-most-20 k n h b =
     ⊎-elim (λ l. l) (λ g.

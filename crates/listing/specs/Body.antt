@@ -1,17 +1,18 @@
 -- What the listing's functions make of a text, and what they know of the file.
-use Prim.Native.Nat.{ℕ, zero, suc, _+_, _≤_}
+use Prim.Native.Nat.{ℕ, zero, suc, _+_, _*_, _≤_, _<_}
 use mathlib.Core.Path.{_≡_}
 use mathlib.Core.List.{List, [], _++_}
 use lib.Ieee.{Float}
 use lib.ListN.{length, take, drop}
 use Rattle.directory.specs.Out.{Out.is}
 use Rattle.opcodes.specs.declared.grid.Size.{Size}
-use Rattle.rows.specs.Part.{Sized-in}
+use Rattle.rows.specs.Part.{Units, Sized-in}
 use Rattle.develop.specs.Calls.{Opened, opened, sizeOf}
 use Rattle.develop.specs.View.{Viewed}
+use Rattle.develop.specs.declared.View.{View}
 use Rattle.develop.specs.declared.Opening.{Opening}
 use Rattle.develop.specs.declared.Opening.the-variants as opening
-use Rattle.listing.specs.Text.{valuesText, listedOf, headText, bodyText}
+use Rattle.listing.specs.Text.{valuesText, refusedText, listedOf, headText, bodyText, listingOf}
 use Rattle.listing.specs.declared.First.{First}
 
 -- a word stands behind the first `at` bytes of a text, and ends at `end`
@@ -23,6 +24,10 @@ unfoldable pub linesText : ℕ → ℕ → List Float → List ℕ
 linesText m zero xs = []
 linesText m (suc h) xs = valuesText (take m xs) ++ linesText m h (drop m xs)
 
+-- they fit in a text, 17 bytes to a value
+abbrev pub LinesIn : ℕ → ℕ → List Float → List ℕ → Type 0
+LinesIn m h xs text = (1 ≤ m) × (length xs ≡ h * m) × (17 * length xs ≤ length text) × Units xs
+
 -- an accepted file that the program lists, and its frame's size
 pub record Listed (f : List ℕ) (z : Size) : Type 0 where
   pub file : Opened
@@ -32,10 +37,27 @@ pub record Listed (f : List ℕ) (z : Size) : Type 0 where
   pub sized : Sized-in z
   pub some-columns : 1 ≤ z .columns
 
+-- there is room for a block of rows, and the file is as it was opened
+abbrev pub Ready : List ℕ → View → List ℕ → List Float → Type 0
+Ready f v text values = (835584 ≤ length text) × (49152 ≤ length values) × Listed f (v .size) × Viewed f v
+
+-- the block of `height` rows from `top` on is in the frame and in the room
+abbrev pub BlockIn : Size → ℕ → ℕ → Type 0
+BlockIn z top height = (1 ≤ height) × (top + height ≤ z .rows) × (height * (z .columns * z .samples) ≤ 49152)
+
+-- the lines of the rows from `top` on
+abbrev pub rowsFrom : List ℕ → ℕ → List ℕ
+rowsFrom f top = bodyText f top (listedOf f)
+
 -- a file as it was opened, of which so many rows are listed: none behind a refusal, and all of an accepted one
 abbrev pub OpenedIs : List ℕ → Size → Opening → Type 0
 OpenedIs f z (opening.Refused n d) = z .rows ≡ 0
 OpenedIs f z (opening.Is v) = (z ≡ v .size) × Listed f (v .size) × Viewed f v
+
+-- the whole text of a refused file, which no row follows
+abbrev pub RefusedIs : ℕ → ℕ → First → List ℕ → Type 0
+RefusedIs n d h text =
+    (h .length ≤ length text) × (take (h .length) text ≡ refusedText n d) × (h .size .rows ≡ 0) × (h .opening ≡ opening.Refused n d)
 
 -- the first line, and the size of the frame whose rows follow it: no row of a refused file
 pub record Headed (f : List ℕ) (h : First) (text : List ℕ) : Type 0 where
@@ -43,4 +65,5 @@ pub record Headed (f : List ℕ) (h : First) (text : List ℕ) : Type 0 where
   pub line : take (h .length) text ≡ headText (listedOf f)
   pub rows : 1 ≤ h .size .rows → Listed f (h .size)
   pub all : bodyText f (h .size .rows) (listedOf f) ≡ []
+  pub short : length (listingOf f) < 18446744073709551616
   pub file : OpenedIs f (h .size) (h .opening)

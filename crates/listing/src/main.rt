@@ -1,20 +1,20 @@
 // Document 01's example 11: reads a file from standard input and prints its frame or its refusal.
 //
-// The contracts say what text is made, piece by piece: the first line, then a block of rows at a time, each with what is left
-// after it. No contract can say what the operating system reads or writes: `main`, `list` and `print_rows` hand the input to
-// these functions, and each piece to `io::write_all` once, in order.
+// No contract can say what the operating system reads or writes: that of `io::write_all` says nothing of the bytes. So
+// `write_piece` alone writes, and its `requires` says which bytes it is handed: those that `listingOf` of the file has from a
+// place on. It answers with the place behind them, where the next piece begins. `list` promises that the last place is the end
+// of the listing, where no write has failed.
 ghost use mathlib.Core.Path.{_≡_};
-ghost use mathlib.Core.Bool.{not};
+ghost use mathlib.Core.Bool.{not, cond};
 ghost use mathlib.Core.List.{_∷_, _++_};
 ghost use Prim.Native.Nat.{_+_, _*_, _≤_, _<_};
 ghost use lib.Dec.{T};
 ghost use lib.Ieee.{isNan};
 ghost use lib.ListN.{length, take};
 ghost use Rattle.rows.specs.Part.{Units, Sized-in};
-ghost use Rattle.develop.specs.View.{Viewed};
-ghost use Rattle.develop.specs.declared.Opening.the-variants.{Refused};
-ghost use Rattle.listing.specs.Text.{decimalOf, valueText, valuesText, refusedText, frameText, listedOf, bodyText};
-ghost use Rattle.listing.specs.Body.{Puts, linesText, Listed, Headed};
+ghost use Rattle.listing.specs.Text.{decimalOf, valueText, valuesText, refusedText, frameText, listingOf};
+ghost use Rattle.listing.specs.Body.{Puts, LinesIn, linesText, RefusedIs, Headed, Ready, BlockIn, rowsFrom};
+ghost use Rattle.listing.specs.Pieces.{Stands, Remains, Ends};
 use develop::Opening;
 use develop::View;
 use develop::window;
@@ -73,7 +73,7 @@ fn put_line(text: &mut [u8], at: usize, values: &[f64]) -> usize
 
 // So many lines of so many values.
 fn put_lines(text: &mut [u8], values: &[f64], height: usize, width: usize) -> usize
-    requires { ⌜ (1 ≤ width) × (length (now values) ≡ height * width) × (17 * length (now values) ≤ length (now text)) × Units (now values) ⌝ }
+    requires { ⌜ LinesIn width height (now values) (now text) ⌝ }
     ensures { λ r. ⌜ (r ≤ length (now (text .exit))) × (take r (now (text .exit)) ≡ linesText width height (now (values .entry))) ⌝ }
 {
     let mut i = 0;
@@ -119,7 +119,7 @@ struct First {
 // The whole text of a refused file.
 fn refused(text: &mut [u8], number: usize, detail: usize) -> First
     requires { ⌜ 128 ≤ length (now text) ⌝ }
-    ensures { λ r. ⌜ (r .length ≤ length (now (text .exit))) × (take (r .length) (now (text .exit)) ≡ refusedText number detail) × (r .size .rows ≡ 0) × (r .opening ≡ Refused number detail) ⌝ }
+    ensures { λ r. ⌜ RefusedIs number detail r (now (text .exit)) ⌝ }
 {
     First {
         length: put_refusal(text, number, detail),
@@ -156,7 +156,7 @@ fn put_first(text: &mut [u8], file: &[u8]) -> First
 // How many rows the block has that begins at `top`: as many as fit.
 fn block(size: Size, top: usize) -> usize
     requires { ⌜ Sized-in size × (1 ≤ size .columns) × (top < size .rows) ⌝ }
-    ensures { λ r. ⌜ (1 ≤ r) × (top + r ≤ size .rows) × (r * (size .columns * size .samples) ≤ 49152) ⌝ }
+    ensures { λ r. ⌜ BlockIn size top r ⌝ }
 {
     let most = 49152 / (size.columns * size.samples);
     let left = size.rows - top;
@@ -172,10 +172,10 @@ fn put_rows(
     top: usize,
     height: usize,
 ) -> usize
-    requires { ⌜ (835584 ≤ length (now text)) × (49152 ≤ length (now values)) × Listed (now file) (view .size) × Viewed (now file) view ⌝ }
-    requires { ⌜ (1 ≤ height) × (top + height ≤ view .size .rows) × (height * (view .size .columns * view .size .samples) ≤ 49152) ⌝ }
+    requires { ⌜ Ready (now file) view (now text) (now values) ⌝ }
+    requires { ⌜ BlockIn (view .size) top height ⌝ }
     ensures { λ r. ⌜ r ≤ length (now (text .exit)) ⌝ }
-    ensures { λ r. ⌜ take r (now (text .exit)) ++ bodyText (now (file .entry)) (top + height) (listedOf (now (file .entry))) ≡ bodyText (now (file .entry)) top (listedOf (now (file .entry))) ⌝ }
+    ensures { λ r. ⌜ take r (now (text .exit)) ++ rowsFrom (now (file .entry)) (top + height) ≡ rowsFrom (now (file .entry)) top ⌝ }
 {
     let size = view.size;
     let width = size.columns * size.samples;
@@ -184,19 +184,54 @@ fn put_rows(
     put_lines(text, &values[..m], height, width)
 }
 
-// Prints the rows, a block at a time. A write that fails ends the listing.
-fn print_rows(text: &mut [u8], values: &mut [f64], file: &[u8], view: View)
-    requires { ⌜ (835584 ≤ length (now text)) × (49152 ≤ length (now values)) × Listed (now file) (view .size) × Viewed (now file) view ⌝ }
+// How many bytes of a listing are written, and whether no write has failed.
+struct Written {
+    bytes: usize,
+    well: bool,
+}
+
+// Writes a piece of the file's listing: what stands behind its first `at` bytes. Nothing else writes.
+fn write_piece(file: &[u8], at: usize, piece: &[u8]) -> Written
+    requires { ⌜ Stands (now file) at (now piece) ⌝ }
+    requires { ⌜ length (listingOf (now file)) < 18446744073709551616 ⌝ }
+    ensures { λ r. ⌜ r .bytes ≡ cond (r .well) (at + length (now (piece .entry))) at ⌝ }
+{
+    let end = at + piece.len();
+    if io::write_all(STDOUT_FILENO, piece) {
+        Written {
+            bytes: end,
+            well: true,
+        }
+    } else {
+        Written {
+            bytes: at,
+            well: false,
+        }
+    }
+}
+
+// Writes the rows behind the first `at` bytes, a block at a time. A write that fails ends the listing.
+fn print_rows(text: &mut [u8], values: &mut [f64], file: &[u8], view: View, at: usize) -> Written
+    requires { ⌜ Ready (now file) view (now text) (now values) ⌝ }
+    requires { ⌜ Remains (now file) at (rowsFrom (now file) 0) ⌝ }
+    ensures { λ r. ⌜ Ends (now (file .entry)) r ⌝ }
 {
     let size = view.size;
     let mut top = 0;
+    let mut end = at;
     while top < size.rows {
         let height = block(size, top);
         let n = put_rows(text, values, file, view, top, height);
-        if !io::write_all(STDOUT_FILENO, &text[..n]) {
-            return;
+        let written = write_piece(file, end, &text[..n]);
+        if !written.well {
+            return written;
         }
+        end = written.bytes;
         top += height;
+    }
+    Written {
+        bytes: end,
+        well: true,
     }
 }
 
@@ -221,16 +256,21 @@ fn file_space() -> [u8; 65537]
     [0; 65537]
 }
 
-fn list(file: &[u8]) {
+// Writes a file's listing.
+fn list(file: &[u8]) -> Written
+    ensures { λ r. ⌜ Ends (now (file .entry)) r ⌝ }
+{
     let mut values = value_space();
     let mut text = text_space();
     let first = put_first(&mut text, file);
     let opening = first.opening;
-    if io::write_all(STDOUT_FILENO, &text[..first.length]) {
-        match opening {
-            Opening::Refused { number, detail } => {}
-            Opening::Is(view) => print_rows(&mut text, &mut values, file, view),
-        }
+    let written = write_piece(file, 0, &text[..first.length]);
+    if !written.well {
+        return written;
+    }
+    match opening {
+        Opening::Refused { number, detail } => written,
+        Opening::Is(view) => print_rows(&mut text, &mut values, file, view, written.bytes),
     }
 }
 

@@ -85,9 +85,10 @@ module _ (points k : ℕ) (p : Float) (h : k < points) (few : points ≤ 64) whe
         let low = between-low p k n i a b j in
         let high = between-high p k n i a b j (points - 1) (omega arith) (omega arith) in
         let w = between-whole p k n i a b j e in
-        let more : points ≡ 1 → ⊥ = λ o. omega arith in
-        (λ g. ap (λ (x : ℕ). betweenOf (sub binary64 p (floatOf x)) (g x) (g (x + 1))) (sym w) ∙ along-between points p g more low high,
-            omega arith)
+        let more : points ≡ 1 → ⊥ = λ o. omega arith in (
+          λ g. ap (λ (x : ℕ). betweenOf (sub binary64 p (floatOf x)) (g x) (g (x + 1))) (sym w) ∙ along-between points p g more low high,
+          omega arith,
+        )
 
 pub point-below : (points : ℕ) (s : Bracket) → Bracket-in points s → pointOf s < points
 point-below points (At k) h = h
@@ -135,7 +136,7 @@ module _ (m : GainMap) (down across : Bracket) (q columns c : ℕ) (here : Brack
       Bracket-in (m .down .points) down → Bracket-in (m .across .points) across → g ≡ gainIn m down q columns c
   corners-found corners k g e f h d a =
       h ∙ ap (λ (x : Corners). cornersGain x down across) e ∙ ap (λ (n : ℕ). cornersGain (cornersOf m down q n) down across) f
-          ∙ corners-in d a
+      ∙ corners-in d a
 
 -- corners say where they stand
 module _ (m : GainMap) (down : Bracket) (q k : ℕ) (corners : Corners) (e : corners ≡ cornersOf m down q k) where

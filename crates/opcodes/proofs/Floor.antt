@@ -51,8 +51,8 @@ between-positive (inf false) h = absurd h
 between-positive (fin true m e) h = absurd (and-l false (lt (fin true m e) one) h)
 between-positive (fin false m e) h =
     lt→ltb 0 m (first-pos m (up e)
-        (first-pos (m * up e) 1 (low-bound (0 * down e) (m * up e * 1)
-        (ltb→lt (0 * down e) (m * up e * 1) (and-l (ltb (0 * down e) (m * up e * 1)) (lt (fin false m e) one) h)))))
+    (first-pos (m * up e) 1 (low-bound (0 * down e) (m * up e * 1)
+    (ltb→lt (0 * down e) (m * up e * 1) (and-l (ltb (0 * down e) (m * up e * 1)) (lt (fin false m e) one) h)))))
   where
     low-bound : (a b : ℕ) → a < b → 0 < b
     low-bound a b h = omega arith
@@ -100,7 +100,7 @@ sum-under y (m, e, q, h) =
     let l : T (le r (fin false 131071 (negsuc 0))) =
     subst (λ (z : Float). T (le r z)) top-is
     (round-mono binary64 (m * up e * 2 + 1 * down e) (down e * 2) 131071 2 (mul-pos (down-pos e) (zero-lt-suc 1)) (zero-lt-suc 1)
-        (room (m * up e) (down e) h)) in
+    (room (m * up e) (down e) h)) in
     subst (λ (z : Float). Under z 131071 (negsuc 0)) (sym is)
     (plain-of-le r 131071 (negsuc 0) (round-shape binary64 false (m * up e * 2 + 1 * down e) (down e * 2)) l)
 

@@ -40,7 +40,7 @@ standing-framed z x r c p hr hc hp =
 -- two frames with the same numbers
 pub framed-same :
     (z : Size) (x y : ℕ → ℕ → ℕ → Float) → ((r c p : ℕ) → r < z .rows → c < z .columns → p < z .samples → x r c p ≡ y r c p) →
-        framed z x ≡ framed z y
+    framed z x ≡ framed z y
 unfolding framed
 framed-same z x y h =
     run-same _ _ 1 1 0 0 (z .rows) (λ i hi.

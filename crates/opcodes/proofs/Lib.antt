@@ -13,3 +13,4 @@ pub mod BracketLaws
 pub mod GainMaps
 pub mod StepLaws
 pub mod Clips
+pub mod Refusals

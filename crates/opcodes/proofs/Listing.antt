@@ -133,7 +133,7 @@ module _ (f : List ℕ) (z : Size) where
       go true false p q = absurd (not-refused os 10 i (e ∙ sym (over k i at n (leb-true 16 n p) (leb-false _ n q))))
       go true true p q =
           let a = bind-inverse f (opcodeReading (classOf (headAt f at)) z i at (headAt f at)) _ os
-              (e ∙ opened k i at n (leb-true 16 n p) (leb-true _ n q)) in
+          (e ∙ opened k i at n (leb-true 16 n p) (leb-true _ n q)) in
           let b = bind-inverse f (onwards k i at n (headAt f at)) _ os (a .2) in
           record {
             header-fits = leb-true 16 n p;
@@ -222,7 +222,7 @@ module _ (f : List ℕ) (z : Size) where
       where
         after : (o : Opcode) → is c′ ≡ countedOne c (is o) → (y : Out (List Opcode)) → y ≡ run f (onwards k i at n header) →
             countedOn c (run f (bind (onwards k i at n header) (λ (os : List Opcode). answer (is (o ∷ os))))) ≡ countedOn c′
-                (run f (onwards k i at n header))
+            (run f (onwards k i at n header))
         after o g (refused m d) w = ap (countedOn c) (sym (bind-refused f (onwards k i at n header) _ m d w)) ∙ ap (countedOn c′) w
         after o g (is os) w = ap (countedOn c) (bind-is f (onwards k i at n header) _ os w ∙ run-answer f (is (o ∷ os))) ∙ added c c′ o os g
             ∙ ap (countedOn c′) w

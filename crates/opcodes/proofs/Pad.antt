@@ -41,7 +41,7 @@ times-opened m e = refl
 pub minus-zero-times : (m : ℕ) (e : ℤ) → mul binary64 minusZero (fin false m e) ≡ minusZero
 minus-zero-times m e =
     times-opened m e ∙ ap (λ (z : ℕ). round binary64 true z (1 * down e)) (zero-mul (m * up e))
-        ∙ round-zero true (1 * down e) (mul-pos (zero-lt-suc 0) (down-pos e))
+    ∙ round-zero true (1 * down e) (mul-pos (zero-lt-suc 0) (down-pos e))
 
 -- ---- two values that fit and are the same number are the same data
 even-odd : (m t : ℕ) → m % 2 ≡ 1 → m ≡ 2 * t → ⊥
@@ -56,7 +56,7 @@ odd-pow m n (suc a) zero o p h =
 odd-pow m n (suc a) (suc b) o p h =
     let r = odd-pow m n a b o p (eq-of-mul-eq-mul-right 2 (zero-lt-suc 1) (m * 2 ^ a) (n * 2 ^ b)
     (mul-assoc m (2 ^ a) 2 ∙ ap (λ (x : ℕ). m * x) (sym (pow-suc 2 a)) ∙ h ∙ ap (λ (x : ℕ). n * x) (pow-suc 2 b)
-        ∙ sym (mul-assoc n (2 ^ b) 2))) in
+    ∙ sym (mul-assoc n (2 ^ b) 2))) in
     (r .0, ap suc (r .1))
 
 -- of a value that fits: m is odd, and has at most 53 digits; or it is 0 with the exponent 0
@@ -113,7 +113,7 @@ same-value nan s m e p q h = absurd h
 same-value (inf t) s m e p q h = absurd h
 same-value (fin t zero g) s m e p q h =
     absurd (lt-irrefl 0 (subst (λ (z : ℕ). 0 < z) (sym (h .1) ∙ ap (λ (z : ℕ). z * down e) (zero-mul (up g)) ∙ zero-mul (down e))
-        (mul-pos (mul-pos (zero-lt-suc m) (up-pos e)) (down-pos g))))
+    (mul-pos (mul-pos (zero-lt-suc m) (up-pos e)) (down-pos g))))
 same-value (fin t (suc n) g) s m e p q h =
     (λ i. fin ((h .0) i) (suc n) g) ∙ same-number s n g m e (is-odd t n g p) (is-odd s m e q) (h .1)
 
@@ -127,14 +127,14 @@ exact s m (pos k) t =
     round-exact binary64 s (suc m * 2 ^ k) 1 (suc m) (k + 1074) (zero-lt-suc 0) (is-small s m (pos k) t)
     (subst (λ (z : ℕ). z < 2 ^ 2098) (mul-assoc (suc m) (2 ^ k) (2 ^ 1074) ∙ ap (λ (z : ℕ). suc m * z) (sym (pow-add 2 k 1074)))
     (mul-lt-mul-of-pos-right {k = 2 ^ 1074} (subst (λ (z : ℕ). suc m * 2 ^ k < z) (mul-one (2 ^ 1024)) (is-below s m (pos k) t))
-        (pow-pos 1074)))
+    (pow-pos 1074)))
     (mul-assoc (suc m) (2 ^ k) (2 ^ 1074) ∙ ap (λ (z : ℕ). suc m * z) (sym (pow-add 2 k 1074)) ∙ sym (mul-one (suc m * 2 ^ (k + 1074))))
 exact s m (negsuc k) t =
     let l : suc k ≤ 1074 = spare (suc k) (is-fine s m (negsuc k) t) in
     round-exact binary64 s (suc m * 1) (2 ^ suc k) (suc m) (1074 - suc k) (pow-pos (suc k)) (is-small s m (negsuc k) t)
     (lt-of-lt-of-le (shl-lt 53 (1074 - suc k) (is-small s m (negsuc k) t)) (pow-mono {i = 53 + (1074 - suc k)} {j = 2098} (omega arith)))
     (ap (λ (z : ℕ). z * 2 ^ 1074) (mul-one (suc m)) ∙ ap (λ (z : ℕ). suc m * 2 ^ z) (sym (sub-add-cancel l))
-        ∙ ap (λ (z : ℕ). suc m * z) (pow-add 2 (1074 - suc k) (suc k)) ∙ sym (mul-assoc (suc m) (2 ^ (1074 - suc k)) (2 ^ suc k)))
+    ∙ ap (λ (z : ℕ). suc m * z) (pow-add 2 (1074 - suc k) (suc k)) ∙ sym (mul-assoc (suc m) (2 ^ (1074 - suc k)) (2 ^ suc k)))
 
 pub round-self : (s : Bool) (m : ℕ) (e : ℤ) → T (fits binary64 (fin s (suc m) e)) →
     round binary64 s (suc m * up e) (down e) ≡ fin s (suc m) e
@@ -180,16 +180,16 @@ minus-zero-plus nan t = unfold add in refl
 minus-zero-plus (inf s) t = unfold add in refl
 minus-zero-plus (fin true zero d) t =
     (simp (zero-mul, one-mul) at (plus-opened true zero d)) ∙ sum-minus 0 (down d) ∙ round-zero true (down d) (down-pos d)
-        ∙ ap (λ (z : ℤ). fin true 0 z) (sym (zero-exp true d t))
+    ∙ ap (λ (z : ℤ). fin true 0 z) (sym (zero-exp true d t))
 minus-zero-plus (fin false zero d) t =
     (simp (zero-mul, one-mul) at (plus-opened false zero d)) ∙ sum-none (down d) ∙ round-zero false (down d) (down-pos d)
-        ∙ ap (λ (z : ℤ). fin false 0 z) (sym (zero-exp false d t))
+    ∙ ap (λ (z : ℤ). fin false 0 z) (sym (zero-exp false d t))
 minus-zero-plus (fin true (suc n) d) t =
     (simp (zero-mul, one-mul, mul-one) at (plus-opened true (suc n) d)) ∙ sum-minus (suc n * up d) (down d)
     ∙ ap (λ (z : ℕ). round binary64 true z (down d)) (zero-add (suc n * up d)) ∙ round-self true n d t
 minus-zero-plus (fin false (suc n) d) t =
     (simp (zero-mul, one-mul, mul-one) at (plus-opened false (suc n) d))
-        ∙ sum-plus (suc n * up d) (down d) (mul-pos (zero-lt-suc n) (up-pos d))
+    ∙ sum-plus (suc n * up d) (down d) (mul-pos (zero-lt-suc n) (up-pos d))
     ∙ ap (λ (z : ℕ). round binary64 false z (down d)) (sub-zero (suc n * up d)) ∙ round-self false n d t
 
 -- ---- coefficients, the constant first
@@ -246,7 +246,7 @@ polynomial-is c cs s x h t u =
     let p = unit-plain x u in
     ap (λ (l : List Float). clipOf (hornerOf l x)) (nine-is (c ∷ cs) h)
     ∙ subst (λ (y : Float). clipOf (hornerOf ((c ∷ cs) ++ replicate (9 - length (c ∷ cs)) minusZero) y) ≡ clipOf (hornerOf (c ∷ cs) y))
-        (sym (p .2))
+    (sym (p .2))
     (ap clipOf (pad (p .0) (p .1) (9 - length (c ∷ cs)) c cs t))
 
 -- ---- degrees up to 3
@@ -270,5 +270,5 @@ cubic-is c cs x h t u =
     let p = unit-plain x u in
     ap (λ (l : List Float). clipOf (hornerOf l x)) (four-is (c ∷ cs) h)
     ∙ subst (λ (y : Float). clipOf (hornerOf ((c ∷ cs) ++ replicate (4 - length (c ∷ cs)) minusZero) y) ≡ clipOf (hornerOf (c ∷ cs) y))
-        (sym (p .2))
+    (sym (p .2))
     (ap clipOf (pad (p .0) (p .1) (4 - length (c ∷ cs)) c cs t))

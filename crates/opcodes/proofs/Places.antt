@@ -137,7 +137,7 @@ place-number a size n o s h few =
     let near : n ≤ 65536 = omega arith in
     let sum = add-number (floatOf n) half (value-number (floatOf n) n (float-value n near)) tt in
     let part = div-number (add binary64 (floatOf n) half) (floatOf size) sum
-        (positive-of-value (floatOf size) size 1 (float-value size few) (omega arith)) in
+    (positive-of-value (floatOf size) size 1 (float-value size few) (omega arith)) in
     div-number _ (a .spacing) (sub-number _ (a .origin) part o) s
 
 -- so for every row or column, where an axis has more than one point

@@ -73,14 +73,14 @@ module _ (f : List ℕ) (at n : ℕ) where
 
     polynomial-step : countOf own ≤ 8 → 36 + 8 * (countOf own + 1) ≤ n → unit x →
         appliedOf (polynomialOf (coefficientsOf f (at + 36) (longOf f (at + 32) + 1))) f x ≡ clipOf
-            (hornerOf (coefficientsOf own 36 (countOf own + 1)) x)
+        (hornerOf (coefficientsOf own 36 (countOf own + 1)) x)
     polynomial-step m h u =
         let e : longOf f (at + 32) + 1 ≡ suc (countOf own) = omega (arith, long-own some) in
         let q : countOf own + 1 ≡ suc (countOf own) = omega arith in
         let h′ : 36 + 8 * suc (countOf own) ≤ n = rw q at h in
         rw (e, q) (polynomial-read f (at + 36) (countOf own) x (omega arith) u
         ∙ ap (λ (cs : List Float). clipOf (hornerOf cs x))
-            (run-own (λ bs. valueOf (realOf binary64 (numberOf Big bs))) 8 (suc (countOf own)) h′))
+        (run-own (λ bs. valueOf (realOf binary64 (numberOf Big bs))) 8 (suc (countOf own)) h′))
 
     add-step : (m k : ℕ) → 36 + 4 * m ≤ n → k < m →
         appliedOf (Add (floatAt f at k)) f x ≡ clipOf (add binary64 x (getD (floatsOf own 36 m) k plusZero))
@@ -208,7 +208,7 @@ floats-in f at n z id lines m k i e w b l =
     let r = each-kept ps 36 m k (numbers-kept z id ps (linesForm lines m) w e (refusedIn 4 ps 36 m) refl) l in
     let p : part ps (36 + 4 * k) 4 ≡ part f (at + 36 + 4 * k) 4 =
     part-part f at n (36 + 4 * k) 4 (omega arith)
-        ∙ ap (λ (q : ℕ). part f q 4) (let q : at + (36 + 4 * k) ≡ at + 36 + 4 * k = omega arith in q) in
+    ∙ ap (λ (q : ℕ). part f q 4) (let q : at + (36 + 4 * k) ≡ at + 36 + 4 * k = omega arith in q) in
     record { inside = omega arith; accepted = rw (← p) (kept-pattern (numberOf Big (part ps (36 + 4 * k) 4)) r) }
 
 -- a sample on the grid
@@ -276,7 +276,7 @@ module _ (f : List ℕ) (at n : ℕ) (z : Size) (id : ℕ) (inside : at + n ≤ 
       let k = form-table g id m (eq-eqb id 7 e) in
       let b = bytes (tableForm m) k in
       ap (λ (s : Step). appliedOf s f x) (sym (step-7 f at id _ _ e)) ∙ table-step f at n 0 0 x enough (omega arith)
-          ∙ rw (eq-eqb id 7 e) refl
+      ∙ rw (eq-eqb id 7 e) refl
 
   module _ (n7 : id ≡ 7 → ⊥) where
     acts-8 : id ≡ 8 → unit x → Acts
@@ -286,7 +286,7 @@ module _ (f : List ℕ) (at n : ℕ) (z : Size) (id : ℕ) (inside : at + n ≤ 
         let b = bytes (polynomialForm m) k in
         let l : m ≤ 8 = leb-true m 8 (legal (polynomialForm m) k) in
         ap (λ (s : Step). appliedOf s f x) (sym (step-8 f at id _ _ n7 e)) ∙ polynomial-step f at n 0 0 x enough l (omega arith) u
-            ∙ rw (ne-eqb id 7 n7, eq-eqb id 8 e) refl
+        ∙ rw (ne-eqb id 7 n7, eq-eqb id 8 e) refl
 
     module _ (n8 : id ≡ 8 → ⊥) (on : onOf g r c p ≡ true) where
       row-line : (eqb id 10 || eqb id 12) ≡ true → (36 + 4 * m ≤ n) × (lineOf row g r c < m)
@@ -296,7 +296,7 @@ module _ (f : List ℕ) (at n : ℕ) (z : Size) (id : ℕ) (inside : at + n ≤ 
           let l : m ≡ rowsOf g = eqb-true m (rowsOf g) (legal (linesForm (rowsOf g) m) k) in
           let o = on-in g r c p on in
           let q : lineOf row g r c < rowsOf g = line-below (g .top) (g .bottom) (g .«row_pitch») r (accepted z id ps ok .grid .row-pitch)
-              (o .top) (o .bottom) in
+          (o .top) (o .bottom) in
           (omega arith, omega arith)
 
       column-line : (eqb id 10 || eqb id 12) ≡ false → (36 + 4 * m ≤ n) × (lineOf column g r c < m)
@@ -306,7 +306,7 @@ module _ (f : List ℕ) (at n : ℕ) (z : Size) (id : ℕ) (inside : at + n ≤ 
           let l : m ≡ columnsOf g = eqb-true m (columnsOf g) (legal (linesForm (columnsOf g) m) k) in
           let o = on-in g r c p on in
           let q : lineOf column g r c < columnsOf g = line-below (g .left) (g .right) (g .«column_pitch») c
-              (accepted z id ps ok .grid .column-pitch) (o .left) (o .right) in
+          (accepted z id ps ok .grid .column-pitch) (o .left) (o .right) in
           (omega arith, omega arith)
 
       acts-10 : id ≡ 10 → Acts
@@ -330,7 +330,7 @@ module _ (f : List ℕ) (at n : ℕ) (z : Size) (id : ℕ) (inside : at + n ≤ 
           acts-12 e =
               let l = row-line (rw (ne-eqb id 10 n10, eq-eqb id 12 e) refl) in
               ap (λ (s : Step). appliedOf s f x) (sym (step-12 f at id _ _ n7 n8 n10 n11 e))
-                  ∙ scale-step f at n 0 0 x enough m _ (l .0) (l .1)
+              ∙ scale-step f at n 0 0 x enough m _ (l .0) (l .1)
               ∙ rw (ne-eqb id 7 n7, ne-eqb id 8 n8, ne-eqb id 9 n9, ne-eqb id 10 n10, ne-eqb id 11 n11, eq-eqb id 12 e) refl
 
           acts-13 : (id ≡ 12 → ⊥) → Acts
@@ -338,7 +338,7 @@ module _ (f : List ℕ) (at n : ℕ) (z : Size) (id : ℕ) (inside : at + n ≤ 
           acts-13 e =
               let l = column-line (rw (ne-eqb id 10 n10, ne-eqb id 12 e) refl) in
               ap (λ (s : Step). appliedOf s f x) (sym (step-13 f at id _ _ n7 n8 n10 n11 e))
-                  ∙ scale-step f at n 0 0 x enough m _ (l .0) (l .1)
+              ∙ scale-step f at n 0 0 x enough m _ (l .0) (l .1)
               ∙ rw (ne-eqb id 7 n7, ne-eqb id 8 n8, ne-eqb id 9 n9, ne-eqb id 10 n10, ne-eqb id 11 n11, ne-eqb id 12 e) refl
 
   -- at a sample of its grid, an accepted opcode's step makes of a number from 0 to 1 what the opcode does

@@ -73,7 +73,7 @@ module _ (f : List ℕ) (at k : ℕ) (fits : startOf f at (suc (suc k)) ≤ leng
   swapped-second : part (swappedFile f at k) (a + (c - b)) (b - a) ≡ part f a (b - a)
   swapped-second =
       ap (take (b - a)) (sym (drop-drop (c - b) a (swappedFile f at k)) ∙ ap (drop (c - b)) behind
-          ∙ drop-at (part f b (c - b)) _ (c - b) next)
+      ∙ drop-at (part f b (c - b)) _ (c - b) next)
       ∙ take-at (part f a (b - a)) _ (b - a) one
 
   pub swapped-length : length (swappedFile f at k) ≡ length f
@@ -120,9 +120,9 @@ module _ (z : Size) (i i′ : ℕ) (o : Opcode) where
         let w : ℕ = wholeAt f at in
         let p : part g (at′ + 16) (headAt f at .length) ≡ part f (at + 16) (headAt f at .length) =
         sym (part-part g at′ w 16 (headAt f at .length) (omega arith)) ∙ ap (λ (bs : List ℕ). part bs 16 (headAt f at .length)) s
-            ∙ part-part f at w 16 (headAt f at .length) (omega arith) in
+        ∙ part-part f at w 16 (headAt f at .length) (omega arith) in
         let h : headAt g at′ ≡ headAt f at = ap headerOf
-            (sym (take-take 16 w (drop at′ g) (omega arith)) ∙ ap (take 16) s ∙ take-take 16 w (drop at f) (omega arith)) in
+        (sym (take-take 16 w (drop at′ g) (omega arith)) ∙ ap (take 16) s ∙ take-take 16 w (drop at f) (omega arith)) in
         list-of g z k i′ at′ n o os (rw h l) (rw h (opcode-moved (classOf (headAt f at)) (headAt f at) p e)) (rw h r)
 
 -- ---- the list
@@ -148,8 +148,8 @@ swap-from f z zero (suc (suc m)) i at n os l e s =
     let c : at + w + v ≡ at + v + w = omega arith in
     let d : n - w - v ≡ n - v - w = omega arith in
     let t : is (y .others) ≡ run g (listFrom z m (i + 1 + 1) (at + v + w) (n - v - w)) = y .others-are ∙ sym r
-        ∙ ap (λ (j : ℕ). run g (listFrom z m (i + 1 + 1) j (n - w - v))) c
-        ∙ ap (λ (j : ℕ). run g (listFrom z m (i + 1 + 1) (at + v + w) j)) d in
+    ∙ ap (λ (j : ℕ). run g (listFrom z m (i + 1 + 1) j (n - w - v))) c
+    ∙ ap (λ (j : ℕ). run g (listFrom z m (i + 1 + 1) (at + v + w) j)) d in
     ap (λ (l : List Opcode). is (swapAt 0 l)) two
     ∙ list-moved z (i + 1) i (y .first) g f (at + w) at (suc m) n _ (omega (arith, y .fits)) p (y .first-is)
     (list-moved z i (i + 1) (x .first) g f at (at + v) m (n - v) _ (omega (arith, x .fits, y .fits)) q (x .first-is) t)
@@ -157,10 +157,10 @@ swap-from f z (suc k) (suc m) i at n os l e s =
     let w : ℕ = wholeAt f at in
     let x = list-inverse f z m i at n os e in
     let fits : startOf f (at + w) (suc (suc k)) ≤ length f = omega
-        (arith, x .fits, start-inside f z (suc (suc k)) m (i + 1) (at + w) (n - w) (x .others) (x .others-are) (omega arith)) in
+    (arith, x .fits, start-inside f z (suc (suc k)) m (i + 1) (at + w) (n - w) (x .others) (x .others-are) (omega arith)) in
     let p : part (swappedFile f (at + w) k) at w ≡ part f at w =
     part-same _ f at w (swapped-length f (at + w) k fits)
-        (λ j _ h. swapped-outside f (at + w) k fits j (inl (omega (arith, start-above f (at + w) k)))) in
+    (λ j _ h. swapped-outside f (at + w) k fits j (inl (omega (arith, start-above f (at + w) k)))) in
     ap (λ (l : List Opcode). is (swapAt (suc k) l)) (x .all)
     ∙ list-moved z i i (x .first) (swappedFile f (at + w) k) f at at m n _ (x .fits) p (x .first-is)
     (swap-from f z k m (i + 1) (at + w) (n - w) (x .others) (omega (arith, x .fits)) (x .others-are) (omega arith))
@@ -187,7 +187,7 @@ module _ (f : List ℕ) (z : Size) (s n : ℕ) (some : 4 ≤ n) (os : List Opcod
       let fits : startOf f (s + 4) (suc (suc k)) ≤ length f = omega (arith, swapped-inside .1) in
       let c : part g s 4 ≡ part f s 4 =
       part-same g f s 4 (swapped-length f (s + 4) k fits)
-          (λ i _ b. swapped-outside f (s + 4) k fits i (inl (omega (arith, swapped-inside .0)))) in
+      (λ i _ b. swapped-outside f (s + 4) k fits i (inl (omega (arith, swapped-inside .0)))) in
       swap-from f z k count 0 (s + 4) (n - 4) os (omega arith) (list .1) enough
       ∙ value-some g z s n (λ q. omega arith) count (ap (numberOf Big) (sym c)) (list .0)
 
@@ -205,7 +205,7 @@ swapped-counts (suc k) (kept g a ∷ os) = let r = swapped-counts k os in (ap su
 -- ---- disjoint grids: the same numbers
 pub alone-swapped :
     (k : ℕ) (os : List Opcode) → Apart (getD os k skipped) (getD os (suc k) skipped) → (r c p : ℕ) (x : Float) →
-        alone (swapAt k os) r c p x ≡ alone os r c p x
+    alone (swapAt k os) r c p x ≡ alone os r c p x
 unfolding alone
 alone-swapped k [] d r c p x = refl
 alone-swapped zero (o ∷ []) d r c p x = refl

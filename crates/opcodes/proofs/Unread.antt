@@ -81,7 +81,7 @@ module _ (f : List ℕ) (j : ℕ) where
       whole : Unread (pick (leb (16 + head at .length) n)
           (bind (opcodeReading (classOf (head at)) z i at (head at)) (λ (o : Opcode).
           bind (listFrom z k (i + 1) (at + (16 + head at .length)) (n - (16 + head at .length)))
-              (λ (os : List Opcode). answer (is (o ∷ os)))))
+          (λ (os : List Opcode). answer (is (o ∷ os)))))
           (answer (refused 10 i)))
       whole =
           of-pick (leb (16 + head at .length) n) _ (answer (refused 10 i))
@@ -93,7 +93,7 @@ module _ (f : List ℕ) (j : ℕ) where
           pick (leb (16 + headerOf bs .length) n)
           (bind (opcodeReading (classOf (headerOf bs)) z i at (headerOf bs)) (λ (o : Opcode).
           bind (listFrom z k (i + 1) (at + (16 + headerOf bs .length)) (n - (16 + headerOf bs .length)))
-              (λ (os : List Opcode). answer (is (o ∷ os)))))
+          (λ (os : List Opcode). answer (is (o ∷ os)))))
           (answer (refused 10 i))))
       asked (inl h) = of-ask-below at 16 _ h whole
       asked (inr h) = of-ask-above at 16 _ h whole
@@ -113,7 +113,7 @@ module _ (f : List ℕ) (j : ℕ) where
   skipped-unread z zero i at n m c l h = unfold listFrom in of-answer _
   skipped-unread z (suc k) i at n zero c l h =
       of-more z k i at n (inr l) (rw c (of-answer (is skipped)))
-          (list-below z k (i + 1) (at + (16 + head at .length)) (n - (16 + head at .length)) h)
+      (list-below z k (i + 1) (at + (16 + head at .length)) (n - (16 + head at .length)) h)
   skipped-unread z (suc k) i at n (suc m) c l h =
       let a = start-above f (at + (16 + head at .length)) m in
       of-more z k i at n (inr (omega arith)) (of-opcode-above (classOf (head at)) z i at (head at) (omega arith))

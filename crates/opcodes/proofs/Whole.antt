@@ -72,7 +72,7 @@ field-low m e h =
     let n = m * up e * 2 ^ 1074 / down e in
     let w : 65536 * down e * 2 ^ 1074 ≡ 2 ^ 1090 * down e = mul-right-comm 65536 (down e) (2 ^ 1074) in
     let l : m * up e * 2 ^ 1074 < 2 ^ 1090 * down e = subst (λ (k : ℕ). m * up e * 2 ^ 1074 < k) w
-        (mul-lt-mul-of-pos-right h (pow-pos 1074)) in
+    (mul-lt-mul-of-pos-right h (pow-pos 1074)) in
     let s : size n ≤ 1090 = size-le n 1090 (div-lt-iff-lt-mul (down-pos e) .1 l) in
     let q : n / 2 ^ (size n - 53) < 2 ^ 53 = kept-lt 53 n in
     room (size n) (n / 2 ^ (size n - 53)) s q

@@ -10,6 +10,8 @@ ghost use Rattle.opcodes.specs.Bracket.{Axis-in, GainMap-in, pointOf, ta
 use crate::grid;
 use crate::grid::Size;
 use crate::step;
+use levels::active::ActiveColumn;
+use levels::active::ActiveRow;
 use reading::number;
 use reading::number::Order;
 use reading::real;
@@ -275,12 +277,12 @@ pub fn plane_for(ps: &[u8], j: usize) -> usize
 }
 
 // The gain at a row and a column of the active area, on the opcode's j-th plane.
-pub fn gain_at(ps: &[u8], size: Size, row: usize, column: usize, j: usize) -> f64
-    requires { ⌜ GainMap-in (now ps) × (size .rows ≤ 16384) × (size .columns ≤ 16384) × (row < size .rows) × (column < size .columns) ⌝ }
-    ensures { λ r. ⌜ r ≡ gainOf (gainMapOf (now (ps .entry))) size row column j ⌝ }
+pub fn gain_at(ps: &[u8], size: Size, row: ActiveRow, column: ActiveColumn, j: usize) -> f64
+    requires { ⌜ GainMap-in (now ps) × (size .rows ≤ 16384) × (size .columns ≤ 16384) × (row .0 < size .rows) × (column .0 < size .columns) ⌝ }
+    ensures { λ r. ⌜ r ≡ gainOf (gainMapOf (now (ps .entry))) size (row .0) (column .0) j ⌝ }
 {
-    let down = located(down_axis(ps), size.rows, row);
-    let across = located(across_axis(ps), size.columns, column);
+    let down = located(down_axis(ps), size.rows, row.0);
+    let across = located(across_axis(ps), size.columns, column.0);
     let corners = corners_at(ps, down, plane_for(ps, j), point(across));
     corners_gain(corners, down, across)
 }

@@ -4,6 +4,8 @@ ghost use Prim.Native.Nat.{ℕ, _+_, _≤_, _<_};
 ghost use lib.ListN.{length};
 ghost use Rattle.reading.specs.Bytes.{part};
 ghost use Rattle.opcodes.specs.Grid.{longOf, everyOf, onOf, linesOf, gridOf, insideOf, planesFit, fitsOf};
+use levels::active::ActiveColumn;
+use levels::active::ActiveRow;
 use reading::number;
 use reading::number::Order;
 
@@ -41,12 +43,12 @@ pub fn every(first: usize, end: usize, pitch: usize, n: usize) -> bool
 }
 
 // Whether a sample is on the grid.
-pub fn on(grid: Grid, row: usize, column: usize, plane: usize) -> bool
+pub fn on(grid: Grid, row: ActiveRow, column: ActiveColumn, plane: usize) -> bool
     requires { ⌜ (1 ≤ grid .«row_pitch») × (1 ≤ grid .«column_pitch») × (grid .plane < 0x1_0000_0000) × (grid .planes < 0x1_0000_0000) ⌝ }
-    ensures { λ r. ⌜ r ≡ onOf grid row column plane ⌝ }
+    ensures { λ r. ⌜ r ≡ onOf grid (row .0) (column .0) plane ⌝ }
 {
-    if every(grid.top, grid.bottom, grid.row_pitch, row) {
-        if every(grid.left, grid.right, grid.column_pitch, column) {
+    if every(grid.top, grid.bottom, grid.row_pitch, row.0) {
+        if every(grid.left, grid.right, grid.column_pitch, column.0) {
             return grid.plane <= plane && plane < grid.plane + grid.planes;
         }
     }

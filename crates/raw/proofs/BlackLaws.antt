@@ -64,7 +64,7 @@ module _ (f : List ℕ) (o : Order) (k : BlackKind) (size n p : ℕ) (sized : 0 
       let b : 0 + size * i + widthOf k ≤ size * n = omega (arith, within size n i h) in
       let g : p + (0 + size * i) ≡ p + size * i = omega arith in
       ap (λ (bs : List ℕ). blackOf (valueOf k o bs))
-          (part-part f p (size * n) (0 + size * i) (widthOf k) b ∙ ap (λ (q : ℕ). part f q (widthOf k)) g))
+      (part-part f p (size * n) (0 + size * i) (widthOf k) b ∙ ap (λ (q : ℕ). part f q (widthOf k)) g))
 
   pub blacks-test : (tag : ℕ) (b : Black) → b ≡ firstRefused (runOf (blackAt k o f) size p n) →
       blackOut tag b ≡ run f (blacksTest o tag k size n p)

@@ -29,7 +29,7 @@ module _ (f : List ℕ) (d : Ifd) (s : ℕ) (v : Values) (e : is v ≡ run f (va
   module _ (b : bytesPer n ≡ 0 → ⊥) where
     pub depth-refused : (k t : ℕ) →
         refused k t ≡ run f (eachReading (d .order) (v .size) 258 (range 0 n n) (v .count) (v .place)) →
-            refused k t ≡ run f (depthReading d s)
+        refused k t ≡ run f (depthReading d s)
     unfolding depthFrom
     depth-refused k t h = sym (depth-from ∙ rw (ne-eqb _ _ b, pick-no) (sym (bind-refused f _ _ k t h)))
 

@@ -51,7 +51,7 @@ pub worked : Worked
 unfolding run andThen pick numberAt numberOf littleOf bind kindOf plainOf sizeOf headerOf findFrom wholeReading valueReading testedReading
     absentOf
     valuesReading faultOf judgedOf firstReading oneReading eachReading allReading oneOf firstOf lastOf placesOf fourColoursReading
-        cfaPatternReading
+    cfaPatternReading
     planeColorOf
     threeColoursReading planeColorReading patternReading
 worked = record { whole = refl; defaults = refl; refusals = refl }

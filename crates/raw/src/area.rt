@@ -11,15 +11,13 @@ use directory::tag;
 use directory::tag::Given;
 use directory::tag::Kinds;
 use directory::tag::Rule;
+use levels::active::ActiveColumn;
+use levels::active::ActiveRow;
 use reading::number;
 
 pub struct StoredRow(pub usize);
 
 pub struct StoredColumn(pub usize);
-
-pub struct ActiveRow(pub usize);
-
-pub struct ActiveColumn(pub usize);
 
 // In stored rows and columns; bottom and right are past the area.
 pub struct Area {

@@ -41,7 +41,7 @@ use Rattle.rows.proofs.Sweeps.{every-told, line-first, line-more}
 pub column-below : (left right pitch j : ℕ) → 0 < pitch → j < linesOf left right pitch → left + j * pitch < right
 column-below left right pitch j p h =
     let q : (j + 1) * pitch ≤ right - left + (pitch - 1) = le-div-iff-mul-le p .0
-        (let s : j + 1 ≤ linesOf left right pitch = omega arith in s) in
+    (let s : j + 1 ≤ linesOf left right pitch = omega arith in s) in
     omega (arith, add-mul j 1 pitch, one-mul pitch)
 
 module _ (s : Columns) where
@@ -85,7 +85,7 @@ module _ (z : Size) (ps : List ℕ) where
 
     line-is : (c j : ℕ) → everyOf (own .left) (own .right) (own .«column_pitch») c ≡ true →
         gainIn (gainMapOf ps) down (min j (planesIn ps - 1)) (z .columns)
-            (own .left + (c - own .left) / own .«column_pitch» * own .«column_pitch»)
+        (own .left + (c - own .left) / own .«column_pitch» * own .«column_pitch»)
         ≡ gainOf (gainMapOf ps) z r c j
     unfolding gainMapOf
     line-is c j t =
@@ -100,7 +100,7 @@ module _ (z : Size) (ps : List ℕ) where
         pick b (gainLine ps z own down p ((c - own .left) / own .«column_pitch») x) x ≡ opcodeAt (gainedOf z ps) r c p x
     same c p x true t =
         simp pick-yes (ap (λ (y : Float). clipOf (mul binary64 x y)) (line-is c (p - own .plane) (on-in own r c p t .column))
-            ∙ gained r c p x t)
+        ∙ gained r c p x t)
     same c p x false t = simp pick-no (gone r c p x t)
 
     row-here : everyOf (own .top) (own .bottom) (own .«row_pitch») r ≡ true → after own ≡ overPart (gainedOf z ps) r l n xs

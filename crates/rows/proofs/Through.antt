@@ -28,7 +28,7 @@ part-units f o t r l xs k b =
     let q = each-length (λ (j : ℕ) (x : Float). scaledIn f o t r (l + j / t .frame .samples) (j % t .frame .samples)) 0 xs in
     let b′ : k < length xs = omega arith in
     let e : getD (scaledPart f o t r l xs) k nan ≡ scaledIn f o t r (l + (0 + k) / t .frame .samples) ((0 + k) % t .frame .samples) =
-        each-at _ 0 xs k nan b′ in
+    each-at _ 0 xs k nan b′ in
     rw e (scaled-in-unit f o t r (l + (0 + k) / t .frame .samples) ((0 + k) % t .frame .samples))
 
 -- the scaled values through the list

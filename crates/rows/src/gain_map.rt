@@ -12,6 +12,8 @@ ghost use Rattle.rows.specs.Sweep.{sweptOf, planesOf, overPart};
 ghost use Rattle.rows.specs.GainMap.{columnAt, Columns-in, timesGain, gainLine};
 ghost use Rattle.rows.specs.Part.{Sized-in, gainedOf};
 use crate::sweep;
+use levels::active::ActiveColumn;
+use levels::active::ActiveRow;
 use opcodes::gain_map;
 use opcodes::gain_map::Axis;
 use opcodes::gain_map::Bracket;
@@ -63,11 +65,18 @@ fn sweep_gain(
     }
 }
 
-// A grid's columns in the part from column l on, plane after plane, in a row whose bracket is `down`.
-fn gain_planes(ps: &[u8], size: Size, grid: Grid, down: Bracket, l: usize, out: &mut [f64])
-    requires { ⌜ Sized-in size × Fits-in size grid × (grid .«column_pitch» < 0x1_0000_0000) × (l < 0x1_0000_0000) ⌝ }
+// A grid's columns in the part from a column on, plane after plane, in a row whose bracket is `down`.
+fn gain_planes(
+    ps: &[u8],
+    size: Size,
+    grid: Grid,
+    down: Bracket,
+    column: ActiveColumn,
+    out: &mut [f64],
+)
+    requires { ⌜ Sized-in size × Fits-in size grid × (grid .«column_pitch» < 0x1_0000_0000) × (column .0 < 0x1_0000_0000) ⌝ }
     requires { ⌜ GainMap-in (now ps) × Bracket-in (longOf (now ps) 32) down ⌝ }
-    ensures { λ _. ⌜ now (out .exit) ≡ planesOf (gainLine (now (ps .entry)) size grid down) (grid .left) (grid .right) (grid .«column_pitch») l (size .samples) (grid .plane) (grid .plane + grid .planes) (now (out .entry)) ⌝ }
+    ensures { λ _. ⌜ now (out .exit) ≡ planesOf (gainLine (now (ps .entry)) size grid down) (grid .left) (grid .right) (grid .«column_pitch») (column .0) (size .samples) (grid .plane) (grid .plane + grid .planes) (now (out .entry)) ⌝ }
 {
     let left = grid.left;
     let right = grid.right;
@@ -77,6 +86,7 @@ fn gain_planes(ps: &[u8], size: Size, grid: Grid, down: Bracket, l: usize, out: 
     let stop = plane + planes;
     let n = size.samples;
     let width = size.columns;
+    let l = column.0;
     let across = gain_map::across_axis(ps);
     let skip = sweep::skipped(left, pitch, l);
     let first = sweep::first_at(left, pitch, l, n);
@@ -97,23 +107,30 @@ fn gain_planes(ps: &[u8], size: Size, grid: Grid, down: Bracket, l: usize, out: 
     }
 }
 
-// An accepted GainMap over the part of a row from column l on.
-pub fn gain_row(ps: &[u8], size: Size, row: usize, l: usize, out: &mut [f64])
-    requires { ⌜ (gainMapFault size (now ps) ≡ 0) × Sized-in size × (l < 0x1_0000_0000) ⌝ }
-    ensures { λ _. ⌜ now (out .exit) ≡ overPart (gainedOf size (now (ps .entry))) row l (size .samples) (now (out .entry)) ⌝ }
+// An accepted GainMap over the part of a row from a column on.
+pub fn gain_row(ps: &[u8], size: Size, row: ActiveRow, column: ActiveColumn, out: &mut [f64])
+    requires { ⌜ (gainMapFault size (now ps) ≡ 0) × Sized-in size × (column .0 < 0x1_0000_0000) ⌝ }
+    ensures { λ _. ⌜ now (out .exit) ≡ overPart (gainedOf size (now (ps .entry))) (row .0) (column .0) (size .samples) (now (out .entry)) ⌝ }
 {
     let g = grid::grid_at(ps, 0);
     let top = g.top;
-    if grid::every(top, g.bottom, g.row_pitch, row) {
-        let down = gain_map::located(gain_map::down_axis(ps), size.rows, row);
-        gain_planes(ps, size, g, down, l, out);
+    if grid::every(top, g.bottom, g.row_pitch, row.0) {
+        let down = gain_map::located(gain_map::down_axis(ps), size.rows, row.0);
+        gain_planes(ps, size, g, down, column, out);
     }
 }
 
 // An accepted GainMap at one sample: a factor.
-pub fn gain_at(ps: &[u8], size: Size, row: usize, column: usize, plane: usize, x: f64) -> f64
+pub fn gain_at(
+    ps: &[u8],
+    size: Size,
+    row: ActiveRow,
+    column: ActiveColumn,
+    plane: usize,
+    x: f64,
+) -> f64
     requires { ⌜ (gainMapFault size (now ps) ≡ 0) × Sized-in size ⌝ }
-    ensures { λ r. ⌜ r ≡ opcodeAt (gainedOf size (now (ps .entry))) row column plane x ⌝ }
+    ensures { λ r. ⌜ r ≡ opcodeAt (gainedOf size (now (ps .entry))) (row .0) (column .0) plane x ⌝ }
 {
     let g = grid::grid_at(ps, 0);
     if grid::on(g, row, column, plane) {

@@ -106,7 +106,7 @@ cell-small f o t h r c p =
     let b = t .levels .black in
     let q = h .levels .black in
     rw (cell-for f o t r c p) (blacks-small f o (kindFor (b .kind)) b (λ s. q .typed s .1 ∙ width-for _ (q .typed s .0))
-        (cellIndex t r c p))
+    (cellIndex t r c p))
 
 -- ---- what lies along a part of a row
 module _ (v : Levels) (n l len : ℕ) (some : 1 ≤ n) (along : List Float) (w : Along-in v n l len along) where
@@ -152,20 +152,26 @@ module _ (v : Levels) (n l len : ℕ) (some : 1 ≤ n) (along : List Float) (w :
         record {
           cell-is = λ k b.
               let b′ : k < q = omega (arith, cells-length) in
-              record { small = small (l + k / n) (k % n); number = part-at nan (r * q) (r * q + q - r * q) k along (omega arith)
-                  ∙ w .cells r k h b′ };
+              record {
+                small = small (l + k / n) (k % n);
+                number = part-at nan (r * q) (r * q + q - r * q) k along (omega arith)
+                    ∙ w .cells r k h b′;
+              };
           inverse-is = λ k b.
               let b′ : k < q = omega (arith, cells-length) in
               let a = v .repeat-rows * q in
-              record { inside = spans (k % n) (mod-lt k some); number = part-at nan a (a + q - a) k along (omega arith)
-                  ∙ w .inverses k b′ };
+              record {
+                inside = spans (k % n) (mod-lt k some);
+                number = part-at nan a (a + q - a) k along (omega arith)
+                    ∙ w .inverses k b′;
+              };
           down-is = y;
         }
 
 -- ---- rows of q numbers are what lies along
 pub along-filled :
     (v : Levels) (n l len q R C : ℕ) (new : List Float) → v .repeat-rows ≡ R → v .repeat-columns ≡ C → length new ≡ (R + 1) * q → 1 ≤ q →
-        q ≤ 512
+    q ≤ 512
     → ((r k : ℕ) → r < R → k < q → getD new (r * q + k) nan ≡ ofParts (cellAlong v n r l k))
     → ((k : ℕ) → k < q → getD new (R * q + k) nan ≡ inverseOf (spanAlong v n k))
     → (q < len → q % (C * n) ≡ 0) → Along-in v n l len new

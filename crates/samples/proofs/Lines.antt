@@ -64,7 +64,7 @@ module _ {A : Type 0} (d : A) (a n : ℕ) (xs ys : List A) where
   put-inside k h b =
       let e : a + k ≡ length (take a xs) + k = ap (λ (z : ℕ). z + k) (sym (length-take-le a xs h)) in
       ap (λ (z : ℕ). getD replaced z d) e ∙ getD-append-add (take a xs) (ys ++ drop n (drop a xs)) k d
-          ∙ List·getD-append ys (drop n (drop a xs)) d k b
+      ∙ List·getD-append ys (drop n (drop a xs)) d k b
 
 -- ---- place by place, and part by part
 module _ {A : Type 0} (d : A) (g : ℕ → A) where
@@ -160,40 +160,42 @@ value-from f l black black′ span span′ i k b s = rw (place-from l i k, b, s)
 -- ---- B from its cell and its deltas
 part-sum : (a b : ℤ) (x y : Float) (m n : ℕ) → natAbs a ≤ m → natAbs b ≤ n → m + n ≤ 50330880 → x ≡ ofParts a → y ≡ ofParts b
     → (natAbs (a +ℤ b) ≤ m + n) × (add binary64 x y ≡ ofParts (a +ℤ b))
-part-sum a b x y m n h k s e q =
-    (omega (arith, natAbs-add a b), ap (λ (z : Float). add binary64 z y) e ∙ ap (add binary64 (ofParts a)) q
-        ∙ add-parts a b (omega arith) (omega arith))
+part-sum a b x y m n h k s e q = (
+  omega (arith, natAbs-add a b),
+  ap (λ (z : Float). add binary64 z y) e ∙ ap (add binary64 (ofParts a)) q
+      ∙ add-parts a b (omega arith) (omega arith),
+)
 
 module _ (cell span : ℕ → ℤ) (down : ℤ) (cells inverses : List Float) (y : Float) (n : ℕ) (c : Celled cell span down cells inverses y n)
-    where
-  -- no column has a delta
-  pub levelled-plain : (m : ℕ) (delta : ℕ → ℤ) → m ≤ n → ((k : ℕ) → delta k ≡ pos 0) →
-      Levelled (λ k. cell k +ℤ delta k +ℤ down) span cells inverses y m
-  levelled-plain m delta h z =
-      record {
-        black-is = λ k b.
-            let w = c .cell-is k (omega arith) in
-            let e : cell k +ℤ delta k ≡ cell k = ap (λ (t : ℤ). cell k +ℤ t) (z k) ∙ +ℤ-idr (cell k) in
-            let s = part-sum (cell k) down _ y 16776960 16776960 (w .small) (c .down-is .small) (omega arith) (w .number)
-                (c .down-is .number) in
-            rw e (record { small = omega (arith, s .0); number = s .1 });
-        inverse-is = λ k b. c .inverse-is k (omega arith);
-      }
+  where
+    -- no column has a delta
+    pub levelled-plain : (m : ℕ) (delta : ℕ → ℤ) → m ≤ n → ((k : ℕ) → delta k ≡ pos 0) →
+        Levelled (λ k. cell k +ℤ delta k +ℤ down) span cells inverses y m
+    levelled-plain m delta h z =
+        record {
+          black-is = λ k b.
+              let w = c .cell-is k (omega arith) in
+              let e : cell k +ℤ delta k ≡ cell k = ap (λ (t : ℤ). cell k +ℤ t) (z k) ∙ +ℤ-idr (cell k) in
+              let s = part-sum (cell k) down _ y 16776960 16776960 (w .small) (c .down-is .small) (omega arith) (w .number)
+              (c .down-is .number) in
+              rw e (record { small = omega (arith, s .0); number = s .1 });
+          inverse-is = λ k b. c .inverse-is k (omega arith);
+        }
 
-  -- the columns' deltas are in the sums
-  pub levelled-sums : (m : ℕ) (delta : ℕ → ℤ) (sums : List Float) → m ≤ n → ((k : ℕ) → natAbs (delta k) ≤ 16776960)
-      → Filled nan (λ k. add binary64 (getD cells k nan) (ofParts (delta k))) m sums →
-          Levelled (λ k. cell k +ℤ delta k +ℤ down) span sums inverses y m
-  levelled-sums m delta sums h z f =
-      record {
-        black-is = λ k b.
-            let w = c .cell-is k (omega arith) in
-            let s = part-sum (cell k) (delta k) _ _ 16776960 16776960 (w .small) (z k) (omega arith) (w .number) refl in
-            let t = part-sum (cell k +ℤ delta k) down _ y 33553920 16776960 (s .0) (c .down-is .small) (omega arith) (f k b ∙ s .1)
-                (c .down-is .number) in
-            record { small = t .0; number = t .1 };
-        inverse-is = λ k b. c .inverse-is k (omega arith);
-      }
+    -- the columns' deltas are in the sums
+    pub levelled-sums : (m : ℕ) (delta : ℕ → ℤ) (sums : List Float) → m ≤ n → ((k : ℕ) → natAbs (delta k) ≤ 16776960)
+        → Filled nan (λ k. add binary64 (getD cells k nan) (ofParts (delta k))) m sums →
+        Levelled (λ k. cell k +ℤ delta k +ℤ down) span sums inverses y m
+    levelled-sums m delta sums h z f =
+        record {
+          black-is = λ k b.
+              let w = c .cell-is k (omega arith) in
+              let s = part-sum (cell k) (delta k) _ _ 16776960 16776960 (w .small) (z k) (omega arith) (w .number) refl in
+              let t = part-sum (cell k +ℤ delta k) down _ y 33553920 16776960 (s .0) (c .down-is .small) (omega arith) (f k b ∙ s .1)
+              (c .down-is .number) in
+              record { small = t .0; number = t .1 };
+          inverse-is = λ k b. c .inverse-is k (omega arith);
+        }
 
 -- ---- piece after piece: cells and S are those of the first
 module _ (cell span : ℕ → ℤ) (q len : ℕ) (r : Repeating cell span q len) where
@@ -220,5 +222,5 @@ module _ (cell span : ℕ → ℤ) (q len : ℕ) (r : Repeating cell span q len)
 pub zeros-part : (m n : ℕ) → Small (take m (replicate n (pos 0)))
 zeros-part m n k =
     ⊎-elim (λ h. rw (List·getD-eq-default (take m (replicate n (pos 0))) (pos 0) {n = k}
-        (omega (arith, length-take m (replicate n (pos 0))))) (omega arith))
+    (omega (arith, length-take m (replicate n (pos 0))))) (omega arith))
     (λ h. rw (getD-take m (replicate n (pos 0)) k (pos 0) h, zeros-at n k) (omega arith)) (le-or-lt m k)

@@ -42,61 +42,62 @@ module _ (t : Tags) (some : 1 ≤ t .frame .samples) where
       let e : (x + (c + k / n)) * n + k % n ≡ (x + c) * n + 0 + k =
       omega (arith, ap (λ (m : ℕ). m * n) (sym (add-assoc x c (k / n))), add-mul (x + c) (k / n) n, div-add-mod' k n) in
       let g : ((x + (c + k / n)) * n + k % n) * b ≡ ((x + c) * n + 0) * b + k * b = ap (λ (m : ℕ). m * b) e
-          ∙ add-mul ((x + c) * n + 0) k b in
+      ∙ add-mul ((x + c) * n + 0) k b in
       omega (arith, mul-comm k b)
 
   module _ (f : List ℕ) (o : Order) (h : Tags-in f o t) (r l : ℕ) (row : r < activeRows (t .area)) (x : Line) (is : LineOf f o t r l x)
-      where
-    abbrev offsets : List ℕ
-    offsets = run f (numbersReading o (t .strips))
+    where
+      abbrev offsets : List ℕ
+      offsets = run f (numbersReading o (t .strips))
 
-    abbrev levels : Levels
-    levels = run f (levelsReading o t)
+      abbrev levels : Levels
+      levels = run f (levelsReading o t)
 
-    module _ (k : ℕ) (column : l + k / n < activeColumns (t .area)) where
-      at : x .place + x .bytes * k ≡ placeOf t offsets (t .area .top + r) (t .area .left + l + k / n) (k % n)
-      at = rw (is .place, is .bytes) (sym (place-along offsets (t .area .top + r) (t .area .left + l) k))
+      module _ (k : ℕ) (column : l + k / n < activeColumns (t .area)) where
+        at : x .place + x .bytes * k ≡ placeOf t offsets (t .area .top + r) (t .area .left + l + k / n) (k % n)
+        at = rw (is .place, is .bytes) (sym (place-along offsets (t .area .top + r) (t .area .left + l) k))
 
-      -- the sample lies in the file
-      sample-inside : x .place + x .bytes * k + x .bytes ≤ length f
-      sample-inside =
-          let c : t .area .left + l + k / n < t .frame .width = omega (arith, h .area .right) in
-          let b : t .area .top + r < t .frame .length = omega (arith, h .area .bottom) in
-          let q = place-inside f o t h (t .area .top + r) (t .area .left + l + k / n) (k % n) b c (mod-lt k some) in
-          let s : placeOf t (run f (storedReading o t) .offsets) (t .area .top + r) (t .area .left + l + k / n) (k % n) ≡ x .place + x
-              .bytes * k =
-          ap (λ z. placeOf t (z .offsets) (t .area .top + r) (t .area .left + l + k / n) (k % n)) (stored-run f o t r l (k % n)) ∙ sym at in
-          omega (arith, q, s, is .bytes)
+        -- the sample lies in the file
+        sample-inside : x .place + x .bytes * k + x .bytes ≤ length f
+        sample-inside =
+            let c : t .area .left + l + k / n < t .frame .width = omega (arith, h .area .right) in
+            let b : t .area .top + r < t .frame .length = omega (arith, h .area .bottom) in
+            let q = place-inside f o t (h .layout .some-rows) (h .strips) (t .area .top + r) (t .area .left + l + k / n) (k % n) b c
+            (mod-lt k some) in
+            let s : placeOf t (run f (storedReading o t) .offsets) (t .area .top + r) (t .area .left + l + k / n) (k % n) ≡ x .place + x
+            .bytes * k =
+            ap (λ z. placeOf t (z .offsets) (t .area .top + r) (t .area .left + l + k / n) (k % n)) (stored-run f o t r l (k % n)) ∙ sym at in
+            omega (arith, q, s, is .bytes)
 
-      -- its value is its scaled value
-      pub value-scaled : (black span : ℕ → ℤ) → black k ≡ blackFor levels r (l + k / n) (k % n) → span k ≡ spanOf levels (k % n)
-          → lineValue f x black span k ≡ scaledIn f o t r (l + k / n) (k % n)
-      unfolding lineValue
-      value-scaled black span b s =
-          let b′ : ℕ = t .layout .bytes in
-          let place : x .place + b′ * k ≡ placeOf t offsets (t .area .top + r) (t .area .left + (l + k / n)) (k % n) =
-          ap (λ (m : ℕ). x .place + m * k) (sym (is .bytes)) ∙ at
-              ∙ ap (λ (c : ℕ). placeOf t offsets (t .area .top + r) c (k % n)) (omega arith) in
-          rw (is .order, is .table, is .count, is .bytes)
-          (scaled-is f o t r (l + k / n) (k % n) h (numberOf o (part f (x .place + b′ * k) b′)) _ (black k) (span k)
-          (stored-is f o t r (l + k / n) (k % n) offsets (x .place + b′ * k) (t .area .top + r) (t .area .left + (l + k / n)) place refl
-              refl)
-          refl b s)
+        -- its value is its scaled value
+        pub value-scaled : (black span : ℕ → ℤ) → black k ≡ blackFor levels r (l + k / n) (k % n) → span k ≡ spanOf levels (k % n)
+            → lineValue f x black span k ≡ scaledIn f o t r (l + k / n) (k % n)
+        unfolding lineValue
+        value-scaled black span b s =
+            let b′ : ℕ = t .layout .bytes in
+            let place : x .place + b′ * k ≡ placeOf t offsets (t .area .top + r) (t .area .left + (l + k / n)) (k % n) =
+            ap (λ (m : ℕ). x .place + m * k) (sym (is .bytes)) ∙ at
+            ∙ ap (λ (c : ℕ). placeOf t offsets (t .area .top + r) c (k % n)) (omega arith) in
+            rw (is .order, is .table, is .count, is .bytes)
+            (scaled-is f o t r (l + k / n) (k % n) h (numberOf o (part f (x .place + b′ * k) b′)) _ (black k) (span k)
+            (stored-is f o t r (l + k / n) (k % n) offsets (x .place + b′ * k) (t .area .top + r) (t .area .left + (l + k / n)) place refl
+            refl)
+            refl b s)
 
-    -- n samples and the table lie in the file
-    pub row-inside : (len : ℕ) → Wide-in t l len → Line-in f x len
-    row-inside len w =
-        record {
-          inside = λ k h. sample-inside k (w k h);
-          some = rw (is .bytes) (h .layout .some-bytes);
-          few = rw (is .bytes) (h .layout .bytes);
-          table = rw (is .table, is .count) (table-inside f o t h);
-        }
+      -- n samples and the table lie in the file
+      pub row-inside : (len : ℕ) → Wide-in t l len → Line-in f x len
+      row-inside len w =
+          record {
+            inside = λ k h. sample-inside k (w k h);
+            some = rw (is .bytes) (h .layout .some-bytes);
+            few = rw (is .bytes) (h .layout .bytes);
+            table = rw (is .table, is .count) (table-inside f o t h);
+          }
 
 -- ---- a line with what lies along it has the row's scaled values
 pub row-scaled :
     (raw : Raw) (f : List ℕ) (o : Order) → Raw-in f o raw → (r l : ℕ) → r < activeRows (raw .tags .area) → (x : Line) →
-        LineOf f o (raw .tags) r l x
+    LineOf f o (raw .tags) r l x
     → (along : List Float) (deltas : List ℤ) (old new : List Float) → Wide-in (raw .tags) l (length old)
     → (let v = run f (levelsReading o (raw .tags)) in
     let n = raw .tags .frame .samples in
@@ -131,5 +132,5 @@ row-scaled raw f o h r l row x is along deltas old new wide w d same g =
     e (repeating v n l (length old) some along w i b)) in
     is-each _ nan old new same (λ k m.
     let cell : cellAlong v n i l k ≡ cellFor v r (l + k / n) (k % n) = cell-same v i (l + k / n) r (l + k / n) (k % n)
-        (mod-mod r (v .repeat-rows)) refl in
+    (mod-mod r (v .repeat-rows)) refl in
     f′ k m ∙ value-scaled t some f o (h .tags) r l row x is k (wide k m) _ (spanAlong v n) (sum-same cell (d .same k m) refl) refl)

@@ -48,9 +48,8 @@ whole-requires-2 c κs =
 returns : tie.Need-returns
 unfolding board
 returns c =
-    let row-place = c .before .before .before .before .before .before .before .before .before .row-place in
     let rest2 = c .before .before .before .rest2 in
-    let r = row-place .ensures in
+    let r = c .before .before .before .before .before .before .before .before .before .row-place .ensures in
     let d = c .before .before .before .before in
     let k = d .before .before .before .before .column-place .ensures in
     let e1 = d .before .before .before .bits-of .ensures ∙ ap bits r in

@@ -98,7 +98,7 @@ returns c =
     let e3 = bits-of3 .ensures ∙ ap (λ (x : Corners). bits (x .«lower_left»)) e in
     let e4 = c .before .before .bits-of4 .ensures ∙ ap (λ (x : Corners). bits (x .«lower_right»)) e in
     rw (e1, e2, e3, e4, c .before .bits-of5 .ensures ∙ ap bits g, c .bits-of6 .ensures ∙ ap bits (applied (a .apply .ensures) g p))
-        values-hold
+    values-hold
 
 pub gain-map-values-spec : {M : Type 1} → statement M
 gain-map-values-spec =

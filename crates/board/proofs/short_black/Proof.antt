@@ -24,8 +24,7 @@ black-sum-requires c κs = search needs
 
 returns : tie.Need-returns
 returns c =
-    let parts-at = c .before .before .before .parts-at in
-    let b = parts-at in
+    let b = c .before .before .before .parts-at in
     let d = c .before .parts-at2 in
     let fs : SFits w64 (c .black-sum .result) = search needs in
     let fb : SFits w64 (b .result) = search needs in

@@ -1,6 +1,7 @@
 use mathlib.Core.Path.{ap, _∙_}
 use Rattle.develop.specs.declared.spot.SpotAnswer.{SpotAnswer}
-use Rattle.dng.proofs.Answered.{both}
+use Rattle.develop.proofs.Refusals.{spot-fits}
+use Rattle.dng.proofs.Answered.{both, halves}
 use borrow.Author.Needs.{needs}
 use Rattle.dng.proofs.dng_spot.Statement.{statement}
 use Rattle.dng.proofs.dng_spot.Tie as tie
@@ -9,7 +10,9 @@ spot-requires : tie.Need-spot-requires
 spot-requires c κs = search needs
 
 packed-requires : tie.Need-packed-requires
-packed-requires c κs = search needs
+packed-requires c κs =
+    let e = c .spot .ensures in
+    halves (ap (λ (s : SpotAnswer). s .number) e) (ap (λ (s : SpotAnswer). s .detail) e) (spot-fits _ _ _ _)
 
 returns : tie.Need-returns
 returns c =

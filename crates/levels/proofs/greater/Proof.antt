@@ -14,14 +14,18 @@ by-test a b t e = sym (ap (λ (u : Bool). cond u b a) e)
 returns : tie.Need-returns
 returns c =
     let s = c .before in
-    rw (toZ-ofZ (s .fits .b)) (by-test (s .args .a) (s .args .b) true (rw (toZ-ofZ (s .fits .a), toZ-ofZ (s .fits .b)) at (c .if1 .taken)),
-        omega arith)
+    rw (toZ-ofZ (s .fits .b)) (
+      by-test (s .args .a) (s .args .b) true (rw (toZ-ofZ (s .fits .a), toZ-ofZ (s .fits .b)) at (c .if1 .taken)),
+      omega arith,
+    )
 
 returns-2 : tie.Need-returns-2
 returns-2 c =
     let s = c .before in
-    rw (toZ-ofZ (s .fits .a)) (by-test (s .args .a) (s .args .b) false (rw (toZ-ofZ (s .fits .a), toZ-ofZ (s .fits .b)) at (c .if1 .left)),
-        omega arith)
+    rw (toZ-ofZ (s .fits .a)) (
+      by-test (s .args .a) (s .args .b) false (rw (toZ-ofZ (s .fits .a), toZ-ofZ (s .fits .b)) at (c .if1 .left)),
+      omega arith,
+    )
 
 pub greater-spec : {M : Type 1} → statement M
 greater-spec = tie.close (tie.spec returns returns-2)

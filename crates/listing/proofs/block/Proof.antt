@@ -24,9 +24,11 @@ returns-2 : tie.Need-returns-2
 returns-2 c =
     let a = c .before .before .before .args in
     let pre = c .before .before .before .pre in
-    let a2 = a .size .columns * a .size .samples in
-    (rows-some a2 (width-some (a .size) (pre .0) (pre .1)) (width-most (a .size) (pre .0)), omega (arith, pre .2, c .if1 .left),
-        rows-fit _ a2 (omega arith))
+    let a2 = a .size .columns * a .size .samples in (
+      rows-some a2 (width-some (a .size) (pre .0) (pre .1)) (width-most (a .size) (pre .0)),
+      omega (arith, pre .2, c .if1 .left),
+      rows-fit _ a2 (omega arith),
+    )
 
 pub block-spec : {M : Type 1} → statement M
 block-spec = tie.close (tie.spec mul-most div-most sub-left returns returns-2)

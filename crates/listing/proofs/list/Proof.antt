@@ -1,12 +1,33 @@
-use mathlib.Core.Path.{sym, subst}
+use mathlib.Core.Path.{_≡_, refl, sym, ap, _∙_, subst}
+use mathlib.Core.List.{List, [], _++_}
+use Prim.Native.Nat.{ℕ}
 use native.Mathlib.Omega.{arith}
+use lib.ListN.{take}
 use lib.Seq.{length-take-le}
 use denote.Ref.{now}
-use Rattle.listing.specs.Body.{OpenedIs}
 use borrow.Author.Needs.{needs}
+use borrow.Author.Tests.{not-true, not-false}
+use Rattle.listing.specs.Body.{OpenedIs, rowsFrom}
+use Rattle.listing.specs.Pieces.{Remains, Ends}
+use Rattle.listing.proofs.Pieces.{all-remains, piece-stands, written-rest, ends-early, ends-whole}
 use Rattle.listing.proofs.list.Statement.{statement}
 use Rattle.listing.proofs.list.Tie as tie
 
+-- ---- places
+abbrev start : tie.After-put-first → tie.Start
+start g = g .before .before .before .before .before
+
+abbrev file : tie.After-put-first → List ℕ
+file g = now (start g .args .file)
+
+-- the first line, and the rows behind it
+abbrev line : tie.After-put-first → List ℕ
+line g = take (g .put-first .result .length) (g .put-first .last .0)
+
+to-come : (g : tie.After-put-first) → Remains (file g) 0 (line g ++ rowsFrom (file g) 0)
+to-come g = all-remains (file g) (g .put-first .result) (g .put-first .last .0) (g .put-first .ensures)
+
+-- ---- needs
 value-space-requires : tie.Need-value-space-requires
 value-space-requires c κs = search needs
 
@@ -22,13 +43,21 @@ put-first-requires c κs = search needs
 array-share-prefix-text : tie.Need-array-share-prefix-text
 array-share-prefix-text c = search needs
 
-slice-aggregate-write-all : tie.Need-slice-aggregate-write-all
-slice-aggregate-write-all c =
+slice-aggregate-write-piece : tie.Need-slice-aggregate-write-piece
+slice-aggregate-write-piece c =
     let put-first = c .before .before .put-first in
     sym (length-take-le _ (put-first .last .0) (put-first .ensures .inside))
 
-write-all-requires : tie.Need-write-all-requires
-write-all-requires c κs = search needs
+write-piece-requires : tie.Need-write-piece-requires
+write-piece-requires c κs =
+    let g = c .before .before in
+    (piece-stands (file g) 0 (line g) (rowsFrom (file g) 0) (to-come g), g .put-first .ensures .short)
+
+returns : tie.Need-returns
+returns c =
+    let w = c .before .before .write-piece in
+    let g = c .before .before .before .before .before in
+    ends-early (file g) 0 (line g) (rowsFrom (file g) 0) (to-come g) (w .result) (w .ensures) (not-true _ (c .if1 .taken))
 
 enum-known-opening : tie.Need-enum-known-opening
 enum-known-opening c = search needs
@@ -40,25 +69,35 @@ slice-aggregate-print-rows : tie.Need-slice-aggregate-print-rows
 slice-aggregate-print-rows c = search needs
 
 slice-aggregate-print-rows-2 : tie.Need-slice-aggregate-print-rows-2
-slice-aggregate-print-rows-2 c = search needs
+slice-aggregate-print-rows-2 c =
+    let g = c .before .before .before .before .before .before .before .before .before .before in
+    g .before .before .before .value-space .ensures
 
 print-rows-requires : tie.Need-print-rows-requires
 print-rows-requires c κs =
     let opening2 = c .before .before .before .opening2 in
-    let p = c .before .before .before .before .before .before .before .before .before in
-    let f = now (p .before .before .before .before .before .args .file) in
-    let w = subst (OpenedIs f (p .put-first .result .size)) (opening2 .given .1) (p .put-first .ensures .file) in
-    let t = p .before .before in
-    (omega (arith, p .put-first .kept .0, t .text-space .ensures), omega (arith, t .before .value-space .ensures), w .1, w .2)
-
-returns : tie.Need-returns
-returns c = search needs
+    let e = c .before .before .before .before .before in
+    let w = e .before .before .write-piece in
+    let g = e .before .before .before .before .before in
+    let t = g .before .before in
+    let o = subst (OpenedIs (file g) (g .put-first .result .size)) (opening2 .given .1) (g .put-first .ensures .file) in
+    let r = written-rest (file g) 0 (line g) (rowsFrom (file g) 0) (to-come g) (w .result) (w .ensures) (not-false _ (e .if1 .left)) in
+    ((omega (arith, g .put-first .kept .0, t .text-space .ensures), omega (arith, t .before .value-space .ensures), o .1, o .2), r)
 
 returns-2 : tie.Need-returns-2
-returns-2 c = search needs
+returns-2 c =
+    let e = c .before .before .before in
+    let w = e .before .before .write-piece in
+    let g = e .before .before .before .before .before in
+    let first = g .put-first in
+    let z : first .result .size .rows ≡ 0 = subst (OpenedIs (file g) (first .result .size)) (c .before .opening .given .1)
+    (first .ensures .file) in
+    let none : rowsFrom (file g) 0 ≡ [] = ap (rowsFrom (file g)) (sym z) ∙ first .ensures .all in
+    let r = written-rest (file g) 0 (line g) (rowsFrom (file g) 0) (to-come g) (w .result) (w .ensures) (not-false _ (e .if1 .left)) in
+    ends-whole (file g) _ (subst (Remains (file g) (w .result .bytes)) none r)
 
 returns-3 : tie.Need-returns-3
-returns-3 c = search needs
+returns-3 c = c .before .before .print-rows .ensures
 
 pub list-spec : {M : Type 1} → statement M
 list-spec =
@@ -69,13 +108,13 @@ list-spec =
     slice-aggregate-put-first
     put-first-requires
     array-share-prefix-text
-    slice-aggregate-write-all
-    write-all-requires
+    slice-aggregate-write-piece
+    write-piece-requires
+    returns
     enum-known-opening
     enum-known-opening-2
     slice-aggregate-print-rows
     slice-aggregate-print-rows-2
     print-rows-requires
-    returns
     returns-2
     returns-3)

@@ -1,74 +1,113 @@
-use mathlib.Core.Path.{_≡_, refl, sym, _∙_}
-use Prim.Native.Nat.{_-_}
+use mathlib.Core.Path.{_≡_, refl, sym, ap, _∙_, subst}
+use mathlib.Core.List.{List, _++_}
+use Prim.Native.Nat.{ℕ, _+_, _-_}
 use native.Mathlib.Omega.{arith}
-use lib.ListN.{length}
+use lib.ListN.{length, take}
 use lib.Seq.{length-take-le}
+use denote.Ref.{now}
 use borrow.Author.Needs.{needs}
+use borrow.Author.Tests.{not-true, not-false}
+use Rattle.listing.specs.Body.{rowsFrom}
+use Rattle.listing.specs.Pieces.{Remains, Ends}
+use Rattle.listing.proofs.Bodies.{rows-none, short-listed}
+use Rattle.listing.proofs.Pieces.{piece-stands, written-rest, ends-early, ends-whole}
 use Rattle.listing.proofs.print_rows.Statement.{statement}
 use Rattle.listing.proofs.print_rows.Tie as tie
 
+-- behind the bytes that are written, the rows from `top` on are to come
 abbrev Inv-loop : tie.InvT-loop
-Inv-loop text₀ values₀ file view size top₀ text values top = (length text ≡ length text₀) × (length values ≡ length values₀)
+Inv-loop text₀ values₀ file view at size top₀ end₀ text values top end =
+    (length text ≡ length text₀) × (length values ≡ length values₀) × Remains file end (rowsFrom file top)
 
 abbrev μ-loop : tie.MeasureT-loop
-μ-loop text₀ values₀ file view size top₀ text values top = size .rows - top
+μ-loop text₀ values₀ file view at size top₀ end₀ text values top end = size .rows - top
 
+-- ---- places
+abbrev Put : Type 0
+Put = tie.After-put-rows Inv-loop μ-loop
+
+abbrev start : Put → tie.Start Inv-loop μ-loop
+start g = g .before .before .before .before .before .before .before .before .before .before .before
+
+abbrev file : Put → List ℕ
+file g = now (start g .args .file)
+
+abbrev turn : Put → tie.At-loop Inv-loop μ-loop
+turn g = g .before .before .before .before .before .before
+
+-- the block's text, and the rows behind it
+abbrev piece : Put → List ℕ
+piece g = take (g .put-rows .result) (g .put-rows .last .0)
+
+abbrev rest : Put → List ℕ
+rest g = rowsFrom (file g) (turn g .loop .top + g .before .before .before .block .result)
+
+to-come : (g : Put) → Remains (file g) (turn g .loop .end) (piece g ++ rest g)
+to-come g = subst (Remains (file g) (turn g .loop .end)) (sym (g .put-rows .ensures .1)) (turn g .loop .inv .2)
+
+-- ---- needs
 loop-holds : tie.Need-loop-holds Inv-loop μ-loop
-loop-holds c = (refl, refl)
+loop-holds c = (refl, refl, c .before .before .before .before .pre .1)
 
 block-requires : tie.Need-block-requires Inv-loop μ-loop
 block-requires c κs =
-    let pre = c .before .before .before .before .before .before .before .pre in
-    let q = pre .2 in (q .sized, q .some-columns, c .if1 .taken)
+    let q = c .before .before .before .before .before .before .before .pre .0 .2 in
+    (q .sized, q .some-columns, c .if1 .taken)
 
 put-rows-requires : tie.Need-put-rows-requires Inv-loop μ-loop
 put-rows-requires c κs =
-    let loop = c .before .before .before .before .before .loop in
-    let v = loop in
-    let s = c .before .before .before .before .before .before .before .before .before .before in
-    ((omega (arith, v .inv .0, s .pre .0), omega (arith, v .inv .1, s .pre .1), s .pre .2, s .pre .3), c .before .before .block .ensures)
+    let v = c .before .before .before .before .before .loop .inv in
+    let p = c .before .before .before .before .before .before .before .before .before .before .pre .0 in
+    ((omega (arith, v .0, p .0), omega (arith, v .1, p .1), p .2, p .3), c .before .before .block .ensures)
 
-slice-reshare-prefix-write-all : tie.Need-slice-reshare-prefix-write-all Inv-loop μ-loop
-slice-reshare-prefix-write-all c =
-    let put-rows = c .before .before .before .before .put-rows in
-    put-rows .ensures .0
+slice-reshare-prefix-write-piece : tie.Need-slice-reshare-prefix-write-piece Inv-loop μ-loop
+slice-reshare-prefix-write-piece c = c .before .before .before .before .put-rows .ensures .0
 
-slice-aggregate-write-all : tie.Need-slice-aggregate-write-all Inv-loop μ-loop
-slice-aggregate-write-all c =
+slice-aggregate-write-piece : tie.Need-slice-aggregate-write-piece Inv-loop μ-loop
+slice-aggregate-write-piece c =
     let put-rows = c .before .before .before .before .before .put-rows in
     sym (length-take-le _ (put-rows .last .0) (put-rows .ensures .0))
 
-write-all-requires : tie.Need-write-all-requires Inv-loop μ-loop
-write-all-requires c κs = search needs
+write-piece-requires : tie.Need-write-piece-requires Inv-loop μ-loop
+write-piece-requires c κs =
+    let g = c .before .before .before .before .before in
+    (piece-stands (file g) (turn g .loop .end) (piece g) (rest g) (to-come g), short-listed (file g) _ (start g .pre .0 .2))
 
 same-length : tie.Need-same-length Inv-loop μ-loop
 same-length c =
-    let r = c .before .before .before .before .before .before .before in
-    r .put-rows .kept .0 ∙ r .before .before .before .before .before .before .loop .inv .0
+    let g = c .before .before .before .before .before .before .before .before in
+    g .put-rows .kept .0 ∙ turn g .loop .inv .0
 
 same-length-2 : tie.Need-same-length-2 Inv-loop μ-loop
 same-length-2 c =
-    let r = c .before .before .before .before .before .before .before in
-    r .put-rows .kept .1 .0 ∙ r .before .before .before .before .before .before .loop .inv .1
+    let g = c .before .before .before .before .before .before .before .before in
+    g .put-rows .kept .1 .0 ∙ turn g .loop .inv .1
 
 returns : tie.Need-returns Inv-loop μ-loop
-returns c = search needs
+returns c =
+    let w = c .before .before .write-piece in
+    let g = c .before .before .before .before .before .before .before .before in
+    ends-early (file g) (turn g .loop .end) (piece g) (rest g) (to-come g) (w .result) (w .ensures) (not-true _ (c .if2 .taken))
 
 add-top : tie.Need-add-top Inv-loop μ-loop
 add-top c =
-    let k = c .before .before .before .before .before .before .before .before .before .before in
-    omega (arith, k .block .ensures .1, k .before .before .before .before .before .before .before .before .pre .2 .sized .rows)
+    let g = c .before .before .before .before .before .before .before .before in
+    omega (arith, g .before .before .before .block .ensures .1, start g .pre .0 .2 .sized .rows)
 
 loop-less : tie.Need-loop-less Inv-loop μ-loop
 loop-less c =
-    let k = c .before .before .before .before .before .before .before .before .before .before in
-    omega (arith, k .block .ensures .0, k .block .ensures .1)
+    let block = c .before .before .before .before .before .before .before .before .before .before .before .block in
+    omega (arith, block .ensures .0, block .ensures .1)
 
 loop-again : tie.Need-loop-again Inv-loop μ-loop
 loop-again c =
-    let r = c .before .before .before .before .before .before .before in
-    let v = r .before .before .before .before .before .before .loop in
-    (r .put-rows .kept .0 ∙ v .inv .0, r .put-rows .kept .1 .0 ∙ v .inv .1)
+    let w = c .before .before .write-piece in
+    let g = c .before .before .before .before .before .before .before .before in
+    let v = turn g .loop in (
+      g .put-rows .kept .0 ∙ v .inv .0,
+      g .put-rows .kept .1 .0 ∙ v .inv .1,
+      written-rest (file g) (v .end) (piece g) (rest g) (to-come g) (w .result) (w .ensures) (not-false _ (c .if2 .left)),
+    )
 
 same-length-3 : tie.Need-same-length-3 Inv-loop μ-loop
 same-length-3 c = c .before .before .loop .inv .0
@@ -77,7 +116,12 @@ same-length-4 : tie.Need-same-length-4 Inv-loop μ-loop
 same-length-4 c = c .before .before .loop .inv .1
 
 returns-2 : tie.Need-returns-2 Inv-loop μ-loop
-returns-2 c = search needs
+returns-2 c =
+    let v = c .before .before .loop in
+    let s = c .before .before .before .before .before .before .before in
+    let f = now (s .args .file) in
+    let none = rows-none f _ (s .pre .0 .2) (v .top) (c .if1 .left) in
+    ends-whole f _ (subst (Remains f (v .end)) none (v .inv .2))
 
 pub print-rows-spec : {M : Type 1} → statement M
 print-rows-spec =
@@ -88,9 +132,9 @@ print-rows-spec =
     loop-holds
     block-requires
     put-rows-requires
-    slice-reshare-prefix-write-all
-    slice-aggregate-write-all
-    write-all-requires
+    slice-reshare-prefix-write-piece
+    slice-aggregate-write-piece
+    write-piece-requires
     same-length
     same-length-2
     returns

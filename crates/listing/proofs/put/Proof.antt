@@ -35,16 +35,17 @@ loop-less c = search needs
 
 loop-again : tie.Need-loop-again Inv-loop μ-loop
 loop-again c =
-    let args = c .before .before .before .args in
     let pre = c .before .before .before .pre in
-    let a = args in
+    let a = c .before .before .before .args in
     let l = c .before .before .loop in
     let b : l .i < length (a .word .now) = c .before .loop-test .taken in
     let d : a .at + l .i < length (a .text .now) = omega (arith, b, pre) in
-    let s : suc (l .i) ≡ l .i + 1 = omega arith in
-    ( omega (arith, b), ap (λ (xs : List ℕ). set xs (a .at + l .i) (getD (a .word .now) (l .i) 0)) (l .inv .1)
-        ∙ paste-suc (a .text .now) (a .at) (a .word .now) (l .i) 0 d b ∙ ap (λ (n : ℕ). paste (a .text .now) (a .at) (a .word .now) n) s,
-        length-set (l .text) (a .at + l .i) (getD (a .word .now) (l .i) 0) ∙ l .inv .2, )
+    let s : suc (l .i) ≡ l .i + 1 = omega arith in (
+      omega (arith, b),
+      ap (λ (xs : List ℕ). set xs (a .at + l .i) (getD (a .word .now) (l .i) 0)) (l .inv .1)
+          ∙ paste-suc (a .text .now) (a .at) (a .word .now) (l .i) 0 d b ∙ ap (λ (n : ℕ). paste (a .text .now) (a .at) (a .word .now) n) s,
+      length-set (l .text) (a .at + l .i) (getD (a .word .now) (l .i) 0) ∙ l .inv .2,
+    )
 
 add-result : tie.Need-add-result Inv-loop μ-loop
 add-result c = search needs
@@ -57,7 +58,7 @@ returns c =
     let a = c .before .before .args in
     let l = c .before .loop in
     pasted (a .text .now) (a .word .now) (l .text) (a .at) (l .i) (l .inv .1) (omega (arith, l .inv .0, c .loop-test .left))
-        (c .before .before .pre)
+    (c .before .before .pre)
 
 pub put-spec : {M : Type 1} → statement M
 put-spec =

@@ -42,8 +42,16 @@ put-requires c κs =
     let pre = c .before .before .before .before .before .before .before .before .before .before .before .pre in
     let put-value = c .before .before .before .before .before .before .put-value in
     let loop = c .before .before .before .loop in
-    omega (arith, loop .inv .place, loop .inv .same, c .before .before .loop-test .taken, pre .1, put-value .ensures .0,
-        put-value .ensures .2, value-length (getD (now (a .values)) 0 nan))
+    omega (
+      arith,
+      loop .inv .place,
+      loop .inv .same,
+      c .before .before .loop-test .taken,
+      pre .1,
+      put-value .ensures .0,
+      put-value .ensures .2,
+      value-length (getD (now (a .values)) 0 nan),
+    )
 
 mul-put-value : tie.Need-mul-put-value Inv-loop μ-loop
 mul-put-value c = search needs
@@ -56,15 +64,27 @@ shared-slice-read-put-value-2 c =
 put-value-requires-2 : tie.Need-put-value-requires-2 Inv-loop μ-loop
 put-value-requires-2 c κs =
     let a = c .before .before .before .before .before .before .before .before .before .before .before .before .before .before .before
-        .before .args in
+    .before .args in
     let pre = c .before .before .before .before .before .before .before .before .before .before .before .before .before .before .before
-        .before .pre in
+    .before .pre in
     let put-value = c .before .before .before .before .before .before .before .before .before .before .before .put-value in
     let loop = c .before .before .before .before .before .before .before .before .loop in
     let loop-test = c .before .before .before .before .before .before .before .loop-test in
-    let put = c .before .before .before .before .put in
-    (omega (arith, put .ensures .0, put .ensures .2, loop .inv .place, loop .inv .same, loop-test .taken, pre .1, put-value .ensures .0,
-        put-value .ensures .2, value-length (getD (now (a .values)) 0 nan)), (in-unit _ (pre .2 (loop .i) (loop-test .taken))) .not-nan)
+    let put = c .before .before .before .before .put in (
+      omega (
+        arith,
+        put .ensures .0,
+        put .ensures .2,
+        loop .inv .place,
+        loop .inv .same,
+        loop-test .taken,
+        pre .1,
+        put-value .ensures .0,
+        put-value .ensures .2,
+        value-length (getD (now (a .values)) 0 nan),
+      ),
+      (in-unit _ (pre .2 (loop .i) (loop-test .taken))) .not-nan,
+    )
 
 add-i : tie.Need-add-i Inv-loop μ-loop
 add-i c = search needs
@@ -77,12 +97,12 @@ loop-less c =
 loop-again : tie.Need-loop-again Inv-loop μ-loop
 loop-again c =
     let a = c .before .before .before .before .before .before .before .before .before .before .before .before .before .before .before
-        .before .before .before .before .args in
+    .before .before .before .before .args in
     let loop = c .before .before .before .before .before .before .before .before .before .before .before .loop in
     let loop-test = c .before .before .before .before .before .before .before .before .before .before .loop-test in
     let put = c .before .before .before .before .before .before .before .put in
     lined-next (now (a .values)) _ _ (loop .i) (loop .text) _ _ (loop .end) _ _ (loop .inv) (loop-test .taken) (put .ensures)
-        (c .before .before .put-value2 .ensures)
+    (c .before .before .put-value2 .ensures)
 
 slice-aggregate-put-2 : tie.Need-slice-aggregate-put-2 Inv-loop μ-loop
 slice-aggregate-put-2 c = search needs
@@ -93,8 +113,16 @@ put-requires-2 c κs =
     let pre = c .before .before .before .before .before .before .before .before .before .before .before .pre in
     let put-value = c .before .before .before .before .before .before .put-value in
     let loop = c .before .before .before .loop in
-    omega (arith, loop .inv .place, loop .inv .same, loop .inv .most, pre .1, put-value .ensures .0, put-value .ensures .2,
-        value-length (getD (now (a .values)) 0 nan))
+    omega (
+      arith,
+      loop .inv .place,
+      loop .inv .same,
+      loop .inv .most,
+      pre .1,
+      put-value .ensures .0,
+      put-value .ensures .2,
+      value-length (getD (now (a .values)) 0 nan),
+    )
 
 same-length : tie.Need-same-length Inv-loop μ-loop
 same-length c = search needs
@@ -107,7 +135,7 @@ returns c =
     let loop = c .before .before .before .before .before .before .loop in
     let loop-test = c .before .before .before .before .before .loop-test in
     lined-end (now (a .values)) (now (a .text)) _ (loop .text) _ (a .at) _ (loop .i) (loop .end) _ (pre .0) (put-value .ensures) (loop .inv)
-        (loop-test .left) (c .before .before .put2 .ensures)
+    (loop-test .left) (c .before .before .put2 .ensures)
 
 pub put-line-spec : {M : Type 1} → statement M
 put-line-spec =

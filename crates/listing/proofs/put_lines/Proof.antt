@@ -25,8 +25,12 @@ add-e c =
     let good = c .before .before .before .before .good in
     let pre = c .before .before .before .before .pre in
     let loop = c .before .loop in
-    omega (arith, lines-inside (now (a .values)) (a .width) (a .height) (now (a .text)) (loop .i) (loop .a) (loop .text) (loop .end)
-        (loop .inv) (pre .1) (c .loop-test .taken), good .1 .0 .1)
+    omega (
+      arith,
+      lines-inside (now (a .values)) (a .width) (a .height) (now (a .text)) (loop .i) (loop .a) (loop .text) (loop .end)
+          (loop .inv) (pre .1) (c .loop-test .taken),
+      good .1 .0 .1,
+    )
 
 mul-put-line : tie.Need-mul-put-line Inv-loop μ-loop
 mul-put-line c =
@@ -34,8 +38,12 @@ mul-put-line c =
     let good = c .before .before .before .before .before .good in
     let pre = c .before .before .before .before .before .pre in
     let loop = c .before .before .loop in
-    omega (arith, lines-inside (now (a .values)) (a .width) (a .height) (now (a .text)) (loop .i) (loop .a) (loop .text) (loop .end)
-        (loop .inv) (pre .1) (c .before .loop-test .taken), good .1 .0 .1)
+    omega (
+      arith,
+      lines-inside (now (a .values)) (a .width) (a .height) (now (a .text)) (loop .i) (loop .a) (loop .text) (loop .end)
+          (loop .inv) (pre .1) (c .before .loop-test .taken),
+      good .1 .0 .1,
+    )
 
 sub-put-line : tie.Need-sub-put-line Inv-loop μ-loop
 sub-put-line c = omega arith
@@ -48,8 +56,11 @@ part-put-line-end c =
     let a = c .before .before .before .before .before .args in
     let pre = c .before .before .before .before .before .pre in
     let loop = c .before .before .loop in
-    omega (arith, lines-inside (now (a .values)) (a .width) (a .height) (now (a .text)) (loop .i) (loop .a) (loop .text) (loop .end)
-        (loop .inv) (pre .1) (c .before .loop-test .taken))
+    omega (
+      arith,
+      lines-inside (now (a .values)) (a .width) (a .height) (now (a .text)) (loop .i) (loop .a) (loop .text) (loop .end)
+          (loop .inv) (pre .1) (c .before .loop-test .taken),
+    )
 
 put-line-requires : tie.Need-put-line-requires Inv-loop μ-loop
 put-line-requires c κs =
@@ -60,7 +71,7 @@ put-line-requires c κs =
     let a = loop .a in
     let m = args .width in
     let g = lines-inside x (args .width) (args .height) (now (args .text)) (loop .i) (loop .a) (loop .text) (loop .end) (loop .inv)
-        (pre .1) (c .before .before .loop-test .taken) in
+    (pre .1) (c .before .before .loop-test .taken) in
     let d : a + m - a ≡ m = omega arith in
     let n : length (take (a + m - a) (drop a x)) ≡ m = rw d (part-length a m x g) in
     (omega (arith, n, pre .0), omega (arith, n, g, loop .inv .place, loop .inv .same, pre .2), rw d (units-part x a m g (pre .3)))
@@ -85,7 +96,7 @@ loop-again c =
     let m = args .width in
     let d : a + m - a ≡ m = omega arith in
     lines-next (now (args .values)) m (args .height) (now (args .text)) (loop .i) a (a + m) (a + m - a) (loop .text) _ (loop .end) _
-        (loop .inv) (loop-test .taken) (pre .0) (pre .1) refl d (c .before .before .put-line .ensures)
+    (loop .inv) (loop-test .taken) (pre .0) (pre .1) refl d (c .before .before .put-line .ensures)
 
 same-length : tie.Need-same-length Inv-loop μ-loop
 same-length c = c .before .loop .inv .same
@@ -94,11 +105,18 @@ returns : tie.Need-returns Inv-loop μ-loop
 returns c =
     let a = c .before .before .before .before .args in
     let pre = c .before .before .before .before .pre in
-    let loop = c .before .loop in
-    (omega (arith, lines-put (now (a .values)) (a .width) (a .height) (now (a .text)) (loop .i) (loop .a) (loop .text) (loop .end)
-        (loop .inv) (pre .1), loop .inv .place, loop .inv .same, pre .2),
-        lines-end (now (a .values)) (a .width) (a .height) (now (a .text)) (loop .i) (loop .a) (loop .text) (loop .end) (loop .inv)
-        (c .loop-test .left))
+    let loop = c .before .loop in (
+      omega (
+        arith,
+        lines-put (now (a .values)) (a .width) (a .height) (now (a .text)) (loop .i) (loop .a) (loop .text) (loop .end)
+            (loop .inv) (pre .1),
+        loop .inv .place,
+        loop .inv .same,
+        pre .2,
+      ),
+      lines-end (now (a .values)) (a .width) (a .height) (now (a .text)) (loop .i) (loop .a) (loop .text) (loop .end) (loop .inv)
+          (c .loop-test .left),
+    )
 
 pub put-lines-spec : {M : Type 1} → statement M
 put-lines-spec =

@@ -28,14 +28,11 @@ slice-aggregate-put-2 c = search needs
 
 put-requires-2 : tie.Need-put-requires-2
 put-requires-2 c κs =
-    let args = c .before .before .before .before .before .before .before .before .before .before .args in
     let good = c .before .before .before .before .before .before .before .before .before .before .good in
     let pre = c .before .before .before .before .before .before .before .before .before .before .pre in
-    let decimal = c .before .before .before .before .before .before .before .decimal in
-    let put = c .before .before .before .before .put in
-    let d = decimal in
-    let w = put .ensures in
-    let a = args in
+    let d = c .before .before .before .before .before .before .before .decimal in
+    let w = c .before .before .before .before .put .ensures in
+    let a = c .before .before .before .before .before .before .before .before .before .before .args in
     let k : d .result ≤ 20 = at-most-20 (d .result) (a .n) (d .ensures .1 .0) (good .1 .1 .0 .1) in
     omega (arith, k, w .0, w .2, d .ensures .0 .1, pre)
 
@@ -44,19 +41,17 @@ same-length c = search needs
 
 returns : tie.Need-returns
 returns c =
-    let args = c .before .before .before .before .before .before .before .before .before .before .before .before .before .args in
     let good = c .before .before .before .before .before .before .before .before .before .before .before .before .before .good in
-    let decimal = c .before .before .before .before .before .before .before .before .before .before .decimal in
     let put = c .before .before .before .before .before .before .before .put in
     let put2 = c .before .before .put2 in
-    let d = decimal in
-    let a = args in
+    let d = c .before .before .before .before .before .before .before .before .before .before .decimal in
+    let a = c .before .before .before .before .before .before .before .before .before .before .before .before .before .args in
     let k : d .result ≤ 20 = at-most-20 (d .result) (a .n) (d .ensures .1 .0) (good .1 .1 .0 .1) in
     let e = d .ensures .1 .1 ∙ decimal-is (d .result) (a .n) (d .ensures .1 .0) k in
     let l = decimal-length (d .result) (a .n) (d .ensures .1 .0) k in
     let p = puts-two _ _ _ _ _ (a .at) _ _ (put .ensures) (put2 .ensures) in
     let q : Puts (now (a .text)) (a .at) (32 ∷ decimalOf (a .n)) (put2 .last .0) (put2 .result) = subst
-        (λ (w : List ℕ). Puts (now (a .text)) (a .at) (32 ∷ w) (put2 .last .0) (put2 .result)) e p in
+    (λ (w : List ℕ). Puts (now (a .text)) (a .at) (32 ∷ w) (put2 .last .0) (put2 .result)) e p in
     (q, omega (arith, q .0, l, k))
 
 pub put-number-spec : {M : Type 1} → statement M

@@ -30,15 +30,15 @@ same-length c = search needs
 returns : tie.Need-returns
 returns c =
     let a = c .before .before .before .before .before .before .before .before .before .before .before .before .before .before .before
-        .before .before .before .before .args in
+    .before .before .before .before .args in
     let put = c .before .before .before .before .before .before .before .before .before .before .before .before .before .before .before .put
-        in
+    in
     let put-number = c .before .before .before .before .before .before .before .before .before .before .before .put-number in
     let put-number2 = c .before .before .before .before .before .before .before .put-number2 in
     puts-whole (now (a .text)) _ (refusedText (a .number) (a .detail)) _
-        (puts-two (now (a .text)) _ _ refusedWord _ 0 _ _ (put .ensures)
-        (puts-two _ _ _ (32 ∷ decimalOf (a .number)) _ _ _ _ (put-number .ensures .0)
-        (puts-two _ _ _ (32 ∷ decimalOf (a .detail)) (10 ∷ []) _ _ _ (put-number2 .ensures .0) (c .before .before .put2 .ensures))))
+    (puts-two (now (a .text)) _ _ refusedWord _ 0 _ _ (put .ensures)
+    (puts-two _ _ _ (32 ∷ decimalOf (a .number)) _ _ _ _ (put-number .ensures .0)
+    (puts-two _ _ _ (32 ∷ decimalOf (a .detail)) (10 ∷ []) _ _ _ (put-number2 .ensures .0) (c .before .before .put2 .ensures))))
 
 pub put-refusal-spec : {M : Type 1} → statement M
 put-refusal-spec =

@@ -68,7 +68,7 @@ put-lines-requires c κs =
     let q = s .pre .0 .2 in
     let j : length (take (count s) (values g ++ drop (count s) (now (a .values)))) ≡ count s = ap length (in-place g) ∙ came g in
     let u = block-units (now (a .file)) (a .view .size) q (a .top) (a .height) _ (p .0) (p .1) (lent s) _ (values g)
-        (g .opened-window .ensures) in
+    (g .opened-window .ensures) in
     (width-some (a .view .size) (q .sized) (q .some-columns), j, omega (arith, j, p .2, s .pre .0 .0), subst Units (sym (in-place g)) u)
 
 same-length : tie.Need-same-length

@@ -33,18 +33,18 @@ same-length c = search needs
 returns : tie.Need-returns
 returns c =
     let a = c .before .before .before .before .before .before .before .before .before .before .before .before .before .before .before
-        .before .before .before .before .before .before .before .before .args in
+    .before .before .before .before .before .before .before .before .args in
     let put = c .before .before .before .before .before .before .before .before .before .before .before .before .before .before .before
-        .before .before .before .before .put in
+    .before .before .before .before .put in
     let put-number = c .before .before .before .before .before .before .before .before .before .before .before .before .before .before
-        .before .put-number in
+    .before .put-number in
     let put-number2 = c .before .before .before .before .before .before .before .before .before .before .before .put-number2 in
     let put-number3 = c .before .before .before .before .before .before .before .put-number3 in
     puts-whole (now (a .text)) _ (frameText (a .size)) _
-        (puts-two (now (a .text)) _ _ frameWord _ 0 _ _ (put .ensures)
-        (puts-two _ _ _ (32 ∷ decimalOf (a .size .rows)) _ _ _ _ (put-number .ensures .0)
-        (puts-two _ _ _ (32 ∷ decimalOf (a .size .columns)) _ _ _ _ (put-number2 .ensures .0)
-        (puts-two _ _ _ (32 ∷ decimalOf (a .size .samples)) (10 ∷ []) _ _ _ (put-number3 .ensures .0) (c .before .before .put2 .ensures)))))
+    (puts-two (now (a .text)) _ _ frameWord _ 0 _ _ (put .ensures)
+    (puts-two _ _ _ (32 ∷ decimalOf (a .size .rows)) _ _ _ _ (put-number .ensures .0)
+    (puts-two _ _ _ (32 ∷ decimalOf (a .size .columns)) _ _ _ _ (put-number2 .ensures .0)
+    (puts-two _ _ _ (32 ∷ decimalOf (a .size .samples)) (10 ∷ []) _ _ _ (put-number3 .ensures .0) (c .before .before .put2 .ensures)))))
 
 pub put-size-spec : {M : Type 1} → statement M
 put-size-spec =

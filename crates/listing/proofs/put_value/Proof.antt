@@ -26,13 +26,12 @@ slice-aggregate-put c = search needs
 
 put-requires : tie.Need-put-requires
 put-requires c κs =
-    let args = c .before .before .before .before .before .args in
     let good = c .before .before .before .before .before .good in
     let pre = c .before .before .before .before .before .pre in
     let d = c .before .before .hex in
-    let a = args in
+    let a = c .before .before .before .before .before .args in
     let k : d .result ≤ 16 = at-most-16 (d .result) (toBits binary64 (a .x)) (d .ensures .1 .0)
-        (toBits-lt binary64 (a .x) (subst T (sym (good .1 .1 .0 .1)) tt)) in
+    (toBits-lt binary64 (a .x) (subst T (sym (good .1 .1 .0 .1)) tt)) in
     omega (arith, k, d .ensures .0 .1, pre .0)
 
 same-length : tie.Need-same-length
@@ -40,14 +39,12 @@ same-length c = search needs
 
 returns : tie.Need-returns
 returns c =
-    let args = c .before .before .before .before .before .before .before .before .args in
     let good = c .before .before .before .before .before .before .before .before .good in
-    let hex = c .before .before .before .before .before .hex in
     let put = c .before .before .put in
-    let d = hex in
-    let a = args in
+    let d = c .before .before .before .before .before .hex in
+    let a = c .before .before .before .before .before .before .before .before .args in
     let k : d .result ≤ 16 = at-most-16 (d .result) (toBits binary64 (a .x)) (d .ensures .1 .0)
-        (toBits-lt binary64 (a .x) (subst T (sym (good .1 .1 .0 .1)) tt)) in
+    (toBits-lt binary64 (a .x) (subst T (sym (good .1 .1 .0 .1)) tt)) in
     let e = d .ensures .1 .1 ∙ hex-is (d .result) (toBits binary64 (a .x)) (a .x) refl (d .ensures .1 .0 .0) k in
     subst (λ (w : List ℕ). Puts (now (a .text)) (a .at) w (put .last .0) (put .result)) e (put .ensures)
 

@@ -148,10 +148,9 @@ developed-part-requires c κs =
 
 add-a : tie.Need-add-a Inv-loop μ-loop
 add-a c =
-    let loop = c .before .before .before .before .before .loop in
     let loop-test = c .before .before .before .before .loop-test in
     let s = c .before .before .before .before .before .before .before .before .before .before .before .before .before in
-    let l = loop in
+    let l = c .before .before .before .before .before .loop in
     omega (arith, rows s (l .i) (loop-test .taken), part s, short s, l .inv .2, s .good .1 .1 .1 .1 .1 .1 .1 .0 .1)
 
 add-i : tie.Need-add-i Inv-loop μ-loop
@@ -168,24 +167,25 @@ loop-less c =
 
 loop-again : tie.Need-loop-again Inv-loop μ-loop
 loop-again c =
-    let loop = c .before .before .before .before .before .loop in
-    let loop-test = c .before .before .before .before .loop-test in
     let developed-part = c .before .before .developed-part in
     let s = c .before .before .before .before .before .before .before .before .before .before .before .before .before in
-    let l = loop in
+    let l = c .before .before .before .before .before .loop in
     let f = now (s .args .file) in
     let v = s .args .view in
     let n = s .args .count * samples s in
-    let t = loop-test .taken in
+    let t = c .before .before .before .before .loop-test .taken in
     let fits = part s in
-    let z = piece s (l .a) (l .out) (omega (arith, rows s (l .i) t, fits, l .inv .2, l .inv .0)) in
-    ( search needs, omega (arith, t), omega (arith, add-mul (l .i) 1 (row s), l .inv .2),
-        λ q u. partly-next (value f v q (s .args .window .top) (s .args .window .left)) (s .args .window .height) (row s)
-        (s .args .from * samples s) n (l .i) (l .a) (l .out) (developed-part .last .1 .1 .1 .1 .1 .1 .0) t fits (l .inv .2)
-        (l .inv .0 ∙ s .pre .0 .0 .length-is) (search needs) (l .inv .3 q u)
-        (λ k b. developed-part .ensures q k (omega (arith, z))
-        ∙ from-column (aloneIn f (q .file) (s .args .window .top + l .i)) (s .args .window .left) (s .args .from) (samples s) k
-        (viewed-sized f v q .some)), )
+    let z = piece s (l .a) (l .out) (omega (arith, rows s (l .i) t, fits, l .inv .2, l .inv .0)) in (
+      search needs,
+      omega (arith, t),
+      omega (arith, add-mul (l .i) 1 (row s), l .inv .2),
+      λ q u. partly-next (value f v q (s .args .window .top) (s .args .window .left)) (s .args .window .height) (row s)
+          (s .args .from * samples s) n (l .i) (l .a) (l .out) (developed-part .last .1 .1 .1 .1 .1 .1 .0) t fits (l .inv .2)
+          (l .inv .0 ∙ s .pre .0 .0 .length-is) (search needs) (l .inv .3 q u)
+          (λ k b. developed-part .ensures q k (omega (arith, z))
+          ∙ from-column (aloneIn f (q .file) (s .args .window .top + l .i)) (s .args .window .left) (s .args .from) (samples s) k
+          (viewed-sized f v q .some)),
+    )
 
 same-length : tie.Need-same-length Inv-loop μ-loop
 same-length c = c .before .loop .inv .0

@@ -77,9 +77,8 @@ part-fill-columns-start c = search needs
 
 part-fill-columns-end : tie.Need-part-fill-columns-end
 part-fill-columns-end c =
-    let piece = c .before .before .before .before .before .before .before .piece in
     let fill-along = c .before .before .before .before .fill-along in
-    let p = piece in
+    let p = c .before .before .before .before .before .before .before .piece in
     fits _ 1536 _ (array-length _ _ 1536 (p .ensures .2) (fill-along .last .1 .1 .1 .1 .1 .0) (search needs)) (p .ensures .2)
 
 sub-fill-columns-2 : tie.Need-sub-fill-columns-2
@@ -93,13 +92,11 @@ part-fill-columns-end-2 c = search needs
 
 fill-columns-requires : tie.Need-fill-columns-requires
 fill-columns-requires c κs =
-    let piece = c .before .before .before .before .before .before .before .before .before .before .before .piece in
-    let fill-along = c .before .before .before .before .before .before .before .before .fill-along in
     let if1 = c .before .before .before .before .before .if1 in
     let s = c .before .before .before .before .before .before .before .before .before .before
     .before .before .before .before .before .before .before .before .before in
-    let p = piece in
-    let a = fill-along in
+    let p = c .before .before .before .before .before .before .before .before .before .before .before .piece in
+    let a = c .before .before .before .before .before .before .before .before .fill-along in
     let y = a .ensures (s .args .count * s .args .view .size .samples) (p .ensures .3) in (
       (s .pre .0 .0, s .pre .0 .1, s .pre .0 .2),
       (
@@ -117,24 +114,22 @@ part-fill-with-deltas-start c = search needs
 
 part-fill-with-deltas-end : tie.Need-part-fill-with-deltas-end
 part-fill-with-deltas-end c =
-    let piece = c .before .before .before .before .before .before .before .piece in
     let fill-along = c .before .before .before .before .fill-along in
-    let p = piece in
+    let p = c .before .before .before .before .before .before .before .piece in
     fits _ 1536 _ (array-length _ _ 1536 (p .ensures .2) (fill-along .last .1 .1 .1 .1 .1 .0) (search needs)) (p .ensures .2)
 
 fill-with-deltas-requires : tie.Need-fill-with-deltas-requires
 fill-with-deltas-requires c κs =
-    let piece = c .before .before .before .before .before .before .before .before .before .piece in
-    let fill-along = c .before .before .before .before .before .before .fill-along in
     let if1 = c .before .before .before .if1 in
     let s = c .before .before .before .before .before .before .before .before .before .before .before .before .before .before .before
-        .before .before in
-    let p = piece in
-    let a = fill-along in
-    let y = a .ensures (s .args .count * s .args .view .size .samples) (p .ensures .3) in
-    ( (s .pre .0 .0, s .pre .0 .1, s .pre .0 .2, s .pre .1 (some _ (if1 .left))),
-        along-part _ _ _ _ ((s .args .view .picture .raw .tags .levels .repeat .rows + 1) * p .result) (a .last .1 .1 .1 .1 .1 .0) _
-        (lent (c .before .before .before .before .before)) y, )
+    .before .before in
+    let p = c .before .before .before .before .before .before .before .before .before .piece in
+    let a = c .before .before .before .before .before .before .fill-along in
+    let y = a .ensures (s .args .count * s .args .view .size .samples) (p .ensures .3) in (
+      (s .pre .0 .0, s .pre .0 .1, s .pre .0 .2, s .pre .1 (some _ (if1 .left))),
+      along-part _ _ _ _ ((s .args .view .picture .raw .tags .levels .repeat .rows + 1) * p .result) (a .last .1 .1 .1 .1 .1 .0) _
+          (lent (c .before .before .before .before .before)) y,
+    )
 
 same-length : tie.Need-same-length
 same-length c = search needs

@@ -42,4 +42,4 @@ returns c =
 pub block-at-spec : {M : Type 1} → statement M
 block-at-spec =
     tie.close (tie.spec sample-at-requires sample-at-requires-2 sample-at-requires-3 sample-at-requires-4 mean-requires xyz-of-requires
-        returns)
+    returns)

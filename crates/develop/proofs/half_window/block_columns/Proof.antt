@@ -73,7 +73,7 @@ loop-holds c =
       omega arith,
       λ q u.
           partly-start (value (now (s .args .file)) (s .args .view) (s .args .half) q (w .top) (w .left)) (w .height) (row s)
-              (s .args .part .from * 3)
+          (s .args .part .from * 3)
           (s .args .part .count * 3) (now (s .args .out)) u,
     )
 
@@ -98,8 +98,14 @@ mul-block-part : tie.Need-mul-block-part Inv-loop μ-loop
 mul-block-part c =
     let s = c .before .before .before .before .before .before .before in
     let l = c .before .before .loop in
-    omega (arith, rows s (l .i) (c .before .loop-test .taken), s .pre .0 .2 .inside, l .inv .3, l .inv .0,
-        s .good .1 .1 .1 .1 .1 .1 .1 .0 .1)
+    omega (
+      arith,
+      rows s (l .i) (c .before .loop-test .taken),
+      s .pre .0 .2 .inside,
+      l .inv .3,
+      l .inv .0,
+      s .good .1 .1 .1 .1 .1 .1 .1 .0 .1,
+    )
 
 sub-block-part : tie.Need-sub-block-part Inv-loop μ-loop
 sub-block-part c = search needs
@@ -115,9 +121,8 @@ part-block-part-end c =
 
 block-part-requires : tie.Need-block-part-requires Inv-loop μ-loop
 block-part-requires c κs =
-    let loop = c .before .before .before .loop in
     let s = c .before .before .before .before .before .before .before .before in
-    let l = loop in
+    let l = c .before .before .before .loop in
     let w = s .pre .0 .0 in
     let p = s .pre .0 .2 in
     let t = c .before .before .loop-test .taken in
@@ -140,10 +145,9 @@ block-part-requires c κs =
 
 add-a : tie.Need-add-a Inv-loop μ-loop
 add-a c =
-    let loop = c .before .before .before .before .before .before .before .loop in
     let loop-test = c .before .before .before .before .before .before .loop-test in
     let s = c .before .before .before .before .before .before .before .before .before .before .before .before in
-    let l = loop in
+    let l = c .before .before .before .before .before .before .before .loop in
     omega (
       arith,
       rows s (l .i) (loop-test .taken),
@@ -166,27 +170,28 @@ loop-less c =
 
 loop-again : tie.Need-loop-again Inv-loop μ-loop
 loop-again c =
-    let loop = c .before .before .before .before .before .before .before .loop in
-    let loop-test = c .before .before .before .before .before .before .loop-test in
-    let block-part = c .before .before .before .block-part in
     let s = c .before .before .before .before .before .before .before .before .before .before .before .before in
-    let l = loop in
+    let l = c .before .before .before .before .before .before .before .loop in
     let f = now (s .args .file) in
     let v = s .args .view in
     let w = s .args .blocks in
     let n = s .args .part .count * 3 in
-    let t = loop-test .taken in
+    let t = c .before .before .before .before .before .before .loop-test .taken in
     let p = s .pre .0 .2 in
-    let g = block-part in
-    let z = piece s (l .a) (l .out) (omega (arith, rows s (l .i) t, p .inside, l .inv .3, l .inv .0)) in
-    ( search needs, g .ensures .0 ∙ l .inv .1, omega (arith, t), omega (arith, add-mul (l .i) 1 (row s), l .inv .3),
-        λ q u. let x = blockIn (s .args .half) (aloneIn f (q .file)) in partly-next (value f v (s .args .half) q (w .top) (w .left))
-        (w .height) (row s) (s .args .part .from * 3) n (l .i) (l .a) (l .out) (g .last .1 .1 .1 .1 .1 .1 .1 .0) t
-        (omega (arith, p .inside)) (l .inv .3) (l .inv .0 ∙ s .pre .0 .0 .length-is)
-        (ap length (g .ensures .1 q) ∙ block-row-length x _ (s .args .part .count) _) (l .inv .4 q u)
-        (λ k b. ap (λ (ys : List Float). getD ys k nan) (g .ensures .1 q)
-        ∙ block-row-at x (w .left + s .args .part .from) (s .args .part .count) (w .top + l .i) k b
-        ∙ from-column (x (w .top + l .i)) (w .left) (s .args .part .from) 3 k (omega arith)), )
+    let g = c .before .before .before .block-part in
+    let z = piece s (l .a) (l .out) (omega (arith, rows s (l .i) t, p .inside, l .inv .3, l .inv .0)) in (
+      search needs,
+      g .ensures .0 ∙ l .inv .1,
+      omega (arith, t),
+      omega (arith, add-mul (l .i) 1 (row s), l .inv .3),
+      λ q u. let x = blockIn (s .args .half) (aloneIn f (q .file)) in partly-next (value f v (s .args .half) q (w .top) (w .left))
+          (w .height) (row s) (s .args .part .from * 3) n (l .i) (l .a) (l .out) (g .last .1 .1 .1 .1 .1 .1 .1 .0) t
+          (omega (arith, p .inside)) (l .inv .3) (l .inv .0 ∙ s .pre .0 .0 .length-is)
+          (ap length (g .ensures .1 q) ∙ block-row-length x _ (s .args .part .count) _) (l .inv .4 q u)
+          (λ k b. ap (λ (ys : List Float). getD ys k nan) (g .ensures .1 q)
+          ∙ block-row-at x (w .left + s .args .part .from) (s .args .part .count) (w .top + l .i) k b
+          ∙ from-column (x (w .top + l .i)) (w .left) (s .args .part .from) 3 k (omega arith)),
+    )
 
 same-length : tie.Need-same-length Inv-loop μ-loop
 same-length c = c .before .loop .inv .0

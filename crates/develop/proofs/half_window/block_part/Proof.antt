@@ -64,7 +64,7 @@ rest k = drop (2 * (2 * k .args .part .width) - 0) (drop 0 (now (k .args .pair))
 both-rows : (g : tie.After-fill-columns) → let a = g .before .before .before .before .before .before .before .before .before .args in
     (q : Viewed (now (a .file)) (a .view)) → length (g .fill-columns .last .1 .1 .1 .1 .1 .1 .1 .0) ≡ 2 * (2 * a .part .width) →
     g .fill-columns .last .1 .1 .1 .1 .1 .1 .1 .0 ≡ valuesOf (aloneIn (now (a .file)) (q .file)) (2 * a .part .top) (2 * a .part .left) 2
-        (2 * a .part .width) 1
+    (2 * a .part .width) 1
 unfolding fill-in
 both-rows g q e =
     let s = g .before .before .before .before .before .before .before .before .before in
@@ -148,7 +148,7 @@ returns c =
       same-length c,
       λ q. c .before .before .blocks-of .ensures
           ∙ pair-blocks (a .half) (s .pre .0 .1) (aloneIn (now (a .file)) (q .file)) (a .part .top) (a .part .left) (a .part .width) _
-              (rest s)
+          (rest s)
           (ap (λ (ys : List Float). ys ++ rest s) (both-rows g q (lent (c .before .before .before .before .before .before)))),
     )
 

@@ -16,7 +16,7 @@ abbrev Inv-loop : tie.InvT-loop
 Inv-loop file view half blocks out₀ width from₀ out from =
     (length out ≡ length out₀) × (from ≤ width)
     × ((q : Viewed file view) → Upto (numberOf (blockIn half (aloneIn file (q .file))) blocks 3) (blocks .height) (blocks .width * 3)
-        (from * 3) out)
+    (from * 3) out)
 
 abbrev μ-loop : tie.MeasureT-loop
 μ-loop file view half blocks out₀ width from₀ out from = width - from
@@ -32,9 +32,8 @@ smaller-requires c κs = search needs
 
 fill-stretch-requires : tie.Need-fill-stretch-requires Inv-loop μ-loop
 fill-stretch-requires c κs =
-    let loop = c .before .before .before .loop in
     let s = c .before .before .before .before .before .before in
-    let l = loop in
+    let l = c .before .before .before .loop in
     let w = s .pre .0 in
     let n = c .before .smaller .ensures in
     let t = c .before .before .loop-test .taken in (

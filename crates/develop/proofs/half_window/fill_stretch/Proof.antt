@@ -60,9 +60,13 @@ part-space-end c = omega (arith, c .before .piece .ensures .2)
 fill-along-requires : tie.Need-fill-along-requires
 fill-along-requires c κs =
     let s = c .before .before .before .before .before .before .before .before .before .before in
-    let p = c .before .before .piece in
-    (s .pre .0 .file .picture-in .raw, omega (arith, columns s .0, columns s .1), p .ensures .0, p .ensures .1,
-        copies-length _ _ 1536 (p .ensures .2))
+    let p = c .before .before .piece in (
+      s .pre .0 .file .picture-in .raw,
+      omega (arith, columns s .0, columns s .1),
+      p .ensures .0,
+      p .ensures .1,
+      copies-length _ _ 1536 (p .ensures .2),
+    )
 
 sub-block-columns : tie.Need-sub-block-columns
 sub-block-columns c = search needs
@@ -72,9 +76,8 @@ part-block-columns-start c = search needs
 
 part-block-columns-end : tie.Need-part-block-columns-end
 part-block-columns-end c =
-    let piece = c .before .before .before .before .before .before .before .piece in
     let fill-along = c .before .before .before .before .fill-along in
-    let p = piece in
+    let p = c .before .before .before .before .before .before .before .piece in
     fits _ 1536 _ (array-length _ _ 1536 (p .ensures .2) (fill-along .last .1 .1 .1 .1 .1 .0) (search needs)) (p .ensures .2)
 
 sub-block-columns-2 : tie.Need-sub-block-columns-2
@@ -88,13 +91,11 @@ part-block-columns-end-2 c = search needs
 
 block-columns-requires : tie.Need-block-columns-requires
 block-columns-requires c κs =
-    let piece = c .before .before .before .before .before .before .before .before .before .before .before .piece in
-    let fill-along = c .before .before .before .before .before .before .before .before .fill-along in
     let if1 = c .before .before .before .before .before .if1 in
     let s = c .before .before .before .before .before .before .before .before .before .before
     .before .before .before .before .before .before .before .before .before in
-    let p = piece in
-    let a = fill-along in
+    let p = c .before .before .before .before .before .before .before .before .before .before .before .piece in
+    let a = c .before .before .before .before .before .before .before .before .fill-along in
     let y = a .ensures (2 * s .args .part .count) (p .ensures .3) in
     let m = (s .args .view .picture .raw .tags .levels .repeat .rows + 1) * p .result in (
       s .pre,
@@ -112,19 +113,16 @@ part-blocks-with-deltas-start c = search needs
 
 part-blocks-with-deltas-end : tie.Need-part-blocks-with-deltas-end
 part-blocks-with-deltas-end c =
-    let piece = c .before .before .before .before .before .before .before .piece in
     let fill-along = c .before .before .before .before .fill-along in
-    let p = piece in
+    let p = c .before .before .before .before .before .before .before .piece in
     fits _ 1536 _ (array-length _ _ 1536 (p .ensures .2) (fill-along .last .1 .1 .1 .1 .1 .0) (search needs)) (p .ensures .2)
 
 blocks-with-deltas-requires : tie.Need-blocks-with-deltas-requires
 blocks-with-deltas-requires c κs =
-    let piece = c .before .before .before .before .before .before .before .before .before .piece in
-    let fill-along = c .before .before .before .before .before .before .fill-along in
     let s = c .before .before .before .before .before .before .before .before .before .before .before .before .before .before .before
-        .before .before in
-    let p = piece in
-    let a = fill-along in
+    .before .before in
+    let p = c .before .before .before .before .before .before .before .before .before .piece in
+    let a = c .before .before .before .before .before .before .fill-along in
     let y = a .ensures (2 * s .args .part .count) (p .ensures .3) in
     let m = (s .args .view .picture .raw .tags .levels .repeat .rows + 1) * p .result in
     (s .pre, along-part _ _ _ _ m (a .last .1 .1 .1 .1 .1 .0) _ (lent (c .before .before .before .before .before)) y)

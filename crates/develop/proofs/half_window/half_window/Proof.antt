@@ -23,9 +23,8 @@ half-window-in-requires c κs =
 
 returns : tie.Need-returns
 returns c =
-    let args = c .before .before .before .before .before .before .args in
     let open-call = c .before .before .before .«open» in
-    let a = args in
+    let a = c .before .before .before .before .before .before .args in
     let o = subst (OpeningIs (now (a .file))) (c .before .number .given .1) (open-call .ensures) in
     ap (halfWindowOf (now (a .file)) (a .top) (a .left) (a .height) (a .width) (now (a .out))) o
 

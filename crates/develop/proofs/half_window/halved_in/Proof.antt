@@ -19,7 +19,7 @@ fault-is k =
     let b = a .blocks in
     k .window-fault .ensures
     ∙ ap (λ (z : Size). windowFault z 3 (b .top) (b .left) (b .height) (b .width) (length (now (a .out))))
-        (k .before .whole-blocks .ensures)
+    (k .before .whole-blocks .ensures)
 
 whole-blocks-requires : tie.Need-whole-blocks-requires
 whole-blocks-requires c κs = search needs
@@ -51,16 +51,15 @@ returns c =
     let z = k .if1 .taken in
     let e = sym z ∙ fault-is (k .before) in
     λ q. rw z (halved-none (now (a .file)) (a .view) q (b .top) (b .left) (b .height) (b .width) (now (a .out)) (s .pre .1) (a .half)
-        (s .pre .2) _ e
+    (s .pre .2) _ e
     (c .before .before .fill-blocks .ensures q))
 
 returns-2 : tie.Need-returns-2
 returns-2 c =
-    let args = c .before .before .before .before .before .args in
-    let a = args in
+    let a = c .before .before .before .before .before .args in
     let b = a .blocks in
     λ q. halved-fault (now (a .file)) (a .view) q (b .top) (b .left) (b .height) (b .width) (now (a .out)) (a .half) _
-        (fault-is (c .before)) (c .if1 .left)
+    (fault-is (c .before)) (c .if1 .left)
 
 pub halved-in-spec : {M : Type 1} → statement M
 halved-in-spec = tie.close (tie.spec whole-blocks-requires window-fault-requires fill-blocks-requires same-length returns returns-2)

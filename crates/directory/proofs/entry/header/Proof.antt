@@ -35,9 +35,8 @@ value-requires c κs =
 
 returns : tie.Need-returns
 returns c =
-    let args = c .before .before .before .before .before .args in
     let short = c .before .before .before .short in
-    let a = args in
+    let a = c .before .before .before .before .before .args in
     let k = c .before .kind-of .ensures ∙ ap (kindOf (a .widths .types)) (c .before .before .short2 .ensures) in
     (header-at (a .widths) (now (a .file)) (a .order) (a .at) _ _ _ (short .ensures) k (c .value .ensures), search needs)
 

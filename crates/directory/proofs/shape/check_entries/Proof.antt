@@ -84,7 +84,7 @@ loop-again c =
     let l = c .before .before .before .before .before .before in
     let a = l .before .before .args in
     let n = shape-next (a .widths) (now (a .file)) _ _ _ _ (l .loop .left) (l .loop .left - 1) (omega arith) _ (tagged (c .before))
-        (c .if1 .left) in
+    (c .if1 .left) in
     (l .loop .inv .0 ∙ n, spaced (c .before .before .before .before .before) .1)
 
 returns-3 : tie.Need-returns-3 Inv-loop μ-loop
@@ -97,5 +97,5 @@ pub check-entries-spec : {M : Type 1} → statement M
 check-entries-spec =
     tie.close
     (tie.spec Inv-loop μ-loop add-step add-step-2 loop-holds placed-tag-requires enum-known-number returns enum-known-t returns-2 add-low
-        add-p
+    add-p
     sub-left loop-less loop-again returns-3)

@@ -75,9 +75,11 @@ returns c =
     let i = k .before in
     let v = i .before .before .before in
     let a = v .before .before .before .before .args in
-    let e = ap numberOut (sym (c .before .number .given .1)) ∙ k .check-entries .ensures in
-    (ifd-refused (a .widths) (now (a .file)) _ _ _ (counted (v .before)) _ (v .value .ensures) (i .before .before .if2 .taken) (room i) _ _
-        e, tt)
+    let e = ap numberOut (sym (c .before .number .given .1)) ∙ k .check-entries .ensures in (
+      ifd-refused (a .widths) (now (a .file)) _ _ _ (counted (v .before)) _ (v .value .ensures) (i .before .before .if2 .taken) (room i) _ _
+          e,
+      tt,
+    )
 
 returns-2 : tie.Need-returns-2
 returns-2 c =
@@ -97,9 +99,11 @@ returns-3 c =
     let a = v .before .before .before .before .args in
     let n = v .value .result in
     let h : length (now (a .file)) < a .at + a .widths .entries + a .widths .word + entryWidth (a .widths) * n =
-    leb-false _ _ (sym (c .before .many-inside .ensures) ∙ c .if3 .left) in
-    (ifd-cut (a .widths) (now (a .file)) _ _ _ (counted (v .before)) _ (v .value .ensures) (c .before .before .if2 .taken)
-        (omega (arith, h)), tt)
+    leb-false _ _ (sym (c .before .many-inside .ensures) ∙ c .if3 .left) in (
+      ifd-cut (a .widths) (now (a .file)) _ _ _ (counted (v .before)) _ (v .value .ensures) (c .before .before .if2 .taken)
+          (omega (arith, h)),
+      tt,
+    )
 
 returns-4 : tie.Need-returns-4
 returns-4 c =
@@ -109,13 +113,12 @@ returns-4 c =
 
 returns-5 : tie.Need-returns-5
 returns-5 c =
-    let args = c .before .before .before .args in
-    let a = args in
+    let a = c .before .before .before .args in
     (ifd-outside (a .widths) (now (a .file)) _ _ _ (leb-false _ _ (sym (c .before .inside .ensures) ∙ c .if1 .left)), tt)
 
 pub ifd-at-spec : {M : Type 1} → statement M
 ifd-at-spec =
     tie.close
     (tie.spec inside-requires value-requires add-first add-many-inside add-many-inside-2 add-many-inside-3 many-inside-requires
-        check-entries-requires
+    check-entries-requires
     enum-known-number enum-told returns returns-2 returns-3 returns-4 returns-5)

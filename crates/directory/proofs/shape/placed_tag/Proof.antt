@@ -50,8 +50,12 @@ fits-requires c κs =
 abbrev entry : tie.After-value → Entry
 entry c =
     let s = c .before .before in
-    record { tag = s .before .short .result; kind = kindOf (s .before .before .before .args .widths .types) (s .short2 .result); count = c
-        .value .result }
+    record {
+      tag = s .before .short .result;
+      kind = kindOf (s .before .before .before .args .widths .types) (s .short2 .result);
+      count = c
+          .value .result;
+    }
 
 head : (c : tie.After-value) → let a = c .before .before .before .before .before .args in
     entry c ≡ headerOf (a .widths) (a .order) (part (now (a .file)) (a .at) (headWidth (a .widths)))
@@ -66,7 +70,7 @@ returns c =
     let h = c .before .before in
     let a = h .before .before .before .before .before .args in
     let b = fit (λ (m : ℕ). m * h .value .result) (entry h .kind) _ _ _ (h .before .size-of .ensures .0) (c .before .fits2 .ensures)
-        (c .if1 .taken) in
+    (c .if1 .taken) in
     (entry-within (a .widths) (now (a .file)) _ _ _ (entry h) (head h) b, omega arith)
 
 add-value-2 : tie.Need-add-value-2
@@ -90,7 +94,7 @@ returns-2 c =
     let s = h .before .size-of .ensures .0 in
     let b = unfit (λ (m : ℕ). m * h .value .result) (entry h .kind) _ _ _ s (v .before .before .fits2 .ensures) (v .before .if1 .left) in
     let r = fit (λ (m : ℕ). v .value2 .result + m * h .value .result) (entry h .kind) _ _ _ s (c .before .many-inside .ensures)
-        (c .if2 .taken) in
+    (c .if2 .taken) in
     (entry-inside (a .widths) (now (a .file)) _ _ _ (entry h) (head h) b _ (v .value2 .ensures) r, omega arith)
 
 returns-3 : tie.Need-returns-3
@@ -101,12 +105,12 @@ returns-3 c =
     let s = h .before .size-of .ensures .0 in
     let b = unfit (λ (m : ℕ). m * h .value .result) (entry h .kind) _ _ _ s (v .before .before .fits2 .ensures) (v .before .if1 .left) in
     let r = unfit (λ (m : ℕ). v .value2 .result + m * h .value .result) (entry h .kind) _ _ _ s (c .before .many-inside .ensures)
-        (c .if2 .left) in
+    (c .if2 .left) in
     (entry-outside (a .widths) (now (a .file)) _ _ _ (entry h) (head h) b _ (v .value2 .ensures) r, tt)
 
 pub placed-tag-spec : {M : Type 1} → statement M
 placed-tag-spec =
     tie.close
     (tie.spec add-head short-requires cast-tag add-short short-requires-2 cast-size-of size-of-requires add-value value-requires
-        fits-requires returns
+    fits-requires returns
     add-value-2 value-requires-2 many-inside-requires returns-2 returns-3)

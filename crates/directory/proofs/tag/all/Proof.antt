@@ -59,4 +59,4 @@ returns-3 c =
 pub all-spec : {M : Type 1} → statement M
 all-spec =
     tie.close (tie.spec look-up-requires enum-known-number returns enum-known-v each-requires enum-known-number-2 enum-told returns-2
-        returns-3)
+    returns-3)

@@ -18,7 +18,7 @@ use Rattle.directory.proofs.tag.find.Tie as tie
 abbrev Inv-loop : tie.InvT-loop
 Inv-loop file order widths count at tag word head step left₀ p₀ left p =
     (run file (findFrom widths order count at tag) ≡ run file (findFrom widths order left p tag))
-        × (p + entryWidth widths * left ≤ length file)
+    × (p + entryWidth widths * left ≤ length file)
 
 abbrev μ-loop : tie.MeasureT-loop
 μ-loop file order widths count at tag word head step left₀ p₀ left p = left
@@ -85,7 +85,7 @@ loop-again c =
     let a = l .before .before .args in
     let n = l .loop .left in
     let e = find-later (a .widths) (now (a .file)) _ _ _ n (n - 1) (omega arith) _ refl (λ h. c .if1 .left (sym (tag-is (c .before)) ∙ h))
-        in
+    in
     (l .loop .inv .0 ∙ e, spaced (c .before .before) .1)
 
 returns-2 : tie.Need-returns-2 Inv-loop μ-loop
@@ -98,5 +98,5 @@ pub find-spec : {M : Type 1} → statement M
 find-spec =
     tie.close
     (tie.spec Inv-loop μ-loop add-head add-step loop-holds short-requires cast-if1 add-t15 header-requires returns add-p sub-left loop-less
-        loop-again
+    loop-again
     returns-2)

@@ -24,25 +24,25 @@ enum-known-found c = search needs
 tested-requires : tie.Need-tested-requires
 unfolding PlacedIn
 tested-requires c κs =
-    let find = c .before .before .before .find in
     let a = c .before .before .before .before .before .before in
     let g = c .before .found .given .1 in
-    let d = find .ensures in
-    let q = subst (FoundIn (a .args .ifd .widths) (length (now (a .args .file)))) g (d .1) in
-    ( (q, a .pre .laid), subst (PlacedIn (a .args .ifd .widths) (now (a .args .file)) (a .args .ifd .order)) (sym (d .0) ∙ g)
-        (found-placed _ _ _ _ _ _ _ _ (a .pre .shape)), )
+    let d = c .before .before .before .find .ensures in
+    let q = subst (FoundIn (a .args .ifd .widths) (length (now (a .args .file)))) g (d .1) in (
+      (q, a .pre .laid),
+      subst (PlacedIn (a .args .ifd .widths) (now (a .args .file)) (a .args .ifd .order)) (sym (d .0) ∙ g)
+          (found-placed _ _ _ _ _ _ _ _ (a .pre .shape)),
+    )
 
 returns : tie.Need-returns
 returns c =
-    let find = c .before .before .before .find in
-    let d = find .ensures in
-    (c .absent .ensures .0 ∙ sym (values-found _ _ _ Absent (sym (c .before .enum-told .given .1) ∙ d .0) ∙ run-answer _ _),
-        c .absent .ensures .1 _)
+    let d = c .before .before .before .find .ensures in (
+      c .absent .ensures .0 ∙ sym (values-found _ _ _ Absent (sym (c .before .enum-told .given .1) ∙ d .0) ∙ run-answer _ _),
+      c .absent .ensures .1 _,
+    )
 
 returns-2 : tie.Need-returns-2
 returns-2 c =
-    let find = c .before .before .before .before .find in
-    let d = find .ensures in
+    let d = c .before .before .before .before .find .ensures in
     (c .tested .ensures .0 ∙ sym (values-found _ _ _ (At _ _) (sym (c .before .before .found .given .1) ∙ d .0)), c .tested .ensures .1)
 
 pub look-up-spec : {M : Type 1} → statement M

@@ -65,4 +65,4 @@ returns-3 c =
 pub one-spec : {M : Type 1} → statement M
 one-spec =
     tie.close (tie.spec look-up-requires enum-known-number returns enum-known-v judged-requires returns-2 value-requires judged-requires-2
-        returns-3)
+    returns-3)

@@ -38,12 +38,10 @@ value-requires c κs =
 
 returns-3 : tie.Need-returns-3
 returns-3 c =
-    let if2 = c .before .before .before .before .before .if2 in
-    let if3 = c .before .before .before .if3 in
     let t = c .before .before .before .before .before .before .before in
     let a = t .before .before .before in
-    let l = if2 .left in
-    let m = if3 .left in
+    let l = c .before .before .before .before .before .if2 .left in
+    let m = c .before .before .before .if3 .left in
     let s = c .before .before .size .ensures .0 in
     let b = fit (λ (m : ℕ). m * a .args .entry .count) (a .args .entry .kind) _ _ _ s (c .before .fits2 .ensures) (c .if4 .taken) in (
       ap (λ n. is (record { place = a .args .place; kind = a .args .entry .kind; size = n; count = a .args .entry .count })) s
@@ -53,17 +51,13 @@ returns-3 c =
 
 returns-4 : tie.Need-returns-4
 returns-4 c =
-    let if2 = c .before .before .before .before .before .before .if2 in
-    let if3 = c .before .before .before .before .if3 in
-    let size-call = c .before .before .before .size in
     let t = c .before .before .before .before .before .before .before .before in
     let a = t .before .before .before in
-    let l = if2 .left in
-    let m = if3 .left in
-    let s = size-call .ensures .0 in
+    let l = c .before .before .before .before .before .before .if2 .left in
+    let m = c .before .before .before .before .if3 .left in
+    let s = c .before .before .before .size .ensures .0 in
     let b = unfit (λ (m : ℕ). m * a .args .entry .count) (a .args .entry .kind) _ _ _ s (c .before .before .fits2 .ensures)
-        (c .before .if4 .left) in
-    (
+    (c .before .if4 .left) in (
       ap (λ n. is (record { place = c .value .result; kind = a .args .entry .kind; size = n; count = a .args .entry .count })) s
           ∙ elsewhere _ _ _ _ _ _ (allowed t) l m b _ (c .value .ensures),
       rw s (inside-file _ _ _ _ _ _ (allowed t) l m b (a .pre .1) _ (c .value .ensures)),

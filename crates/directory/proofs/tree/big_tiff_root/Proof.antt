@@ -19,9 +19,11 @@ short-requires-2 c κs = search needs
 
 returns-3 : tie.Need-returns-3
 returns-3 c =
-    let s = c .before .before .before in
-    (big-tiff-not-0 _ _ _ (s .before .if1 .left) _ (s .short .ensures) (c .before .before .if2 .left) _ (c .before .short2 .ensures)
-        (c .if3 .taken), tt)
+    let s = c .before .before .before in (
+      big-tiff-not-0 _ _ _ (s .before .if1 .left) _ (s .short .ensures) (c .before .before .if2 .left) _ (c .before .short2 .ensures)
+          (c .if3 .taken),
+      tt,
+    )
 
 root-from-requires : tie.Need-root-from-requires
 root-from-requires c κs =
@@ -34,7 +36,7 @@ returns-4 c =
     let s = t .before .before in (
       c .root-from .ensures .0
           ∙ sym (big-tiff-offset _ _ _ (s .before .if1 .left) _ (s .short .ensures) (t .before .if2 .left) _ (t .short2 .ensures)
-              (c .before .if3 .left)),
+          (c .before .if3 .left)),
       c .root-from .ensures .1,
     )
 

@@ -68,4 +68,4 @@ returns-4 c =
 pub check-version-spec : {M : Type 1} → statement M
 check-version-spec =
     tie.close (tie.spec look-up-requires enum-known-number returns enum-known-v look-up-requires-2 enum-known-number-2 returns-2
-        enum-known-v-2 backward-requires returns-3 returns-4)
+    enum-known-v-2 backward-requires returns-3 returns-4)

@@ -60,4 +60,4 @@ returns-4 c =
 pub inspect-spec : {M : Type 1} → statement M
 inspect-spec =
     tie.close (tie.spec one-requires enum-known-number returns enum-known-t returns-2 look-up-requires enum-known-number-2 enum-known-v
-        returns-3 returns-4)
+    returns-3 returns-4)

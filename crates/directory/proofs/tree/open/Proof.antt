@@ -35,8 +35,7 @@ not-big : (c : tie.After-starts-with3) →
 not-big c = sym (c .before .before .before .starts-with2 .ensures) ∙ c .before .before .if4 .left
 
 not-big-tiff-little : (c : tie.After-starts-with4) →
-    let m = c .before .before .before .before .before .before in
-    let a = m .before .before .before .before .before .before .before .before .args in
+    let a = c .before .before .before .before .before .before .before .before .before .before .before .before .before .before .args in
     sameBytes (take 4 (now (a .file))) (bigTiffMark Little) ≡ false
 not-big-tiff-little c = sym (c .before .before .before .starts-with3 .ensures) ∙ c .before .before .if5 .left
 
@@ -84,7 +83,7 @@ returns-5 c =
     let k = m .before .before .before in (
       c .big-tiff-root .ensures .0
           ∙ sym (tree-big-tiff-little _ _ (least k) (most k) (not-little m) (not-big o)
-              (sym (o .starts-with3 .ensures) ∙ c .before .if5 .taken)),
+          (sym (o .starts-with3 .ensures) ∙ c .before .if5 .taken)),
       c .big-tiff-root .ensures .1,
     )
 

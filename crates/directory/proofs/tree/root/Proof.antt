@@ -105,4 +105,4 @@ returns-5 c =
 pub root-spec : {M : Type 1} → statement M
 root-spec =
     tie.close (tie.spec ifd-at-requires enum-known-number returns enum-known-d check-version-requires enum-known-number-2 returns-2
-        enum-told walk-from-requires enum-known-raw enum-known-number-3 enum-told-2 returns-3 returns-4 returns-5)
+    enum-told walk-from-requires enum-known-raw enum-known-number-3 enum-told-2 returns-3 returns-4 returns-5)

@@ -26,16 +26,14 @@ all s = let a = s .args in firstRefused (runOf (blackAt (a .kind) (a .order) (a 
 
 abbrev left : tie.After-black-at Inv-loop μ-loop → Black
 left c =
-    let args = c .before .before .before .before .args in
-    let a = args in
+    let a = c .before .before .before .before .args in
     let l = c .before .before .loop in
     firstRefused (runOf (blackAt (a .kind) (a .order) (a .s .now)) (a .step) (l .p + a .step) (a .count - (l .i + 1)))
 
 next : (c : tie.After-black-at Inv-loop μ-loop) (b : Black) → c .black-at .result ≡ b →
     all (c .before .before .before .before) ≡ orNext b (left c)
 next c b e =
-    let args = c .before .before .before .before .args in
-    let a = args in
+    let a = c .before .before .before .before .args in
     let l = c .before .before .loop in
     sym (l .inv .1)
     ∙ refused-next (blackAt (a .kind) (a .order) (a .s .now)) (a .step) (l .p) (a .count) (l .i) (c .before .loop-test .taken)
@@ -70,10 +68,8 @@ returns-2 c = sym (next (c .before .before) _ (c .enum-told3 .given .1))
 
 add-p : tie.Need-add-p Inv-loop μ-loop
 add-p c =
-    let loop = c .before .before .before .before .loop in
-    let loop-test = c .before .before .before .loop-test in
-    let l = loop in
-    let t = loop-test .taken in
+    let l = c .before .before .before .before .loop in
+    let t = c .before .before .before .loop-test .taken in
     let s = c .before .before .before .before .before .before in
     let some : 0 < s .args .count = omega (arith, t) in
     omega (arith, s .pre .0 (l .i) t, s .pre .1 some, l .inv .0, s .good)
@@ -87,8 +83,7 @@ loop-less c = search needs
 loop-again : tie.Need-loop-again Inv-loop μ-loop
 loop-again c =
     let args = c .before .before .before .before .before .before .args in
-    let loop = c .before .before .before .before .loop in
-    let l = loop in
+    let l = c .before .before .before .before .loop in
     let a = args in (
       omega (arith, mul-suc (a .step) (l .i), ap (λ (k : ℕ). a .step * k) (add-one (l .i)), l .inv .0),
       sym (next (c .before .before) _ (c .enum-told .given .1)),
@@ -96,8 +91,7 @@ loop-again c =
 
 returns-3 : tie.Need-returns-3 Inv-loop μ-loop
 returns-3 c =
-    let args = c .before .before .before .args in
-    let a = args in
+    let a = c .before .before .before .args in
     let l = c .before .loop in
     sym (refused-over (blackAt (a .kind) (a .order) (a .s .now)) (a .step) (l .p) (a .count) (l .i) (c .loop-test .left)) ∙ l .inv .1
 

@@ -17,11 +17,10 @@ whole-requires c κs = search needs
 
 returns : tie.Need-returns
 returns c difference span p q =
-    let args = c .before .before .before .args in
-    let a = args in
+    let a = c .before .before .before .args in
     let e : c .whole .result ≡ levelBy (a .d) (a .r) = c .whole .ensures
-        ∙ ap wholeOf (c .before .capped .ensures
-        ∙ ap (λ (x : Float). cappedOf (mul binary64 x (a .r))) (c .before .before .floored .ensures)) in
+    ∙ ap wholeOf (c .before .capped .ensures
+    ∙ ap (λ (x : Float). cappedOf (mul binary64 x (a .r))) (c .before .before .floored .ensures)) in
     e ∙ level-is-by difference span (a .d) (a .r) p q
 
 pub level-spec : {M : Type 1} → statement M

@@ -28,9 +28,8 @@ same n n′ s s′ o o′ a b d = cc
 
 returns : tie.Need-returns
 returns c =
-    let field = c .before .before .before .before .field in
     let double-at = c .before .before .before .double-at in
-    let n = field in
+    let n = c .before .before .before .before .field in
     let s = c .before .before .value .ensures ∙ ap valueOf (double-at .ensures) in
     same _ _ _ _ _ _ (n .ensures .0) s (c .value2 .ensures ∙ ap valueOf (c .before .double-at2 .ensures))
 

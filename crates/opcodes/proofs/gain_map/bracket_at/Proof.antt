@@ -40,7 +40,7 @@ int-to-float-t6 c =
     let d = c .before .before in
     let s = d .before .before .before in
     let w = whole-below (s .args .p) (s .args .points - 1) (omega (arith, s .pre .1)) (s .pre .2) (d .before .before .if1 .left)
-        (d .if2 .left) in
+    (d .if2 .left) in
     float-exact _ (omega (arith, w, s .pre .1, c .before .truncating-f64-to-u64 .ensures))
 
 returns-3 : tie.Need-returns-3

@@ -54,9 +54,12 @@ gain-requires-2 c κs =
     let t = c .before .before .before in
     let s = t .before .before .before .before .before .before in
     let p = point-below _ (s .args .down) (s .pre .1) in
-    let r = t .next2 .ensures .1 in
-    (s .pre .0, omega (arith, p, t .before .before .before .before .point .ensures), omega (arith, r, t .before .field2 .ensures .0),
-        s .pre .2)
+    let r = t .next2 .ensures .1 in (
+      s .pre .0,
+      omega (arith, p, t .before .before .before .before .point .ensures),
+      omega (arith, r, t .before .field2 .ensures .0),
+      s .pre .2,
+    )
 
 gain-requires-3 : tie.Need-gain-requires-3
 gain-requires-3 c κs =
@@ -69,9 +72,12 @@ gain-requires-4 c κs =
     let u = c .before .before .before .before .before in
     let t = u .before .before in
     let s = t .before .before .before .before in
-    let l = t .next .ensures .1 in
-    (s .pre .0, omega (arith, l, t .before .field .ensures .0), omega (arith, u .next2 .ensures .1, u .before .field2 .ensures .0),
-        s .pre .2)
+    let l = t .next .ensures .1 in (
+      s .pre .0,
+      omega (arith, l, t .before .field .ensures .0),
+      omega (arith, u .next2 .ensures .1, u .before .field2 .ensures .0),
+      s .pre .2,
+    )
 
 returns : tie.Need-returns
 unfolding gainMapOf

@@ -16,11 +16,10 @@ taken-requires-3 c κs = search needs
 
 returns : tie.Need-returns
 returns c =
-    let args = c .before .before .before .args in
-    let down = args .down in
+    let down = c .before .before .before .args .down in
     let lower = c .before .taken2 in
     c .taken3 .ensures ∙ ap (λ (a : Float). takenOf down a (lower .result)) (c .before .before .taken .ensures)
-        ∙ ap (takenOf down _) (lower .ensures)
+    ∙ ap (takenOf down _) (lower .ensures)
 
 pub corners-gain-spec : {M : Type 1} → statement M
 corners-gain-spec = tie.close (tie.spec taken-requires taken-requires-2 taken-requires-3 returns)

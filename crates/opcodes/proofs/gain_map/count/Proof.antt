@@ -20,10 +20,9 @@ small : (c : tie.After-field3) →
     let points = c .before .before .field .result * c .before .field2 .result in
     (points ≤ 64 * 64) × (points * c .field3 .result ≤ 64 * 64 * 0xffff_ffff)
 small c =
-    let pre = c .before .before .before .before .pre in
     let n = c .before .before .field in
     let k = c .before .field2 in
-    let h = pre in
+    let h = c .before .before .before .before .pre in
     let rows : n .result ≤ 64 = omega (arith, n .ensures .0, h .1) in
     let columns : k .result ≤ 64 = omega (arith, k .ensures .0, h .2) in
     let planes : c .field3 .result ≤ 0xffff_ffff = omega (arith, c .field3 .ensures .1) in

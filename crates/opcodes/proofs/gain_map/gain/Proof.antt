@@ -52,8 +52,7 @@ value-requires c κs = search needs
 
 returns : tie.Need-returns
 returns c =
-    let field = c .before .before .before .field in
-    let e = field .ensures .0 in
+    let e = c .before .before .before .field .ensures .0 in
     c .value .ensures ∙ ap valueOf (c .before .float-at .ensures) ∙ gain-read _ _ _ _ _ _ e (c .before .before .field2 .ensures .0)
 
 pub gain-spec : {M : Type 1} → statement M

@@ -23,8 +23,7 @@ across-axis-requires c κs = omega (arith, c .before .before .before .pre .0 .in
 
 located-requires-2 : tie.Need-located-requires-2
 located-requires-2 c κs =
-    let pre = c .before .before .before .before .pre in
-    let h = pre in
+    let h = c .before .before .before .before .pre in
     (subst Axis-in (sym (c .across-axis .ensures)) (h .0 .across), h .4, h .2)
 
 plane-for-requires : tie.Need-plane-for-requires
@@ -41,7 +40,7 @@ corners-at-requires c κs =
     let d = t .before .before in
     let h = d .before .before .before .pre in
     let across = subst (λ (a : Axis). Bracket-in (a .points) (t .located2 .result)) (t .before .across-axis .ensures)
-        (t .located2 .ensures .1) in
+    (t .located2 .ensures .1) in
     let k = point-below (longOf (now (d .before .before .before .args .ps)) 36) (t .located2 .result) across in
     let down = subst (λ (a : Axis). Bracket-in (a .points) (d .located .result)) (d .before .down-axis .ensures) (d .located .ensures .1) in
     (h .0, down, c .before .plane-for .ensures .1, omega (arith, k, c .point .ensures))
@@ -61,15 +60,15 @@ returns c =
     let across = t .located2 in
     let e = t .before .across-axis .ensures in
     let f = d .before .down-axis .ensures in
-    let here = subst (λ (x : Axis). Bracket-of x (a .size .columns) (a .column) (across .result)) e (across .ensures .0) in
-    let row = subst (λ (x : Axis). Bracket-of x (a .size .rows) (a .row) (down .result)) f (down .ensures .0) in
+    let here = subst (λ (x : Axis). Bracket-of x (a .size .columns) (a .column .0) (across .result)) e (across .ensures .0) in
+    let row = subst (λ (x : Axis). Bracket-of x (a .size .rows) (a .row .0) (down .result)) f (down .ensures .0) in
     let rows = subst (λ (x : Axis). Bracket-in (x .points) (down .result)) f (down .ensures .1) in
     let columns = subst (λ (x : Axis). Bracket-in (x .points) (across .result)) e (across .ensures .1) in
     let q = p .plane-for in
     let four = c .before .corners-at in
-    corners-found m (down .result) (across .result) (q .result) (a .size .columns) (a .column) here (four .result) _ _ (four .ensures)
+    corners-found m (down .result) (across .result) (q .result) (a .size .columns) (a .column .0) here (four .result) _ _ (four .ensures)
     (c .before .before .point .ensures) (c .corners-gain .ensures) rows columns
-    ∙ gain-in m (a .size) (a .row) (a .column) (a .j) (down .result) (q .result) row (q .ensures .0)
+    ∙ gain-in m (a .size) (a .row .0) (a .column .0) (a .j) (down .result) (q .result) row (q .ensures .0)
 
 pub gain-at-spec : {M : Type 1} → statement M
 gain-at-spec =

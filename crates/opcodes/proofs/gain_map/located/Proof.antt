@@ -17,14 +17,15 @@ bracket-at-requires : tie.Need-bracket-at-requires
 bracket-at-requires c κs =
     let s = c .before .before in
     let h = s .pre in
-    let more = c .before .if1 .left in
-    (omega (arith, h .0 .some), h .0 .most,
-        axis-number (s .args .axis) (s .args .size) (s .args .n) _ (h .0) more (h .1) (h .2) (c .place .ensures))
+    let more = c .before .if1 .left in (
+      omega (arith, h .0 .some),
+      h .0 .most,
+      axis-number (s .args .axis) (s .args .size) (s .args .n) _ (h .0) more (h .1) (h .2) (c .place .ensures),
+    )
 
 returns-2 : tie.Need-returns-2
 returns-2 c =
-    let args = c .before .before .before .args in
-    let a = args in
+    let a = c .before .before .before .args in
     let e = c .before .place .ensures in
     (subst (λ (p : Float). Bracket-at (a .axis .points) p (c .bracket-at .result)) e (c .bracket-at .ensures .0), c .bracket-at .ensures .1)
 

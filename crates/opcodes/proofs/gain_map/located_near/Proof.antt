@@ -15,11 +15,10 @@ place-requires c κs = (c .before .pre .0 .1, c .before .pre .0 .2)
 
 returns-2 : tie.Need-returns-2
 returns-2 c =
-    let place = c .before .before .before .place in
     let s = c .before .before .before .before .before in
     let a = s .args in
     let h = s .pre .1 in
-    let p = place in
+    let p = c .before .before .before .place in
     let low = ap (λ (x : Float). lt x (p .result)) (sym (h .0)) ∙ c .before .before .if2 .taken in
     let high = ap (lt (p .result)) (sym (h .1)) ∙ c .if3 .taken in
     let near = bracket-near (a .axis .points) (a .corners .point) (p .result) (h .2) (s .pre .0 .0 .most) low high in
@@ -35,8 +34,7 @@ bracket-at-requires c κs =
 
 returns-3 : tie.Need-returns-3
 returns-3 c =
-    let args = c .before .before .before .before .args in
-    let a = args in
+    let a = c .before .before .before .before .args in
     let e = c .before .before .place .ensures in
     (subst (λ (p : Float). Bracket-at (a .axis .points) p (c .bracket-at .result)) e (c .bracket-at .ensures .0), c .bracket-at .ensures .1)
 

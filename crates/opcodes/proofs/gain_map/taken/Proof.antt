@@ -19,8 +19,7 @@ returns c = let a = c .before .before .args in ap (λ (s : Bracket). takenOf s (
 
 returns-2 : tie.Need-returns-2
 returns-2 c =
-    let args = c .before .before .before .before .args in
-    let a = args in
+    let a = c .before .before .before .before .args in
     c .between .ensures ∙ ap (λ (s : Bracket). takenOf s (a .a) (a .b)) (sym (c .before .before .bracket .given .1))
 
 pub taken-spec : {M : Type 1} → statement M

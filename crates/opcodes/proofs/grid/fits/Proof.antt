@@ -19,7 +19,7 @@ returns c =
     let inside = c .before .before .before .before .inside in
     let if1 = c .before .before .before .if1 in
     c .planes-fit .ensures ∙ sym (rw
-        (sym (inside .ensures) ∙ if1 .taken, sym (c .before .before .inside2 .ensures) ∙ c .before .if2 .taken))
+    (sym (inside .ensures) ∙ if1 .taken, sym (c .before .before .inside2 .ensures) ∙ c .before .if2 .taken))
 
 returns-2 : tie.Need-returns-2
 unfolding fitsOf

@@ -71,15 +71,16 @@ returns c =
     let field5 = c .before .before .before .field5 in
     let field6 = c .before .before .field6 in
     let f = now (args .file) in
-    let a = args .at in
-    (λ n h. same (field .ensures .0 ∙ ap (longOf f) (sym (add-zero a)) ∙ long-part f a n 0 (omega arith))
-        (field2 .ensures .0 ∙ long-part f a n 4 (omega arith)) (field3 .ensures .0 ∙ long-part f a n 8 (omega arith))
-        (field4 .ensures .0 ∙ long-part f a n 12 (omega arith)) (field5 .ensures .0 ∙ long-part f a n 16 (omega arith))
-        (field6 .ensures .0 ∙ long-part f a n 20 (omega arith)) (c .before .field7 .ensures .0 ∙ long-part f a n 24 (omega arith))
-        (c .field8 .ensures .0 ∙ long-part f a n 28 (omega arith)),
-        (field5 .ensures .1, field6 .ensures .1, c .before .field7 .ensures .1, c .field8 .ensures .1))
+    let a = args .at in (
+      λ n h. same (field .ensures .0 ∙ ap (longOf f) (sym (add-zero a)) ∙ long-part f a n 0 (omega arith))
+          (field2 .ensures .0 ∙ long-part f a n 4 (omega arith)) (field3 .ensures .0 ∙ long-part f a n 8 (omega arith))
+          (field4 .ensures .0 ∙ long-part f a n 12 (omega arith)) (field5 .ensures .0 ∙ long-part f a n 16 (omega arith))
+          (field6 .ensures .0 ∙ long-part f a n 20 (omega arith)) (c .before .field7 .ensures .0 ∙ long-part f a n 24 (omega arith))
+          (c .field8 .ensures .0 ∙ long-part f a n 28 (omega arith)),
+      (field5 .ensures .1, field6 .ensures .1, c .before .field7 .ensures .1, c .field8 .ensures .1),
+    )
 
 pub grid-at-spec : {M : Type 1} → statement M
 grid-at-spec =
     tie.close (tie.spec field-requires add-field field-requires-2 add-field-2 field-requires-3 add-field-3 field-requires-4 add-field-4
-        field-requires-5 add-field-5 field-requires-6 add-field-6 field-requires-7 add-field-7 field-requires-8 returns)
+    field-requires-5 add-field-5 field-requires-6 add-field-6 field-requires-7 add-field-7 field-requires-8 returns)

@@ -53,7 +53,7 @@ returns-2 c =
     let if1 = c .before .before .before .before .if1 in
     let every2 = c .before .before .before .every2 in
     lt-leb _ _ (c .if3 .left) ∙ on-low _ _ _ _ (sym (every .ensures) ∙ if1 .taken) (sym (every2 .ensures) ∙ c .before .before .if2 .taken)
-        (lt-leb _ _ (c .if3 .left))
+    (lt-leb _ _ (c .if3 .left))
 
 returns-3 : tie.Need-returns-3
 returns-3 c =

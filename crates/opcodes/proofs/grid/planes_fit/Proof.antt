@@ -32,7 +32,7 @@ returns-4 : tie.Need-returns-4
 returns-4 c =
     let if1 = c .before .before .before .before .before .if1 in
     lt-leb _ _ (c .if3 .left) ∙ third _ _ _ _ (lt-leb _ _ (c .if3 .left)) (le-leb _ _ (if1 .left))
-        (le-leb _ _ (c .before .before .if2 .left))
+    (le-leb _ _ (c .before .before .if2 .left))
 
 pub planes-fit-spec : {M : Type 1} → statement M
 planes-fit-spec = tie.close (tie.spec returns add-if2 returns-2 returns-3 returns-4)

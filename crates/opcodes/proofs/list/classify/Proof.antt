@@ -22,14 +22,14 @@ unfolding pick
 returns-2 c =
     let listed = c .before .before .before .listed in
     ⊎-elim (λ w. class-newer _ (sym (listed .ensures) ∙ w .0 .taken) (lt-leb _ _ (w .2 .left)) true (eq-eqb _ _ (c .if3 .taken)))
-        (λ w. class-unlisted _ (sym (listed .ensures) ∙ w .left) true (eq-eqb _ _ (c .if3 .taken))) (c .before .before .if1 .came)
+    (λ w. class-unlisted _ (sym (listed .ensures) ∙ w .left) true (eq-eqb _ _ (c .if3 .taken))) (c .before .before .if1 .came)
 
 returns-3 : tie.Need-returns-3
 unfolding pick
 returns-3 c =
     let listed = c .before .before .before .listed in
     ⊎-elim (λ w. class-newer _ (sym (listed .ensures) ∙ w .0 .taken) (lt-leb _ _ (w .2 .left)) false (ne-eqb _ _ (c .if3 .left)))
-        (λ w. class-unlisted _ (sym (listed .ensures) ∙ w .left) false (ne-eqb _ _ (c .if3 .left))) (c .before .before .if1 .came)
+    (λ w. class-unlisted _ (sym (listed .ensures) ∙ w .left) false (ne-eqb _ _ (c .if3 .left))) (c .before .before .if1 .came)
 
 pub classify-spec : {M : Type 1} → statement M
 classify-spec = tie.close (tie.spec listed-requires returns returns-2 returns-3)

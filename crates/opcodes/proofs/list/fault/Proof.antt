@@ -23,8 +23,7 @@ own-fault-requires c κs = search needs
 
 returns : tie.Need-returns
 returns c =
-    let args = c .before .before .before .args in
-    let a = args in
+    let a = c .before .before .before .args in
     c .own-fault .ensures ∙ ap (faultOf (a .size) (a .id)) (cut (now (a .file)) (a .at) (a .bytes))
 
 pub fault-spec : {M : Type 1} → statement M

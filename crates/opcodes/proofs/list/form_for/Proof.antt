@@ -22,7 +22,7 @@ returns-2 : tie.Need-returns-2
 returns-2 c =
     let a = c .before .before .before .args in
     c .polynomial-form .ensures ∙ form-polynomial (a .grid) (a .id) (a .n) (ne-eqb _ _ (c .before .before .if1 .left))
-        (eq-eqb _ _ (c .before .if2 .taken))
+    (eq-eqb _ _ (c .before .if2 .taken))
 
 by-row-requires : tie.Need-by-row-requires
 by-row-requires c κs = search needs
@@ -54,8 +54,8 @@ returns-3 c =
     let if2 = c .before .before .before .before .if2 in
     let by-row = c .before .before .before .by-row in
     c .lines-form .ensures ∙ ap (λ (k : ℕ). linesForm k (a .n)) (c .before .lines .ensures)
-        ∙ form-rows (a .grid) (a .id) (a .n) (ne-eqb _ _ (if1 .left)) (ne-eqb _ _ (if2 .left))
-        (sym (by-row .ensures) ∙ c .before .before .if3 .taken)
+    ∙ form-rows (a .grid) (a .id) (a .n) (ne-eqb _ _ (if1 .left)) (ne-eqb _ _ (if2 .left))
+    (sym (by-row .ensures) ∙ c .before .before .if3 .taken)
 
 returns-4 : tie.Need-returns-4
 returns-4 c =
@@ -64,10 +64,10 @@ returns-4 c =
     let if2 = c .before .before .before .before .if2 in
     let by-row = c .before .before .before .by-row in
     c .lines-form2 .ensures ∙ ap (λ (k : ℕ). linesForm k (a .n)) (c .before .lines2 .ensures)
-        ∙ form-columns (a .grid) (a .id) (a .n) (ne-eqb _ _ (if1 .left)) (ne-eqb _ _ (if2 .left))
-        (sym (by-row .ensures) ∙ c .before .before .if3 .left)
+    ∙ form-columns (a .grid) (a .id) (a .n) (ne-eqb _ _ (if1 .left)) (ne-eqb _ _ (if2 .left))
+    (sym (by-row .ensures) ∙ c .before .before .if3 .left)
 
 pub form-for-spec : {M : Type 1} → statement M
 form-for-spec =
     tie.close (tie.spec table-form-requires returns polynomial-form-requires returns-2 by-row-requires lines-requires lines-form-requires
-        lines-requires-2 lines-form-requires-2 returns-3 returns-4)
+    lines-requires-2 lines-form-requires-2 returns-3 returns-4)

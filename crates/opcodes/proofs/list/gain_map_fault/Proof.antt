@@ -50,7 +50,7 @@ returns-2 c =
     let n = d .count in
     c .numbers-fault .ensures
     ∙ map-read (a .size) (now (a .ps)) h fit l (n .result) (n .ensures .0) (c .before .before .if4 .taken) _
-        (c .before .gain-map-refused .ensures)
+    (c .before .gain-map-refused .ensures)
 
 returns-3 : tie.Need-returns-3
 returns-3 c =
@@ -65,24 +65,19 @@ returns-3 c =
 
 returns-4 : tie.Need-returns-4
 returns-4 c =
-    let args = c .before .before .before .before .before .before .before .args in
-    let if1 = c .before .before .before .before .before .if1 in
-    let grid-at = c .before .before .before .before .grid-at in
     let fits2 = c .before .before .before .fits2 in
     let t = sym (fits2 .ensures) ∙ c .before .before .if2 .taken in
-    let g = grid-at in
-    let h = if1 .left in
-    let a = args in
+    let g = c .before .before .before .before .grid-at in
+    let h = c .before .before .before .before .before .if1 .left in
+    let a = c .before .before .before .before .before .before .before .args in
     let fit = own-fits (now (a .ps)) (g .result) 44 h (g .ensures .0) (a .size) true t in
     map-illegal (a .size) (now (a .ps)) h fit (sym (c .before .legal .ensures) ∙ c .if3 .left)
 
 returns-5 : tie.Need-returns-5
 returns-5 c =
-    let args = c .before .before .before .before .before .args in
-    let if1 = c .before .before .before .if1 in
-    let a = args in
+    let a = c .before .before .before .before .before .args in
     let g = c .before .before .grid-at in
-    let h = if1 .left in
+    let h = c .before .before .before .if1 .left in
     let t = sym (c .before .fits2 .ensures) ∙ c .if2 .left in
     map-grid (a .size) (now (a .ps)) h (own-fits (now (a .ps)) (g .result) 44 h (g .ensures .0) (a .size) false t)
 

@@ -42,11 +42,12 @@ returns c =
     let args = c .before .before .before .before .before .args in
     let field = c .before .before .before .field in
     let f = now (args .file) in
-    let a = args .at in
-    (same (field .ensures .0 ∙ ap (longOf f) (sym (add-zero a)) ∙ long-part f a 16 0 (omega arith))
-        (c .before .before .field2 .ensures .0 ∙ long-part f a 16 4 (omega arith))
-        (c .before .field3 .ensures .0 ∙ long-part f a 16 8 (omega arith)) (c .field4 .ensures .0 ∙ long-part f a 16 12 (omega arith)),
-        c .field4 .ensures .1)
+    let a = args .at in (
+      same (field .ensures .0 ∙ ap (longOf f) (sym (add-zero a)) ∙ long-part f a 16 0 (omega arith))
+          (c .before .before .field2 .ensures .0 ∙ long-part f a 16 4 (omega arith))
+          (c .before .field3 .ensures .0 ∙ long-part f a 16 8 (omega arith)) (c .field4 .ensures .0 ∙ long-part f a 16 12 (omega arith)),
+      c .field4 .ensures .1,
+    )
 
 pub header-at-spec : {M : Type 1} → statement M
 header-at-spec =

@@ -39,8 +39,8 @@ returns c =
     let told = c .before .before .before .enum-told in
     let cl : classOf (a .header) ≡ class.Carried = sym (classify .ensures) ∙ told .given .1 in
     rw cl (rw (carried-run (now (a .file)) (a .size) (a .i) (a .at) (a .header))
-        (parameters-kept (a .size) (a .i) (a .header .id) (part (now (a .file)) (a .at + 16) (a .header .length)) (a .counts)
-        (sym (c .before .before .fault .ensures) ∙ c .before .if1 .taken)))
+    (parameters-kept (a .size) (a .i) (a .header .id) (part (now (a .file)) (a .at + 16) (a .header .length)) (a .counts)
+    (sym (c .before .before .fault .ensures) ∙ c .before .if1 .taken)))
 
 enum-told-2 : tie.Need-enum-told-2
 enum-told-2 c = search needs
@@ -60,7 +60,7 @@ returns-2 c =
     let cl : classOf (a .header) ≡ class.Carried = sym (classify .ensures) ∙ c .before .before .enum-told .given .1 in
     let e = c .before .fault .ensures in
     let n = parameters-refused (a .size) (a .i) (a .header .id) (part (now (a .file)) (a .at + 16) (a .header .length)) (a .counts)
-        (λ k. c .if1 .left (e ∙ k)) in
+    (λ k. c .if1 .left (e ∙ k)) in
     rw cl (rw (carried-run (now (a .file)) (a .size) (a .i) (a .at) (a .header)) (ap (λ (m : ℕ). refused m (a .i)) e ∙ n))
 
 returns-3 : tie.Need-returns-3
@@ -79,4 +79,4 @@ returns-4 c =
 pub judge-spec : {M : Type 1} → statement M
 judge-spec =
     tie.close (tie.spec classify-requires enum-told add-fault fault-requires add-t12 returns enum-told-2 add-t14 enum-told-3 returns-2
-        returns-3 returns-4)
+    returns-3 returns-4)

@@ -23,10 +23,9 @@ field-requires c κs = search needs
 
 form-for-requires : tie.Need-form-for-requires
 form-for-requires c κs =
-    let pre = c .before .before .before .before .before .before .pre in
     let grid-at = c .before .before .before .grid-at in
     let fit = fits-in _ _ (sym (c .before .before .fits2 .ensures) ∙ c .before .if2 .taken) in
-    let z = pre in
+    let z = c .before .before .before .before .before .before .pre in
     let r = grid-at .ensures .1 in (
       (omega (arith, fit .some-rows), omega (arith, fit .rows, z .0), fit .row-pitch, r .2),
       (
@@ -37,23 +36,18 @@ form-for-requires c κs =
 
 exact-requires : tie.Need-exact-requires
 exact-requires c κs =
-    let a = c .before .before .before .before .before .before .before .args in
-    let grid-at = c .before .before .before .before .grid-at in
     let n = c .before .field in
-    let g = grid-at .result in
-    let id = a .id in
+    let g = c .before .before .before .before .grid-at .result in
+    let id = c .before .before .before .before .before .before .before .args .id in
     let q : Form-in (c .form-for .result) = rw (c .form-for .ensures) (form-in g id (n .result) (n .ensures .1)) in
     q .small
 
 refused-in-requires : tie.Need-refused-in-requires
 refused-in-requires c κs =
-    let a = c .before .before .before .before .before .before .before .before .before .args in
-    let grid-at = c .before .before .before .before .before .before .grid-at in
-    let field = c .before .before .before .field in
     let m = c .before .before .form-for in
-    let n = field in
-    let g = grid-at .result in
-    let id = a .id in
+    let n = c .before .before .before .field in
+    let g = c .before .before .before .before .before .before .grid-at .result in
+    let id = c .before .before .before .before .before .before .before .before .before .args .id in
     let q : Form-in (m .result) = rw (m .ensures) (form-in g id (n .result) (n .ensures .1)) in
     let b = exact-bytes (m .result) _ (sym (c .before .exact .ensures) ∙ c .if3 .taken) in
     (omega (arith, b, q .inside), q .wide)
@@ -100,11 +94,9 @@ returns-3 c =
 
 returns-4 : tie.Need-returns-4
 returns-4 c =
-    let args = c .before .before .before .before .before .args in
-    let if1 = c .before .before .before .if1 in
-    let a = args in
+    let a = c .before .before .before .before .before .args in
     let g = c .before .before .grid-at in
-    let h = if1 .left in
+    let h = c .before .before .before .if1 .left in
     let t = sym (c .before .fits2 .ensures) ∙ c .if2 .left in
     fault-grid (a .size) (a .id) (now (a .ps)) h (own-fits (now (a .ps)) (g .result) 4 h (g .ensures .0) (a .size) false t)
 

@@ -21,7 +21,7 @@ returns-2 : tie.Need-returns-2
 returns-2 c =
     let a = c .before .before .before .before .args in
     list-many (now (a .file)) (a .size) (a .at) (a .bytes) none (c .before .before .if1 .left) (c .before .field .result)
-        (c .before .field .ensures .0) (c .if2 .taken)
+    (c .before .field .ensures .0) (c .if2 .taken)
 
 add-test-opcodes : tie.Need-add-test-opcodes
 add-test-opcodes c =
@@ -47,7 +47,7 @@ returns-3 c =
     let if1 = c .before .before .before .if1 in
     let field = c .before .before .field in
     c .test-opcodes .ensures ∙ list-some (now (a .file)) (a .size) (a .at) (a .bytes) none (if1 .left) (field .result) (field .ensures .0)
-        (c .before .if2 .left)
+    (c .before .if2 .left)
 
 pub test-list-spec : {M : Type 1} → statement M
 test-list-spec = tie.close (tie.spec returns field-requires returns-2 add-test-opcodes sub-test-opcodes test-opcodes-requires returns-3)

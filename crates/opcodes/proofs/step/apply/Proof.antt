@@ -64,4 +64,4 @@ returns-4 c =
 pub apply-spec : {M : Type 1} → statement M
 apply-spec =
     tie.close (tie.spec enum-known-step clip-requires enum-known-step-2 clip-requires-2 enum-known-step-3 clip-requires-3 enum-known-step-4
-        table-size-requires mapped-requires clip-requires-4 returns returns-2 returns-3 returns-4)
+    table-size-requires mapped-requires clip-requires-4 returns returns-2 returns-3 returns-4)

@@ -13,7 +13,7 @@ returns-2 : tie.Need-returns-2
 unfolding ofBits
 returns-2 c =
     ⊎-elim (λ w. clip-over _ _ (w .0 .taken) (w .1) (c .if2 .left))
-        (λ w. absurd (zero-not-over (c .before .before .args .x) (c .before .if1 .y) (w .1) (c .if2 .left))) (c .before .if1 .came)
+    (λ w. absurd (zero-not-over (c .before .before .args .x) (c .before .if1 .y) (w .1) (c .if2 .left))) (c .before .if1 .came)
 
 pub clip-spec : {M : Type 1} → statement M
 clip-spec = tie.close (tie.spec returns returns-2)

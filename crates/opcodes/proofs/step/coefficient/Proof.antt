@@ -24,11 +24,10 @@ value-requires c κs = search needs
 returns : tie.Need-returns
 unfolding neg
 returns c =
-    let args = c .before .before .before .before .args in
-    let a = args in
+    let a = c .before .before .before .before .args in
     let t = c .before .before .if1 .taken in
     c .value .ensures ∙ ap valueOf (c .before .double-at .ensures)
-        ∙ sym (run-at (doubleIn (now (a .file))) 8 (a .at) (a .n) (a .k) minusZero t)
+    ∙ sym (run-at (doubleIn (now (a .file))) 8 (a .at) (a .n) (a .k) minusZero t)
 
 returns-2 : tie.Need-returns-2
 unfolding ofBits neg

@@ -40,7 +40,7 @@ returns c =
     let pre = c .before .before .before .before .pre in
     let f = now (a .file) in
     c .scaled .ensures ∙ ap scaledOf
-        (c .before .through .ensures ∙ through-is f (a .at) (a .x) _ _ (pre .1) (c .before .before .index .ensures) (pre .0))
+    (c .before .through .ensures ∙ through-is f (a .at) (a .x) _ _ (pre .1) (c .before .before .index .ensures) (pre .0))
 
 pub mapped-spec : {M : Type 1} → statement M
 mapped-spec = tie.close (tie.spec add-through index-requires through-requires scaled-requires returns)

@@ -39,10 +39,19 @@ returns c =
     let coefficient4 = c .before .before .before .before .before .coefficient4 in
     let coefficient5 = c .before .before .before .before .coefficient5 in
     let coefficient6 = c .before .before .before .coefficient6 in
-    rw (coefficient .ensures, coefficient2 .ensures, coefficient3 .ensures, coefficient4 .ensures, coefficient5 .ensures,
-        coefficient6 .ensures, c .before .before .coefficient7 .ensures, c .before .coefficient8 .ensures, c .coefficient9 .ensures)
+    rw (
+      coefficient .ensures,
+      coefficient2 .ensures,
+      coefficient3 .ensures,
+      coefficient4 .ensures,
+      coefficient5 .ensures,
+      coefficient6 .ensures,
+      c .before .before .coefficient7 .ensures,
+      c .before .coefficient8 .ensures,
+      c .coefficient9 .ensures,
+    )
 
 pub polynomial-at-spec : {M : Type 1} → statement M
 polynomial-at-spec =
     tie.close (tie.spec coefficient-requires coefficient-requires-2 coefficient-requires-3 coefficient-requires-4 coefficient-requires-5
-        coefficient-requires-6 coefficient-requires-7 coefficient-requires-8 coefficient-requires-9 returns)
+    coefficient-requires-6 coefficient-requires-7 coefficient-requires-8 coefficient-requires-9 returns)

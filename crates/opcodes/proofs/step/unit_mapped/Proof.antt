@@ -39,7 +39,7 @@ returns c =
     let b : t .result ≤ 65535 = omega arith in
     let a = s .args in
     c .scaled .ensures ∙ read (now (a .file)) (a .at) _ _ (t .result) (a .x) (s .pre .1) (c .before .before .unit-index .ensures)
-        (t .ensures) b
+    (t .ensures) b
 
 pub unit-mapped-spec : {M : Type 1} → statement M
 unit-mapped-spec = tie.close (tie.spec add-through unit-index-requires through-requires scaled-requires returns)

@@ -41,7 +41,7 @@ returns-2 c =
     let a = c .before .before .before .before .before .args in
     let if1 = c .before .before .before .if1 in
     c .polynomial-at .ensures ∙ ap (λ (k : ℕ). polynomialOf (coefficientsOf (now (a .file)) (a .at + 36) (k + 1)))
-        (c .before .field .ensures .0) ∙ step-8 (now (a .file)) (a .at) (a .id) (a .i) (a .j) (if1 .left) (c .before .before .if2 .taken)
+    (c .before .field .ensures .0) ∙ step-8 (now (a .file)) (a .at) (a .id) (a .i) (a .j) (if1 .left) (c .before .before .if2 .taken)
 
 float-value-requires : tie.Need-float-value-requires
 float-value-requires c κs =
@@ -53,7 +53,7 @@ returns-3 c =
     let a = c .before .before .before .before .before .args in
     let if1 = c .before .before .before .if1 in
     ap Add (c .float-value .ensures)
-        ∙ step-10 (now (a .file)) (a .at) (a .id) (a .i) (a .j) (if1 .left) (c .before .before .if2 .left) (c .before .if3 .taken)
+    ∙ step-10 (now (a .file)) (a .at) (a .id) (a .i) (a .j) (if1 .left) (c .before .before .if2 .left) (c .before .if3 .taken)
 
 float-value-requires-2 : tie.Need-float-value-requires-2
 float-value-requires-2 c κs =
@@ -66,8 +66,8 @@ returns-4 c =
     let if1 = c .before .before .before .before .if1 in
     let if2 = c .before .before .before .if2 in
     ap Add (c .float-value2 .ensures)
-        ∙ step-11 (now (a .file)) (a .at) (a .id) (a .i) (a .j) (if1 .left) (if2 .left) (c .before .before .if3 .left)
-        (c .before .if4 .taken)
+    ∙ step-11 (now (a .file)) (a .at) (a .id) (a .i) (a .j) (if1 .left) (if2 .left) (c .before .before .if3 .left)
+    (c .before .if4 .taken)
 
 float-value-requires-3 : tie.Need-float-value-requires-3
 float-value-requires-3 c κs =
@@ -81,7 +81,7 @@ float-value-requires-4 c κs =
     let if1 = c .before .before .before .before .if1 in
     let if2 = c .before .before .before .if2 in
     pre .0 .columns (inr (listed-last (a .id) (pre .1) (if1 .left) (if2 .left) (c .before .before .if3 .left) (c .before .if4 .left)
-        (c .if5 .left)))
+    (c .if5 .left)))
 
 returns-5 : tie.Need-returns-5
 returns-5 c =
@@ -90,8 +90,8 @@ returns-5 c =
     let if2 = c .before .before .before .before .if2 in
     let if3 = c .before .before .before .if3 in
     ap Scale (c .float-value3 .ensures)
-        ∙ step-12 (now (a .file)) (a .at) (a .id) (a .i) (a .j) (if1 .left) (if2 .left) (if3 .left) (c .before .before .if4 .left)
-        (c .before .if5 .taken)
+    ∙ step-12 (now (a .file)) (a .at) (a .id) (a .i) (a .j) (if1 .left) (if2 .left) (if3 .left) (c .before .before .if4 .left)
+    (c .before .if5 .taken)
 
 returns-6 : tie.Need-returns-6
 returns-6 c =
@@ -100,10 +100,10 @@ returns-6 c =
     let if2 = c .before .before .before .before .if2 in
     let if3 = c .before .before .before .if3 in
     ap Scale (c .float-value4 .ensures)
-        ∙ step-13 (now (a .file)) (a .at) (a .id) (a .i) (a .j) (if1 .left) (if2 .left) (if3 .left) (c .before .before .if4 .left)
-        (c .before .if5 .left)
+    ∙ step-13 (now (a .file)) (a .at) (a .id) (a .i) (a .j) (if1 .left) (if2 .left) (if3 .left) (c .before .before .if4 .left)
+    (c .before .if5 .left)
 
 pub step-for-spec : {M : Type 1} → statement M
 step-for-spec =
     tie.close (tie.spec add-t8 returns add-field field-requires add-polynomial-at add-polynomial-at-2 polynomial-at-requires returns-2
-        float-value-requires returns-3 float-value-requires-2 returns-4 float-value-requires-3 float-value-requires-4 returns-5 returns-6)
+    float-value-requires returns-3 float-value-requires-2 returns-4 float-value-requires-3 float-value-requires-4 returns-5 returns-6)

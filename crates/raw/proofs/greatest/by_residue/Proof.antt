@@ -32,8 +32,7 @@ loop-holds c = fill-start _ _ (zeros-small 8)
 occurs : (c : tie.In-loop Inv-loop μ-loop) → let s = c .before .before .before .before in
     (c .before .loop .i < s .args .n) × (c .before .loop .i < 8)
 occurs c =
-    let pre = c .before .before .before .before .pre in
-    let h = pre .1 in
+    let h = c .before .before .before .before .pre .1 in
     let e = c .before .before .smaller .ensures in
     (omega (arith, c .loop-test .taken, e), omega (arith, c .loop-test .taken, e, h .2))
 

@@ -30,7 +30,7 @@ abbrev pair : tie.Start Inv-loop μ-loop → ℕ → ℤ
 pair s k =
     let a = s .args in
     residueBlack (run (now (a .file)) (levelsReading (a .order) (a .tags))) (a .deltas .columns) (a .deltas .rows) (a .plane)
-        (k / a .across) (k % a .across)
+    (k / a .across) (k % a .across)
 
 mul-pairs : tie.Need-mul-pairs Inv-loop μ-loop
 mul-pairs c = let h = c .before .pre .1 in omega (arith, mul-le-mul (h .3) (h .5))
@@ -66,8 +66,7 @@ greater-requires c κs = search needs
 
 add-k : tie.Need-add-k Inv-loop μ-loop
 add-k c =
-    let pre = c .before .before .before .before .before .before .pre in
-    let h = pre .1 in
+    let h = c .before .before .before .before .before .before .pre .1 in
     omega (arith, c .before .before .loop-test .taken, mul-le-mul (h .3) (h .5))
 
 loop-less : tie.Need-loop-less Inv-loop μ-loop
@@ -75,8 +74,7 @@ loop-less c = search needs
 
 loop-again : tie.Need-loop-again Inv-loop μ-loop
 loop-again c =
-    let loop = c .before .before .before .loop in
-    let l = loop in
+    let l = c .before .before .before .loop in
     let s = c .before .before .before .before .before .before in
     let n = c .before .residue-black2 in
     let t = c .before .before .loop-test .taken in

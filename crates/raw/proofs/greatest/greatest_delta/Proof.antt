@@ -22,7 +22,7 @@ use Rattle.raw.proofs.greatest.greatest_delta.Tie as tie
 abbrev Inv-loop : tie.InvT-loop
 Inv-loop file order deltas n step first times best₀ k₀ best k =
     Folded (λ (k : ℕ). getD (run file (blacksReading order kind.SignedRational deltas)) (first + step * k) (pos 0)) (timesOf n step first) k
-        (toZ w64 best)
+    (toZ w64 best)
     × (natAbs (toZ w64 best) ≤ 16776960)
 
 abbrev μ-loop : tie.MeasureT-loop
@@ -110,8 +110,7 @@ loop-less c = search needs
 
 loop-again : tie.Need-loop-again Inv-loop μ-loop
 loop-again c =
-    let loop = c .before .before .before .loop in
-    let l = loop in
+    let l = c .before .before .before .loop in
     let s = c .before .before .before .before .before .before .before .before in
     let n = c .before .delta-at2 in
     let t = c .before .before .loop-test .taken in

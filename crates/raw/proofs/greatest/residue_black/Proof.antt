@@ -40,9 +40,8 @@ black-sum-requires c κs =
 
 returns : tie.Need-returns
 returns c =
-    let cell-at = c .before .before .before .cell-at in
     let s = c .before .before .before .before .before .before .before in
-    let cell = cell-at in
+    let cell = c .before .before .before .cell-at in
     let f : SFits w64 (c .black-sum .result) = search needs in
     let g : SFits w64 (cell .result) = search needs in
     let column = s .pre .1 .0 (s .args .j) in

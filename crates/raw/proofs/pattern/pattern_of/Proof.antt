@@ -97,4 +97,4 @@ pattern-of-spec =
     tie.close (tie.spec repeat-dim-of-requires enum-known-number returns enum-told cfa-pattern-of-requires enum-known-number-2 returns-2
     enum-known-p
     plane-color-of-requires enum-known-number-3 returns-3 enum-told-2 cfa-layout-of-requires enum-known-number-4 returns-4 enum-told-3
-        returns-5)
+    returns-5)

@@ -20,21 +20,19 @@ on-requires c κs =
 
 sub-gain-at : tie.Need-sub-gain-at
 sub-gain-at c =
-    let args = c .before .before .before .before .before .args in
     let grid-at = c .before .before .before .grid-at in
-    let a = args in
+    let a = c .before .before .before .before .before .args in
     let t = sym (c .before .before .on .ensures) ∙ c .before .if1 .taken in
-    on-in (grid-at .result) (a .row) (a .column) (a .plane) t .plane
+    on-in (grid-at .result) (a .row .0) (a .column .0) (a .plane) t .plane
 
 gain-at-requires : tie.Need-gain-at-requires
 gain-at-requires c κs =
-    let grid-at = c .before .before .before .grid-at in
     let s = c .before .before .before .before .before in
     let a = s .args in
-    let n = grid-at in
+    let n = c .before .before .before .grid-at in
     let t = sym (c .before .before .on .ensures) ∙ c .before .if1 .taken in
     let g = grid-in (a .size) (now (a .ps)) (s .pre .0) (n .result) (n .ensures .0) in
-    let o = on-in (n .result) (a .row) (a .column) (a .plane) t in
+    let o = on-in (n .result) (a .row .0) (a .column .0) (a .plane) t in
     let z = s .pre .1 in (
       map-in (a .size) (now (a .ps)) (s .pre .0),
       z .rows,
@@ -48,16 +46,15 @@ apply-requires c κs = search needs
 
 returns : tie.Need-returns
 returns c =
-    let grid-at = c .before .before .before .before .before .grid-at in
     let on = c .before .before .before .before .on in
     let if1 = c .before .before .before .if1 in
     let s = c .before .before .before .before .before .before .before in
     let a = s .args in
-    let n = grid-at in
+    let n = c .before .before .before .before .before .grid-at in
     let e = map-grid (a .size) (now (a .ps)) (s .pre .0) (n .result) (n .ensures .0) in
     let t = sym (on .ensures) ∙ if1 .taken in
     let v = c .before .gain-at in
-    c .apply .ensures ∙ at-on (a .size) (now (a .ps)) (a .row) (a .column) (a .plane) (a .x) (n .result) e t (v .result) (v .ensures)
+    c .apply .ensures ∙ at-on (a .size) (now (a .ps)) (a .row .0) (a .column .0) (a .plane) (a .x) (n .result) e t (v .result) (v .ensures)
 
 returns-2 : tie.Need-returns-2
 returns-2 c =
@@ -65,7 +62,7 @@ returns-2 c =
     let a = s .args in
     let n = c .before .before .grid-at in
     let e = map-grid (a .size) (now (a .ps)) (s .pre .0) (n .result) (n .ensures .0) in
-    at-off (a .size) (now (a .ps)) (a .row) (a .column) (a .plane) (a .x) (n .result) e (sym (c .before .on .ensures) ∙ c .if1 .left)
+    at-off (a .size) (now (a .ps)) (a .row .0) (a .column .0) (a .plane) (a .x) (n .result) e (sym (c .before .on .ensures) ∙ c .if1 .left)
 
 pub gain-at-spec : {M : Type 1} → statement M
 gain-at-spec =

@@ -19,12 +19,12 @@ abbrev along : List ℕ → Bracket → ℕ → ℕ → ℕ → ℕ → ℕ → 
 along ps down plane width left pitch p j x = timesGain ps down (min (p - plane) (planesIn ps - 1)) width (left + j * pitch) x
 
 abbrev Inv-loop : tie.InvT-loop
-Inv-loop ps down l out₀ left right pitch plane planes stop n width across skip first end p₀ out p =
+Inv-loop ps down out₀ left right pitch plane planes stop n width l across skip first end p₀ out p =
     (plane ≤ p) × (p ≤ stop) × (length out ≡ length out₀)
     × (out ≡ planesOf (along ps down plane width left pitch) left right pitch l n plane p out₀)
 
 abbrev μ-loop : tie.MeasureT-loop
-μ-loop ps down l out₀ left right pitch plane planes stop n width across skip first end p₀ out p = stop - p
+μ-loop ps down out₀ left right pitch plane planes stop n width l across skip first end p₀ out p = stop - p
 
 -- a pitch in samples is small
 small : (pitch n : ℕ) → pitch < 0x1_0000_0000 → n ≤ 3 → pitch * n < 0x10_0000_0000
@@ -41,8 +41,7 @@ skipped-requires c κs = let h = c .before .before .before .pre .0 in (h .1 .col
 
 first-at-requires : tie.Need-first-at-requires Inv-loop μ-loop
 first-at-requires c κs =
-    let pre = c .before .before .before .before .pre in
-    let h = pre .0 in
+    let h = c .before .before .before .before .pre .0 in
     (h .1 .column-pitch, h .2, h .3, omega (arith, h .1 .some-columns, h .1 .columns, h .0 .columns), h .0 .few)
 
 end-at-requires : tie.Need-end-at-requires Inv-loop μ-loop
@@ -52,8 +51,7 @@ end-at-requires c κs =
 
 loop-holds : tie.Need-loop-holds Inv-loop μ-loop
 loop-holds c =
-    let pre = c .before .before .before .before .before .before .pre in
-    let h = pre .0 in
+    let h = c .before .before .before .before .before .before .pre .0 in
     (omega arith, omega arith, refl, planes-start _ _ _ _ _ _ _ (h .1 .column-pitch) _)
 
 sub-plane-for : tie.Need-sub-plane-for Inv-loop μ-loop
@@ -64,16 +62,14 @@ plane-for-requires c κs =
     let pre = c .before .before .before .before .before .before .before .before .pre in
     pre .1 .0
 
-add-t24 : tie.Need-add-t24 Inv-loop μ-loop
-add-t24 c =
-    let pre = c .before .before .before .before .before .before .before .before .before .pre in
-    let first-at = c .before .before .before .before .first-at in
-    let h = pre .0 in
-    let f = first-at .ensures .1 in
+add-t25 : tie.Need-add-t25 Inv-loop μ-loop
+add-t25 c =
+    let h = c .before .before .before .before .before .before .before .before .before .pre .0 in
+    let f = c .before .before .before .before .first-at .ensures .1 in
     omega (arith, f, c .before .before .loop .inv .1, h .1 .planes, h .0 .few)
 
-mul-t25 : tie.Need-mul-t25 Inv-loop μ-loop
-mul-t25 c =
+mul-t26 : tie.Need-mul-t26 Inv-loop μ-loop
+mul-t26 c =
     let s = c .before .before .before .before .before .before .before .before .before in
     let h = s .pre .0 in
     omega (arith, small (s .args .grid .«column_pitch») (s .args .size .samples) (h .2) (h .0 .few))
@@ -90,7 +86,7 @@ sweep-gain-requires c κs =
     let f = d .before .before .first-at .ensures .0 in
     let k = d .before .before .before .skipped .ensures in
     let q : v .p < a .size .samples = omega (arith, h .1 .planes, c .before .before .loop-test .taken) in
-    let t = end-short (g .right) (a .l) (a .size .samples) (length (now (a .out))) in
+    let t = end-short (g .right) (a .column .0) (a .size .samples) (length (now (a .out))) in
     let w = small (g .«column_pitch») (a .size .samples) (h .2) (h .0 .few) in (
       (
         record {
@@ -102,8 +98,8 @@ sweep-gain-requires c κs =
           skip = k .1;
           inside = λ m o.
               let u = column-below (g .left) (g .right) (g .«column_pitch») _ (h .1 .column-pitch)
-              (hits (g .left) (g .right) (g .«column_pitch») (a .l) (a .size .samples) (v .p) _ m (h .1 .column-pitch) q _ _ _ (k .0) f e o)
-                  in
+              (hits (g .left) (g .right) (g .«column_pitch») (a .column .0) (a .size .samples) (v .p) _ m (h .1 .column-pitch) q _ _ _ (k .0) f e o)
+              in
               omega (arith, u, h .1 .columns);
         },
         h .0 .columns,
@@ -125,7 +121,6 @@ loop-less c =
 
 loop-again : tie.Need-loop-again Inv-loop μ-loop
 loop-again c =
-    let loop-test = c .before .before .before .before .before .loop-test in
     let plane-for = c .before .before .before .before .plane-for in
     let d = c .before .before .before .before .before .before in
     let s = d .before .before .before .before .before .before .before in
@@ -133,33 +128,35 @@ loop-again c =
     let h = s .pre .0 in
     let g = a .grid in
     let v = d .loop in
-    let t = loop-test .taken in
+    let t = c .before .before .before .before .before .loop-test .taken in
     let w = c .before .before .sweep-gain in
     let e = d .before .end-at in
     let f = d .before .before .first-at in
     let k = d .before .before .before .skipped in
     let step = g .«column_pitch» * a .size .samples in
     let swept : ℕ → List Float = λ q. sweptOf (f .result + v .p) (e .result) step
-        (λ m x. let j = k .result + (m - (f .result + v .p)) / step in timesGain (now (a .ps)) (a .down) q (a .size .columns)
-        (g .left + j * g .«column_pitch») x) (v .out) in
-    ( omega (arith, v .inv .0), omega (arith, t), w .kept .1 .1 .1 .1 .1 .1 .0 ∙ v .inv .2,
-        planes-next (gainLine (now (a .ps)) (a .size) g (a .down)) _ _ _ _ _ _ (h .1 .column-pitch) (v .p) _ _ _ _ (now (a .out)) (v .out) _
-        (k .ensures .0) (f .ensures .0) (e .ensures) (v .inv .0) (omega (arith, h .1 .planes, t)) refl (v .inv .3)
-        (w .ensures ∙ ap swept (plane-for .ensures .0)), )
+    (λ m x. let j = k .result + (m - (f .result + v .p)) / step in timesGain (now (a .ps)) (a .down) q (a .size .columns)
+    (g .left + j * g .«column_pitch») x) (v .out) in (
+      omega (arith, v .inv .0),
+      omega (arith, t),
+      w .kept .1 .1 .1 .1 .1 .1 .0 ∙ v .inv .2,
+      planes-next (gainLine (now (a .ps)) (a .size) g (a .down)) _ _ _ _ _ _ (h .1 .column-pitch) (v .p) _ _ _ _ (now (a .out)) (v .out) _
+          (k .ensures .0) (f .ensures .0) (e .ensures) (v .inv .0) (omega (arith, h .1 .planes, t)) refl (v .inv .3)
+          (w .ensures ∙ ap swept (plane-for .ensures .0)),
+    )
 
 same-length : tie.Need-same-length Inv-loop μ-loop
 same-length c = c .before .loop .inv .2
 
 returns : tie.Need-returns Inv-loop μ-loop
 returns c =
-    let args = c .before .before .before .before .before .before .before .before .args in
-    let a = args in
+    let a = c .before .before .before .before .before .before .before .before .args in
     let g = a .grid in
     let v = c .before .loop in
     let e : v .p ≡ g .plane + g .planes = omega (arith, v .inv .1, c .loop-test .left) in
     let R = gainLine (now (a .ps)) (a .size) g (a .down) in
-    subst (λ (q : ℕ). v .out ≡ planesOf R (g .left) (g .right) (g .«column_pitch») (a .l) (a .size .samples) (g .plane) q (now (a .out))) e
-        (v .inv .3)
+    subst (λ (q : ℕ). v .out ≡ planesOf R (g .left) (g .right) (g .«column_pitch») (a .column .0) (a .size .samples) (g .plane) q (now (a .out))) e
+    (v .inv .3)
 
 pub gain-planes-spec : {M : Type 1} → statement M
 gain-planes-spec =
@@ -175,8 +172,8 @@ gain-planes-spec =
     loop-holds
     sub-plane-for
     plane-for-requires
-    add-t24
-    mul-t25
+    add-t25
+    mul-t26
     sweep-gain-requires
     add-p
     loop-less

@@ -27,21 +27,19 @@ down-axis-requires c κs =
 -- the row is one of the active area
 located-requires : tie.Need-located-requires
 located-requires c κs =
-    let grid-at = c .before .before .before .grid-at in
     let s = c .before .before .before .before .before .before in
     let a = s .args in
-    let n = grid-at in
+    let n = c .before .before .before .grid-at in
     let g = grid-in (a .size) (now (a .ps)) (s .pre .0) (n .result) (n .ensures .0) in
-    let t = every-told _ _ _ (a .row) (sym (c .before .before .every .ensures) ∙ c .before .if1 .taken) in
+    let t = every-told _ _ _ (a .row .0) (sym (c .before .before .every .ensures) ∙ c .before .if1 .taken) in
     let m = map-in (a .size) (now (a .ps)) (s .pre .0) in
     (subst Axis-in (sym (c .down-axis .ensures)) (m .down), omega (arith, t .1, g .rows), s .pre .1 .rows)
 
 gain-planes-requires : tie.Need-gain-planes-requires
 gain-planes-requires c κs =
-    let grid-at = c .before .before .before .before .before .grid-at in
     let s = c .before .before .before .before .before .before .before .before in
     let a = s .args in
-    let n = grid-at in
+    let n = c .before .before .before .before .before .grid-at in
     let d = c .before .located in
     let among = subst (λ (x : Axis). Bracket-in (x .points) (d .result)) (c .before .before .down-axis .ensures) (d .ensures .1) in
     let g = grid-in (a .size) (now (a .ps)) (s .pre .0) (n .result) (n .ensures .0) in
@@ -58,10 +56,10 @@ returns c =
     let n = d .before .before .before .before .grid-at in
     let e = map-grid (a .size) (now (a .ps)) (s .pre .0) (n .result) (n .ensures .0) in
     let t = sym (d .before .before .before .every .ensures) ∙ d .before .before .if1 .taken in
-    let row = subst (λ (x : Axis). Bracket-of x (a .size .rows) (a .row) (d .located .result)) (d .before .down-axis .ensures)
-        (d .located .ensures .0) in
+    let row = subst (λ (x : Axis). Bracket-of x (a .size .rows) (a .row .0) (d .located .result)) (d .before .down-axis .ensures)
+    (d .located .ensures .0) in
     c .before .before .gain-planes .ensures
-    ∙ row-on (a .size) (now (a .ps)) (a .row) (a .l) (a .size .samples) (d .located .result) row (now (a .out)) (n .result) e t
+    ∙ row-on (a .size) (now (a .ps)) (a .row .0) (a .column .0) (a .size .samples) (d .located .result) row (now (a .out)) (n .result) e t
 
 returns-2 : tie.Need-returns-2
 returns-2 c =
@@ -69,8 +67,8 @@ returns-2 c =
     let a = s .args in
     let n = c .before .before .grid-at in
     let e = map-grid (a .size) (now (a .ps)) (s .pre .0) (n .result) (n .ensures .0) in
-    row-off (a .size) (now (a .ps)) (a .row) (a .l) (a .size .samples) (now (a .out)) (n .result) e
-        (sym (c .before .every .ensures) ∙ c .if1 .left)
+    row-off (a .size) (now (a .ps)) (a .row .0) (a .column .0) (a .size .samples) (now (a .out)) (n .result) e
+    (sym (c .before .every .ensures) ∙ c .if1 .left)
 
 pub gain-row-spec : {M : Type 1} → statement M
 gain-row-spec =

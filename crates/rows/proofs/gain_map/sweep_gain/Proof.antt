@@ -73,19 +73,16 @@ point-requires c κs = search needs
 corners-near-requires : tie.Need-corners-near-requires Inv-loop μ-loop
 corners-near-requires c κs =
     let loop = c .before .before .before .loop in
-    let s = c .before .before .before .before .before .before .before in
-    let h = s .pre .1 in
+    let h = c .before .before .before .before .before .before .before .pre .1 in
     let t = c .before .located-near in
     let k = point-below _ (t .result) (subst (λ (a : Axis). Bracket-in (a .points) (t .result)) (h .1) (t .ensures .1)) in
     ((h .0, h .2, h .3, omega (arith, k, c .point .ensures)), loop .inv .2)
 
 mul-clip : tie.Need-mul-clip Inv-loop μ-loop
 mul-clip c =
-    let loop = c .before .before .before .before .loop in
-    let loop-test = c .before .before .before .loop-test in
     let s = c .before .before .before .before .before .before .before .before in
-    let i = loop .i in
-    let t = loop-test .taken in
+    let i = c .before .before .before .before .loop .i in
+    let t = c .before .before .before .loop-test .taken in
     scaled-fits i (length (now (s .args .out))) 8 (omega (arith, t, s .pre .0 .0 .end)) (s .good .1 .1 .1 .1 .1 .1 .0 .1)
 
 slice-read-clip : tie.Need-slice-read-clip Inv-loop μ-loop
@@ -153,7 +150,7 @@ loop-again c =
     let among = subst (λ (x : Axis). Bracket-in (x .points) (bracket .result)) (h .1) (bracket .ensures .1) in
     let four = d .corners-near in
     let gain = corners-found m (a .down) (bracket .result) (a .q) (a .width) (v .c) here (four .result) _ _ (four .ensures)
-        (d .before .point .ensures)
+    (d .before .point .ensures)
     (c .before .corners-gain .ensures) (h .2) among in
     let x = getD (v .out) (v .i) nan in
     let times : ℕ → Float = λ n. timesGain (now (a .ps)) (a .down) (a .q) (a .width) n x in

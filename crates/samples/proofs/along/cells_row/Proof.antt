@@ -16,8 +16,7 @@ use Rattle.samples.proofs.along.cells_row.Statement.{statement}
 use Rattle.samples.proofs.along.cells_row.Tie as tie
 
 mul-period : tie.Need-mul-period
-mul-period c =
-    let s = c .before .before .before in omega (arith, mul-le-mul (s .pre .0 .levels .repeat .columns) (s .pre .0 .frame .samples))
+mul-period c = let s = c .before .before .before in omega (arith, mul-le-mul (s .pre .0 .levels .repeat .columns) (s .pre .0 .frame .samples))
 
 smaller-requires : tie.Need-smaller-requires
 smaller-requires c κs = search needs
@@ -43,18 +42,16 @@ same-length c = search needs
 
 returns : tie.Need-returns
 returns c k h =
-    let smaller = c .before .before .before .before .before .before .before .before .smaller in
-    let first-cells = c .before .before .before .before .before .before .first-cells in
     let s = c .before .before .before .before .before .before .before .before .before .before .before .before in
     let n = s .args .tags .frame .samples in
     let v = run (now (s .args .file)) (levelsReading (s .args .order) (s .args .tags)) in
-    let m = smaller .ensures in
-    let p : v .repeat-columns ≡ s .args .tags .levels .repeat .columns = repeat-columns-are (now (s .args .file)) (s .args .order)
-        (s .args .tags) in
+    let m = c .before .before .before .before .before .before .before .before .smaller .ensures in
+    let p : v .repeat-columns ≡ s .args .tags .levels .repeat .columns = repeat-columns-are (now (s .args .file)) (s .args .order) (s .args .tags) in
     c .before .before .repeat .ensures (λ j. ofParts (cellAlong v n (s .args .row .0) (s .args .column .0) j))
-        (λ j b l. List·getD-append (first-cells .last .1 .1 .1 .1 .1 .0) _ nan j (search needs) ∙ first-cells .ensures j (search needs))
-        (λ j. ap ofParts (ap (λ (q : ℕ). cellAlong v n (s .args .row .0) (s .args .column .0) (j + q * n)) (sym p)
-        ∙ cell-next v n (s .pre .1) _ _ j)) k (search needs)
+    (λ j b l. List·getD-append (c .before .before .before .before .before .before .first-cells .last .1 .1 .1 .1 .1 .0) _ nan j (search needs)
+    ∙ c .before .before .before .before .before .before .first-cells .ensures j (search needs))
+    (λ j. ap ofParts (ap (λ (q : ℕ). cellAlong v n (s .args .row .0) (s .args .column .0) (j + q * n)) (sym p)
+    ∙ cell-next v n (s .pre .1) _ _ j)) k (search needs)
 
 pub cells-row-spec : {M : Type 1} → statement M
 cells-row-spec =

@@ -64,7 +64,7 @@ returns c len again =
     let ys = c .before .before .inverses-row .last .1 .1 .1 .0 in
     let m : length xs ≡ a = search needs in
     along-filled v n (s .args .column .0) len q (t .levels .repeat .rows) (t .levels .repeat .columns) _ rows columns (search needs)
-        (s .pre .2) (s .pre .3)
+    (s .pre .2) (s .pre .3)
     (λ r k h b.
     let i : r * q + k < a = before r k h b in
     put-before nan a (a + q - a) _ ys (r * q + k) (search needs) i ∙ List·getD-append xs _ nan (r * q + k) (omega arith)

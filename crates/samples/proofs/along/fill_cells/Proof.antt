@@ -74,17 +74,19 @@ loop-less c = search needs
 
 loop-again : tie.Need-loop-again Inv-loop μ-loop
 loop-again c =
-    let loop = c .before .before .before .before .before .loop in
     let loop-test = c .before .before .before .before .loop-test in
     let cells-row = c .before .before .cells-row in
     let s = c .before .before .before .before .before .before .before .before in
-    let l = loop in
+    let l = c .before .before .before .before .before .loop in
     let v = run (now (s .args .file)) (levelsReading (s .args .order) (s .args .tags)) in
-    let i : l .r * s .args .q + s .args .q ≤ length (now (s .args .out)) = inside s (l .r) (omega (arith, loop-test .taken)) in
-    ( search needs, omega (arith, loop-test .taken), omega (arith, add-mul (l .r) 1 (s .args .q), l .inv .2),
-        rows-more nan (λ r k. ofParts (cellAlong v (s .args .tags .frame .samples) r (s .args .column .0) k)) (s .args .q) (l .r) (l .a)
-        (l .out) (cells-row .last .1 .1 .1 .1 .1 .0) (l .inv .2) (omega (arith, i, l .inv .2, l .inv .0)) (search needs) (l .inv .3)
-        (λ k b. cells-row .ensures k (search needs)), )
+    let i : l .r * s .args .q + s .args .q ≤ length (now (s .args .out)) = inside s (l .r) (omega (arith, loop-test .taken)) in (
+      search needs,
+      omega (arith, loop-test .taken),
+      omega (arith, add-mul (l .r) 1 (s .args .q), l .inv .2),
+      rows-more nan (λ r k. ofParts (cellAlong v (s .args .tags .frame .samples) r (s .args .column .0) k)) (s .args .q) (l .r) (l .a)
+          (l .out) (cells-row .last .1 .1 .1 .1 .1 .0) (l .inv .2) (omega (arith, i, l .inv .2, l .inv .0)) (search needs) (l .inv .3)
+          (λ k b. cells-row .ensures k (search needs)),
+    )
 
 same-length : tie.Need-same-length Inv-loop μ-loop
 same-length c = search needs

@@ -37,9 +37,14 @@ add-delta-at c =
 delta-at-requires : tie.Need-delta-at-requires Inv-loop μ-loop
 delta-at-requires c κs =
     let a = c .before .before .before .before in
-    let q = a .pre .0 .levels .column-deltas in
-    (q .inside, λ h. (q .sized h, omega
-        (arith, q .enough h, a .pre .1 (c .before .loop .i) (omega (arith, c .loop-test .taken, c .before .loop .inv .same)))))
+    let q = a .pre .0 .levels .column-deltas in (
+      q .inside,
+      λ h. (
+        q .sized h,
+        omega
+            (arith, q .enough h, a .pre .1 (c .before .loop .i) (omega (arith, c .loop-test .taken, c .before .loop .inv .same))),
+      ),
+    )
 
 cast-out : tie.Need-cast-out Inv-loop μ-loop
 cast-out c = sfits32 (c .delta-at .result) (c .delta-at .ensures .1)
@@ -73,7 +78,7 @@ returns c =
     let a = c .before .before .before .before in
     let l = c .before .loop in
     let e = fill-end _ (l .i) (length (now (a .args .out))) (now (a .args .out)) (l .out) (omega (arith, c .loop-test .left, l .inv .same))
-        (l .inv) in
+    (l .inv) in
     record {
       same = λ k h. e .0 k h ∙ ap (λ (ds : _). getD ds (a .args .column .0 + k / a .args .tags .frame .samples) (pos 0))
           (sym (column-deltas-are (now (a .args .file)) (a .args .order) (a .args .tags)));

@@ -60,9 +60,8 @@ loop-less c = search needs
 
 loop-again : tie.Need-loop-again Inv-loop μ-loop
 loop-again c =
-    let loop = c .before .before .before .loop in
     let a = c .before .before .before .before .before .before in
-    let l = loop in
+    let l = c .before .before .before .loop in
     let h : l .i < length (now (a .args .out)) = omega (arith, c .before .before .loop-test .taken, l .inv .0) in
     let z = c .before .cell-at in
     let e = c .number-of .ensures ∙ ap ofParts (back (z .result) (omega (arith, z .ensures .1)) ∙ z .ensures .0) in

@@ -52,9 +52,8 @@ loop-less c = search needs
 
 loop-again : tie.Need-loop-again Inv-loop μ-loop
 loop-again c =
-    let loop = c .before .before .before .loop in
     let a = c .before .before .before .before .before .before .before in
-    let l = loop in
+    let l = c .before .before .before .loop in
     let h : l .i < length (now (a .args .out)) = omega (arith, c .before .before .loop-test .taken, l .inv .0) in
     let z = c .before .span-at in
     let s = a .pre .0 .spans (l .i) (omega (arith, a .pre .1)) in

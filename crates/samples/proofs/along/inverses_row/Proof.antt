@@ -38,14 +38,12 @@ same-length c = search needs
 
 returns : tie.Need-returns
 returns c k h =
-    let smaller = c .before .before .before .before .before .before .before .before .smaller in
-    let first-inverses = c .before .before .before .before .before .before .first-inverses in
     let s = c .before .before .before .before .before .before .before .before .before .before .before in
     let n = s .args .raw .tags .frame .samples in
     let v = run (now (s .args .file)) (levelsReading (s .args .order) (s .args .raw .tags)) in
     let some = s .pre .tags .frame .some-samples in
-    let m = smaller .ensures in
-    let y = first-inverses in
+    let m = c .before .before .before .before .before .before .before .before .smaller .ensures in
+    let y = c .before .before .before .before .before .before .first-inverses in
     let ys = y .last .1 .1 .1 .0 in
     c .before .before .repeat .ensures (λ j. inverseOf (spanAlong v n j))
     (λ j b l.

@@ -55,7 +55,7 @@ loop-again c =
           let j : i - a .args .period + a .args .period ≡ i = omega (arith, l .inv .1) in
           let e : getD (l .out) (i - a .args .period) nan ≡ g i =
           l .inv .2 g first again (i - a .args .period) (omega (arith, a .pre)) (omega arith) ∙ sym (again (i - a .args .period))
-              ∙ ap g j in
+          ∙ ap g j in
           filled-more nan g i (l .out) _ (omega arith) (λ q z. l .inv .2 g first again q z (omega arith)) e k b,
     )
 

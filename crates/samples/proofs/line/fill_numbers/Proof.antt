@@ -15,7 +15,7 @@ abbrev Inv-loop : tie.InvT-loop
 Inv-loop file out₀ order bytes place table count i₀ out i =
     (length out ≡ length out₀) × (i ≤ length out₀)
     × ((down : Float) → Filled 0 (numberAt file
-        (record { order = order; bytes = bytes; place = place; table = table; count = count; down = down })) i out)
+    (record { order = order; bytes = bytes; place = place; table = table; count = count; down = down })) i out)
 
 abbrev μ-loop : tie.MeasureT-loop
 μ-loop file out₀ order bytes place table count i₀ out i = length out₀ - i
@@ -47,10 +47,9 @@ loop-less c = search needs
 
 loop-again : tie.Need-loop-again Inv-loop μ-loop
 loop-again c =
-    let loop = c .before .before .before .loop in
     let loop-test = c .before .before .loop-test in
     let a = c .before .before .before .before .before .before in
-    let l = loop in
+    let l = c .before .before .before .loop in
     let t = tableOf (a .args .line .order) (now (a .args .file)) (a .args .line .table) (a .args .line .count) in
     let v = c .through in (
       search needs,

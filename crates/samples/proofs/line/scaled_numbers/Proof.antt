@@ -59,10 +59,9 @@ loop-less c = search needs
 
 loop-again : tie.Need-loop-again Inv-loop μ-loop
 loop-again c =
-    let loop = c .before .before .before .before .before .loop in
     let loop-test = c .before .before .before .before .loop-test in
     let s = c .before .before .before .before .before .before .before .before .before .before in
-    let l = loop in
+    let l = c .before .before .before .before .before .loop in
     let i = l .i in
     let h : i < length (now (s .args .out)) = omega (arith, loop-test .taken, l .inv .0) in (
       search needs,

@@ -15,7 +15,7 @@ abbrev Inv-loop : tie.InvT-loop
 Inv-loop file blacks inverses out₀ order place down i₀ out i =
     (length out ≡ length out₀) × (i ≤ length out₀)
     × ((black span : ℕ → ℤ) → Levelled black span blacks inverses down (length out₀) →
-        Filled nan (plainValue file order 2 place black span) i out)
+    Filled nan (plainValue file order 2 place black span) i out)
 
 abbrev μ-loop : tie.MeasureT-loop
 μ-loop file blacks inverses out₀ order place down i₀ out i = length out₀ - i
@@ -75,18 +75,20 @@ loop-less c = search needs
 
 loop-again : tie.Need-loop-again Inv-loop μ-loop
 loop-again c =
-    let loop = c .before .before .before .before .before .loop in
     let loop-test = c .before .before .before .before .loop-test in
     let short = c .before .before .before .short in
     let s = c .before .before .before .before .before .before .before .before .before .before in
-    let l = loop in
+    let l = c .before .before .before .before .before .loop in
     let i = l .i in
-    let h : i < length (now (s .args .out)) = omega (arith, loop-test .taken, l .inv .0) in
-    ( search needs, omega arith, λ black span w. filled-more nan
-        (plainValue (now (s .args .file)) (s .args .line .order) 2 (s .args .line .place) black span) i (l .out) _
-        (omega (arith, l .inv .0)) (l .inv .2 black span w)
-        (c .scaled-by .ensures (black i) (span i) (w .black-is i h) (w .inverse-is i h)
-        ∙ plain-is (now (s .args .file)) (s .args .line .order) 2 (s .args .line .place) black span i _ (short .ensures)), )
+    let h : i < length (now (s .args .out)) = omega (arith, loop-test .taken, l .inv .0) in (
+      search needs,
+      omega arith,
+      λ black span w. filled-more nan
+          (plainValue (now (s .args .file)) (s .args .line .order) 2 (s .args .line .place) black span) i (l .out) _
+          (omega (arith, l .inv .0)) (l .inv .2 black span w)
+          (c .scaled-by .ensures (black i) (span i) (w .black-is i h) (w .inverse-is i h)
+          ∙ plain-is (now (s .args .file)) (s .args .line .order) 2 (s .args .line .place) black span i _ (short .ensures)),
+    )
 
 same-length : tie.Need-same-length Inv-loop μ-loop
 same-length c = search needs

@@ -41,9 +41,8 @@ same-length-2 c = search needs
 
 returns : tie.Need-returns
 returns c black span w k h =
-    let fill-numbers = c .before .before .before .before .before .before .before .fill-numbers in
     let s = c .before .before .before .before .before .before .before .before .before .before .before .before .before .before in
-    let n = fill-numbers in
+    let n = c .before .before .before .before .before .before .before .fill-numbers in
     let ys = n .last .1 .1 .0 in
     value-is (now (s .args .file)) (s .args .line) black span k _ _
     (List·getD-append ys _ 0 k (search needs) ∙ n .ensures k (search needs)) (c .before .before .scaled-numbers .ensures black span w k h)

@@ -33,8 +33,7 @@ short-requires c κs = let s = c .before .before in omega (arith, inside s 2 (tw
 
 returns : tie.Need-returns
 returns c =
-    let args = c .before .before .before .args in
-    let a = args in
+    let a = c .before .before .before .args in
     let e : a .place + a .i ≡ a .place + 1 * a .i = omega arith in
     rw (c .before .if1 .taken) (c .byte .ensures .0 ∙ ap (λ (n : ℕ). numberOf (a .order) (part (now (a .file)) n 1)) e)
 

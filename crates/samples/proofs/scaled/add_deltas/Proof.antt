@@ -65,10 +65,9 @@ loop-less c = search needs
 
 loop-again : tie.Need-loop-again Inv-loop μ-loop
 loop-again c =
-    let loop = c .before .before .before .before .loop in
     let loop-test = c .before .before .before .loop-test in
     let a = c .before .before .before .before .before .before .before in
-    let l = loop in
+    let l = c .before .before .before .before .loop in
     let h : l .i < length (now (a .args .out)) = omega (arith, loop-test .taken, l .inv .0) in
     let z : ℤ = getD (now (a .args .deltas)) (a .args .at + l .i) (pos 0) in (
       search needs,

@@ -55,13 +55,14 @@ same-length c = search needs
 
 returns : tie.Need-returns
 returns c =
-    let if1 = c .before .before .before .before .if1 in
-    ( search needs, λ cell span down w. let s = c .before .before .before .before .before .before .before .before .before .before in c
-        .before .before .scaled-line .ensures _ span
-        (levelled-plain cell span down (now (s .args .cells)) (now (s .args .inverses)) (s .args .line .down) _ w
-        (length (now (s .args .out))) (λ k. getD (now (s .args .deltas)) (s .args .at + k) (pos 0)) (s .pre .0 .1)
-        (λ k. none (now (s .args .deltas)) (s .args .at + k) (if1 .taken))),
-)
+    let if1 = c .before .before .before .before .if1 in (
+      search needs,
+      λ cell span down w. let s = c .before .before .before .before .before .before .before .before .before .before in c
+          .before .before .scaled-line .ensures _ span
+          (levelled-plain cell span down (now (s .args .cells)) (now (s .args .inverses)) (s .args .line .down) _ w
+          (length (now (s .args .out))) (λ k. getD (now (s .args .deltas)) (s .args .at + k) (pos 0)) (s .pre .0 .1)
+          (λ k. none (now (s .args .deltas)) (s .args .at + k) (if1 .taken))),
+    )
 
 same-length-2 : tie.Need-same-length-2
 same-length-2 c = search needs
@@ -71,17 +72,16 @@ same-length-3 c = search needs
 
 returns-2 : tie.Need-returns-2
 returns-2 c =
-    let add-deltas = c .before .before .before .before .before .before .before .add-deltas in
-    (
-  search needs,
-  λ cell span down w.
-      let s = c .before .before .before .before .before .before .before .before .before .before .before .before .before .before .before in
-      let ys = add-deltas .last .1 .1 .1 .0 in
-      c .before .before .scaled-line2 .ensures _ span
-      (levelled-sums cell span down (now (s .args .cells)) (now (s .args .inverses)) (s .args .line .down) _ w (length (now (s .args .out)))
-      (λ k. getD (now (s .args .deltas)) (s .args .at + k) (pos 0)) _ (s .pre .0 .1) (λ k. s .pre .1 .0 (s .args .at + k))
-      (λ k h. List·getD-append ys _ nan k (search needs) ∙ add-deltas .ensures k (search needs))),
-)
+    let add-deltas = c .before .before .before .before .before .before .before .add-deltas in (
+      search needs,
+      λ cell span down w.
+          let s = c .before .before .before .before .before .before .before .before .before .before .before .before .before .before .before in
+          let ys = add-deltas .last .1 .1 .1 .0 in
+          c .before .before .scaled-line2 .ensures _ span
+          (levelled-sums cell span down (now (s .args .cells)) (now (s .args .inverses)) (s .args .line .down) _ w (length (now (s .args .out)))
+          (λ k. getD (now (s .args .deltas)) (s .args .at + k) (pos 0)) _ (s .pre .0 .1) (λ k. s .pre .1 .0 (s .args .at + k))
+          (λ k h. List·getD-append ys _ nan k (search needs) ∙ add-deltas .ensures k (search needs))),
+    )
 
 pub scaled-piece-spec : {M : Type 1} → statement M
 scaled-piece-spec =

@@ -14,8 +14,7 @@ use Rattle.samples.proofs.scaled.scaled_pieces.Tie as tie
 abbrev Inv-loop : tie.InvT-loop
 Inv-loop file cells deltas inverses sums₀ out₀ order bytes place table count down q i₀ sums out i =
     (length out ≡ length out₀) × (length sums ≡ length sums₀) × (i ≤ length out₀)
-    × ((cell span : ℕ → ℤ) (d : ℤ) → Celled cell span d cells inverses down (length cells) →
-        (r : Repeating cell span (length cells) (length out₀))
+    × ((cell span : ℕ → ℤ) (d : ℤ) → Celled cell span d cells inverses down (length cells) → (r : Repeating cell span (length cells) (length out₀))
     → Same cell span (length cells) (length out₀) r i
     × Filled nan (lineValue file (record { order = order; bytes = bytes; place = place; table = table; count = count; down = down })
     (λ k. cell k +ℤ getD deltas k (pos 0) +ℤ d) span) i out)
@@ -61,58 +60,63 @@ part-scaled-piece-end c = search needs
 
 scaled-piece-requires : tie.Need-scaled-piece-requires Inv-loop μ-loop
 scaled-piece-requires c κs =
-    let loop = c .before .before .before .before .loop in
-    let smaller = c .before .before .smaller in
     let s = c .before .before .before .before .before .before .before .before .before .before in
-    let l = loop in
+    let l = c .before .before .before .before .loop in
     let i = l .i in
-    let r = smaller .result in
-    let e = smaller .ensures in
+    let r = c .before .before .smaller .result in
+    let e = c .before .before .smaller .ensures in
     let t = length-take (i + r - i) (drop i (l .out)) in
     let d = length-drop i (l .out) in
-    let n : length (take (i + r - i) (drop i (l .out))) ≡ r = omega (arith, t, d, e) in
-    ( ( line-from (now (s .args .file)) (s .args .line) i _ (length (now (s .args .out))) (omega (arith, n, e, l .inv .0, l .inv .2))
-        (s .pre .0 .0), omega (arith, n, e), s .pre .0 .2, s .pre .0 .3, ),
-        (s .pre .1 .0, λ h. omega (arith, n, e, s .pre .1 .1 h, l .inv .0, l .inv .2), λ h. omega (arith, s .pre .1 .2 h, l .inv .1)), )
+    let n : length (take (i + r - i) (drop i (l .out))) ≡ r = omega (arith, t, d, e) in (
+      (
+        line-from (now (s .args .file)) (s .args .line) i _ (length (now (s .args .out))) (omega (arith, n, e, l .inv .0, l .inv .2)) (s .pre .0 .0),
+        omega (arith, n, e),
+        s .pre .0 .2,
+        s .pre .0 .3,
+      ),
+      (s .pre .1 .0, λ h. omega (arith, n, e, s .pre .1 .1 h, l .inv .0, l .inv .2), λ h. omega (arith, s .pre .1 .2 h, l .inv .1)),
+    )
 
 loop-less : tie.Need-loop-less Inv-loop μ-loop
 loop-less c =
-    let loop = c .before .before .before .before .before .before .before .before .before .loop in
-    let loop-test = c .before .before .before .before .before .before .before .before .loop-test in
-    let smaller = c .before .before .before .before .before .before .before .smaller in
     let s = c .before .before .before .before .before .before .before .before .before .before .before .before .before .before .before in
     omega (
       arith,
-      smaller .ensures,
-      loop-test .taken,
-      loop .inv .0,
+      c .before .before .before .before .before .before .before .smaller .ensures,
+      c .before .before .before .before .before .before .before .before .loop-test .taken,
+      c .before .before .before .before .before .before .before .before .before .loop .inv .0,
       s .pre .0 .1,
     )
 
 loop-again : tie.Need-loop-again Inv-loop μ-loop
 loop-again c =
-    let loop = c .before .before .before .before .before .before .before .before .before .loop in
-    let loop-test = c .before .before .before .before .before .before .before .before .loop-test in
-    let smaller = c .before .before .before .before .before .before .before .smaller in
-    let scaled-piece = c .before .before .before .before .scaled-piece in
     let s = c .before .before .before .before .before .before .before .before .before .before .before .before .before .before .before in
     let f = now (s .args .file) in
     let x = s .args .line in
     let deltas = now (s .args .deltas) in
-    let l = loop in
+    let l = c .before .before .before .before .before .before .before .before .before .loop in
     let i = l .i in
-    let r = smaller .result in
-    let e = smaller .ensures in
-    let p = scaled-piece in
-    ( search needs, p .ensures .0 ∙ l .inv .1, omega (arith, e, l .inv .0, l .inv .2),
-        λ cell span d w z. let v = l .inv .3 cell span d w z in let m : i < length (now (s .args .out)) = omega
-        ( arith, loop-test .taken, l .inv .0, ) in
-        ( same-next cell span (length (now (s .args .cells))) (length (now (s .args .out))) z i (i + r) (λ h. omega (arith, e, l .inv .0))
-        (v .0), filled-part nan (lineValue f x (λ k. cell k +ℤ getD deltas k (pos 0) +ℤ d) span) i (i + r) (l .out)
-        (p .last .1 .1 .1 .1 .1 .1 .1 .0) (omega arith) (omega (arith, e)) (search needs) (v .1)
-        (λ k b. p .ensures .1 cell span d w k (search needs)
-        ∙ value-from f x (λ k. cell k +ℤ getD deltas k (pos 0) +ℤ d) (λ k. cell k +ℤ getD deltas (i + k) (pos 0) +ℤ d) span span i k
-        (ap (λ (t : ℤ). t +ℤ getD deltas (i + k) (pos 0) +ℤ d) (sym (v .0 .cells m k))) (sym (v .0 .spans m k))), ), )
+    let r = c .before .before .before .before .before .before .before .smaller .result in
+    let e = c .before .before .before .before .before .before .before .smaller .ensures in
+    let p = c .before .before .before .before .scaled-piece in (
+      search needs,
+      p .ensures .0 ∙ l .inv .1,
+      omega (arith, e, l .inv .0, l .inv .2),
+      λ cell span d w z.
+          let v = l .inv .3 cell span d w z in
+          let m : i < length (now (s .args .out)) = omega (
+            arith,
+            c .before .before .before .before .before .before .before .before .loop-test .taken,
+            l .inv .0,
+          ) in (
+            same-next cell span (length (now (s .args .cells))) (length (now (s .args .out))) z i (i + r) (λ h. omega (arith, e, l .inv .0)) (v .0),
+            filled-part nan (lineValue f x (λ k. cell k +ℤ getD deltas k (pos 0) +ℤ d) span) i (i + r) (l .out) (p .last .1 .1 .1 .1 .1 .1 .1 .0)
+                (omega arith) (omega (arith, e)) (search needs) (v .1)
+                (λ k b. p .ensures .1 cell span d w k (search needs)
+                ∙ value-from f x (λ k. cell k +ℤ getD deltas k (pos 0) +ℤ d) (λ k. cell k +ℤ getD deltas (i + k) (pos 0) +ℤ d) span span i k
+                (ap (λ (t : ℤ). t +ℤ getD deltas (i + k) (pos 0) +ℤ d) (sym (v .0 .cells m k))) (sym (v .0 .spans m k))),
+          ),
+    )
 
 same-length : tie.Need-same-length Inv-loop μ-loop
 same-length c = search needs

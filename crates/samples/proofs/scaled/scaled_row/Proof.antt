@@ -26,7 +26,7 @@ piece s = length (now (s .args .along)) / (rows s + 1)
 -- where the parts of `along` end
 ends : (s : tie.Start) → let q = piece s in
     (s .args .row .0 % rows s * q + q + q ≤ length (now (s .args .along))) × (rows s * q + q ≡ length (now (s .args .along))) × (1 ≤ q)
-        × (q ≤ 512)
+    × (q ≤ 512)
 ends s =
     let t = s .args .raw .tags in
     let along = now (s .args .along) in
@@ -34,11 +34,14 @@ ends s =
     let n = s .pre .0 .0 .tags .frame .some-samples in
     let e : levels s .repeat-rows ≡ rows s = repeat-rows-are (now (s .args .file)) (s .args .order) t in
     let h : s .args .row .0 % levels s .repeat-rows < levels s .repeat-rows = mod-lt _
-        (rw e (s .pre .0 .0 .tags .levels .repeat .some-rows)) in
+    (rw e (s .pre .0 .0 .tags .levels .repeat .some-rows)) in
     subst (λ (m : ℕ). let q = length along / (m + 1) in
-    (s .args .row .0 % m * q + q + q ≤ length along) × (m * q + q ≡ length along) × (1 ≤ q) × (q ≤ 512)) e
-    (cells-end (levels s) _ _ _ n along w (s .args .row .0 % levels s .repeat-rows) h, inverses-end (levels s) _ _ _ n along w, w .some,
-        w .few)
+    (s .args .row .0 % m * q + q + q ≤ length along) × (m * q + q ≡ length along) × (1 ≤ q) × (q ≤ 512)) e (
+      cells-end (levels s) _ _ _ n along w (s .args .row .0 % levels s .repeat-rows) h,
+      inverses-end (levels s) _ _ _ n along w,
+      w .some,
+      w .few,
+    )
 
 add-q : tie.Need-add-q
 add-q c = search needs
@@ -103,12 +106,18 @@ scaled-with-deltas-requires c κs =
     let a = s .args .row .0 % rows s * q in
     let z = rows s * q in
     let m : length (take (a + q - a) (drop a along)) ≡ q = omega
-        (arith, length-take (a + q - a) (drop a along), length-drop a along, ends s .0) in
+    (arith, length-take (a + q - a) (drop a along), length-drop a along, ends s .0) in
     let k : length (take (z + q - z) (drop z along)) ≡ q = omega
-        (arith, length-take (z + q - z) (drop z along), length-drop z along, ends s .1) in
-    ( ( row-inside (s .args .raw .tags) (s .pre .0 .0 .tags .frame .some-samples) (now (s .args .file)) (s .args .order)
-        (s .pre .0 .0 .tags) (s .args .row .0) (s .args .column .0) (s .pre .0 .1) _ (line-of .ensures) _ (s .pre .0 .3),
-        omega (arith, ends s .2), omega (arith, ends s .3), omega arith, ), (s .pre .1 .1 .small, s .pre .1 .1 .long), )
+    (arith, length-take (z + q - z) (drop z along), length-drop z along, ends s .1) in (
+      (
+        row-inside (s .args .raw .tags) (s .pre .0 .0 .tags .frame .some-samples) (now (s .args .file)) (s .args .order)
+            (s .pre .0 .0 .tags) (s .args .row .0) (s .args .column .0) (s .pre .0 .1) _ (line-of .ensures) _ (s .pre .0 .3),
+        omega (arith, ends s .2),
+        omega (arith, ends s .3),
+        omega arith,
+      ),
+      (s .pre .1 .1 .small, s .pre .1 .1 .long),
+    )
 
 same-length : tie.Need-same-length
 same-length c = search needs

@@ -1,0 +1,109 @@
+-- What holds of whatever the raw directory's tests accept, by the definitions alone: its strips and its list lie in the file.
+-- Assumes nothing.
+use mathlib.Core.Path.{_≡_, sym, ap, subst, _∙_}
+use mathlib.Core.List.{List}
+use Prim.Native.Nat.{ℕ, _≤_}
+use lib.ListN.{length}
+use Rattle.reading.specs.Reading.{run, runWhole}
+use Rattle.reading.specs.declared.number.Order.{Order}
+use Rattle.reading.proofs.Reading.{run-answer}
+use Rattle.directory.specs.Out.{Out.is}
+use Rattle.directory.specs.Shape.{Tested}
+use Rattle.directory.specs.Tag.{valuesReading, notCarried, Placed-values}
+use Rattle.directory.specs.Tree.{treeReading}
+use Rattle.directory.specs.declared.Ifd.{Ifd}
+use Rattle.directory.specs.declared.tag.Kinds.the-variants as kinds
+use Rattle.directory.specs.declared.tag.Values.{Values}
+use Rattle.directory.proofs.Outs.{bind-inverse, same-value}
+use Rattle.directory.proofs.Accepted.{tree-rooted, values-placed, one-in}
+use Rattle.raw.specs.Frame.{frameReading}
+use Rattle.raw.specs.Layout.{depthReading, onlyOne, formatReading, stripRowsReading, layoutReading}
+use Rattle.raw.specs.Strips.{stripCount, rowBytes, stripFrom, offsetsRule, countsRule, stripsReading, Strips-in}
+use Rattle.raw.specs.Area.{areaReading}
+use Rattle.raw.specs.LevelTags.{levelTagsReading}
+use Rattle.raw.specs.Lists.{listRule, listReading}
+use Rattle.raw.specs.Raw.{activeRows, activeColumns, tagsReading}
+use Rattle.raw.specs.Front.{rawReading, frontReading}
+use Rattle.raw.specs.declared.frame.Frame.{Frame}
+use Rattle.raw.specs.declared.layout.Layout.{Layout}
+use Rattle.raw.specs.declared.Tags.{Tags}
+use Rattle.raw.specs.declared.front.Raw.{Raw}
+use Rattle.raw.specs.declared.front.Picture.{Picture}
+use Rattle.raw.proofs.Strip.{strip-in}
+
+module _ (f : List ℕ) (d : Ifd) where
+  -- a strip has a row
+  pub layout-rows : (s : ℕ) (l : Layout) → is l ≡ run f (layoutReading d s) → 1 ≤ l .rows
+  unfolding layoutReading stripRowsReading
+  layout-rows s l e =
+      let a = bind-inverse f (depthReading d s) _ l e in
+      let b = bind-inverse f (onlyOne d 259 kinds.Short 0) _ l (a .2) in
+      let c = bind-inverse f (onlyOne d 284 kinds.Short 0) _ l (b .2) in
+      let g = bind-inverse f (formatReading d s) _ l (c .2) in
+      let h = bind-inverse f (onlyOne d 50975 kinds.ShortOrLong 1) _ l (g .2) in
+      let i = bind-inverse f (onlyOne d 52547 kinds.ShortOrLong 1) _ l (h .2) in
+      let r = bind-inverse f (stripRowsReading d) _ l (i .2) in
+      let q : l .rows ≡ r .0 = ap (λ (x : Layout). x .rows) (same-value l _ (r .2 ∙ run-answer f _)) in
+      rw q (one-in f d _ _ _ (r .0) (r .1) .legal)
+
+  module _ (t : Tested f d) where
+    pub strips-accepted : (fr : Frame) (l : Layout) (v : Values) → is v ≡ run f (stripsReading (length f) d fr l) →
+        Strips-in f (d .order) fr l v
+    unfolding stripsReading
+    strips-accepted fr l v e =
+        let a = bind-inverse f (valuesReading d (offsetsRule fr l)) _ v e in
+        let b = bind-inverse f (valuesReading d (countsRule fr l)) _ v (a .2) in
+        let os : Values = a .0 in
+        let cs : Values = b .0 in
+        let n : ℕ = stripCount fr l in
+        let s = bind-inverse f
+        (stripFrom (length f) (d .order) (os .size) (cs .size) (l .rows) (rowBytes fr l) n (os .place) (cs .place) (fr .length))
+        _ v (b .2) in
+        subst (Strips-in f (d .order) fr l) (sym (same-value v os (s .2 ∙ run-answer f _)))
+        (record {
+          placed = values-placed f (offsetsRule fr l) os d t (a .1);
+          inside = λ i h. strip-in f (length f) (d .order) (os .size) (cs .size) (l .rows) (rowBytes fr l) (s .0)
+              n i (os .place) (cs .place) (fr .length) (s .1) h;
+        })
+
+    pub list-accepted : (v : Values) → is v ≡ run f (listReading d) → Placed-values (length f) listRule v
+    unfolding listReading
+    list-accepted v e =
+        let a = bind-inverse f (notCarried d 51008) _ v e in
+        let b = bind-inverse f (notCarried d 51022) _ v (a .2) in
+        values-placed f listRule v d t (b .2)
+
+-- the strips and the list lie in the file
+pub record Inside (f : List ℕ) (o : Order) (t : Tags) : Type 0 where
+  pub rows : 1 ≤ t .layout .rows
+  pub strips : Strips-in f o (t .frame) (t .layout) (t .strips)
+  pub list : Placed-values (length f) listRule (t .list)
+
+pub tags-accepted : (f : List ℕ) (d : Ifd) → Tested f d → (t : Tags) → is t ≡ run f (tagsReading (length f) d) → Inside f (d .order) t
+unfolding tagsReading
+tags-accepted f d h t e =
+    let a = bind-inverse f (frameReading d) _ t e in
+    let fr : Frame = a .0 in
+    let b = bind-inverse f (layoutReading d (fr .samples)) _ t (a .2) in
+    let c = bind-inverse f (stripsReading (length f) d fr (b .0)) _ t (b .2) in
+    let i = bind-inverse f (areaReading d fr) _ t (c .2) in
+    let j = bind-inverse f (levelTagsReading d (fr .samples) (activeRows (i .0)) (activeColumns (i .0))) _ t (i .2) in
+    let k = bind-inverse f (listReading d) _ t (j .2) in
+    subst (Inside f (d .order)) (sym (same-value t _ (k .2 ∙ run-answer f _)))
+    (record {
+      rows = layout-rows f d (fr .samples) (b .0) (b .1);
+      strips = strips-accepted f d h fr (b .0) (c .0) (c .1);
+      list = list-accepted f d h (k .0) (k .1);
+    })
+
+pub front-accepted : (f : List ℕ) (p : Picture) → is p ≡ runWhole f frontReading → Inside f (p .order) (p .raw .tags)
+unfolding frontReading rawReading
+front-accepted f p e =
+    let a = bind-inverse f (treeReading (length f)) _ p e in
+    let d : Ifd = a .0 .raw in
+    let b = bind-inverse f (rawReading (length f) d) _ p (a .2) in
+    let c = bind-inverse f (tagsReading (length f) d) _ (b .0) (b .1) in
+    let s = bind-inverse f _ _ (b .0) (c .2) in
+    let q : b .0 .tags ≡ c .0 = ap (λ (x : Raw). x .tags) (same-value (b .0) _ (s .2 ∙ run-answer f _)) in
+    subst (λ (x : Picture). Inside f (x .order) (x .raw .tags)) (sym (same-value p _ (b .2 ∙ run-answer f _)))
+    (rw q (tags-accepted f d (tree-rooted f (a .0) (a .1) .raw) (c .0) (c .1)))
