@@ -35,7 +35,8 @@ use Rattle.directory.specs.declared.tag.Range.{Range}
 use Rattle.directory.specs.declared.tag.Values.{Values}
 use Rattle.directory.proofs.Entries.{plain-is}
 use Rattle.directory.proofs.Outs.{not-refused, same-value}
-use Rattle.directory.proofs.Tags.{size-in, list-unread, key-one, kind-wrong, count-low, count-high, in-entry, elsewhere, values-found}
+use Rattle.directory.proofs.Tags.{size-in, list-unread, key-one, kind-wrong, count-low, count-high, in-entry, elsewhere}
+use Rattle.directory.proofs.Tags.{values-found}
 use Rattle.directory.proofs.Unread.{unread-bind, headAt, entryAsked, entriesAsked}
 
 -- tag, type and count of so many entries from a place on
@@ -153,7 +154,8 @@ module _ (w : Widths) (f : List ℕ) (o : Order) (j : ℕ) where
           (unread-number f j o p (w .word) (off-first j (stretch p (w .word)) rest g))
           (subst (λ (q : ℕ). Unread f j (wholeReading q e)) (sym (run-number f o p (w .word))) here)
 
-  list-value-unread : (p : ℕ) (e : Entry) → codeOf (e .kind) ≡ 7 → reads (offsetAsked w (found.At p e)) j ≡ false → Unread f j (valueReading w o p e)
+  list-value-unread :
+      (p : ℕ) (e : Entry) → codeOf (e .kind) ≡ 7 → reads (offsetAsked w (found.At p e)) j ≡ false → Unread f j (valueReading w o p e)
   unfolding valueReading pick
   list-value-unread p e k h = go (leb (bytesOf e) (w .word)) h
     where
@@ -184,7 +186,8 @@ module _ (w : Widths) (f : List ℕ) (o : Order) (j : ℕ) where
   found-unread r found.Absent h = unread-answer f j (absentOf r)
   found-unread r (found.At p e) h = tested-unread r p e (λ _. value-unread p e h)
 
-  list-found-unread : (r : Rule) (x : Found) → r .kinds ≡ kinds.Undefined → reads (offsetAsked w x) j ≡ false → Unread f j (valuesFound w o r x)
+  list-found-unread :
+      (r : Rule) (x : Found) → r .kinds ≡ kinds.Undefined → reads (offsetAsked w x) j ≡ false → Unread f j (valuesFound w o r x)
   list-found-unread r found.Absent k h = unread-answer f j (absentOf r)
   list-found-unread r (found.At p e) k h =
       tested-unread r p e (λ a. list-value-unread p e (undefined-code (e .kind) (subst (λ ks. allowsOf ks (e .kind) ≡ true) k a)) h)
@@ -262,7 +265,8 @@ module _ (f : List ℕ) (j : ℕ) (r : Rule) (v : Values) where
         go true ek true el false em b eb g =
             absurd (not-refused v 4 (r .tag) (t ∙ sym (count-high w f o r p e ek (leb-true _ _ el) (leb-false _ _ em))))
         go true ek true el true em true eb g =
-            subst (Values-off j r) (sym (same-value v _ (t ∙ sym (in-entry w f o r p e ek (leb-true _ _ el) (leb-true _ _ em) (leb-true _ _ eb)))))
+            subst (Values-off j r)
+            (sym (same-value v _ (t ∙ sym (in-entry w f o r p e ek (leb-true _ _ el) (leb-true _ _ em) (leb-true _ _ eb)))))
             (record {
               off = off-first j (stretch p (bytesOf e)) [] g;
               sized = λ _. size-in (r .kinds) (e .kind) ek;
@@ -327,7 +331,8 @@ module _ (f : List ℕ) (j : ℕ) (o : Order) where
           (unread-answer f j (judgedOf tag r _)))
       (λ _ _. each-unread s tag r n (p + s) (off-inside j p (s * suc n) (p + s) (s * n) h (omega arith) (omega arith)))
 
-module _ (f : List ℕ) (d : Ifd) (j : ℕ) (heads : reads (headsOf d) j ≡ false) (r : Rule) (value : reads (valueIn f d (r .tag)) j ≡ false) where
+module _ (f : List ℕ) (d : Ifd) (j : ℕ) (heads : reads (headsOf d) j ≡ false) (r : Rule)
+    (value : reads (valueIn f d (r .tag)) j ≡ false) where
   -- a tag that holds one number
   pub one-unread : (default : ℕ) (range : Range) → Unread f j (oneReading d r default range)
   unfolding oneReading

@@ -16,7 +16,8 @@ use Rattle.reading.specs.Reading.{Reading, Reading.answer, run, pick, reads, nu
 use Rattle.reading.specs.declared.number.Order.{Order}
 use Rattle.reading.specs.declared.number.Order.the-variants.{Little, Big}
 use Rattle.reading.proofs.Reading.{run-answer, run-number}
-use Rattle.reading.proofs.Unread.{Unread, Off, off-behind, off-inside, off-rest, unread-answer, unread-ask, unread-number, unread-then, unread-pick}
+use Rattle.reading.proofs.Unread.{Unread, Off, off-behind, off-inside, off-rest, unread-answer, unread-ask, unread-number, unread-then}
+use Rattle.reading.proofs.Unread.{unread-pick}
 use Rattle.directory.specs.Out.{Out, Out.refused, Out.is, bind}
 use Rattle.directory.specs.Widths.{classic, bigTiff}
 use Rattle.directory.specs.Shape.{ifd, ifdReading}
@@ -70,7 +71,8 @@ module _ (f : List ℕ) (d : Ifd) (j : ℕ) (heads : reads (headsOf d) j ≡ fal
           (λ _. let c : v .count ≡ 4 = omega (arith, q .present refl, q .within) in
               let h : Off j (v .place) 4 = four v (q .sized (omega arith)) c (q .off) in
               unread-then f j (numberAt Big (v .place) 2) _
-              (unread-number f j Big (v .place) 2 (off-inside j (v .place) 4 (v .place) 2 h (omega arith) (omega arith))) (unread-answer f j _))
+              (unread-number f j Big (v .place) 2 (off-inside j (v .place) 4 (v .place) 2 h (omega arith) (omega arith)))
+              (unread-answer f j _))
           (λ e. let z : x .count ≡ 0 → ⊥ = eqb-false _ _ e in
               let s : 0 < x .count = omega arith in
               let c : x .count ≡ 4 = omega (arith, k .enough s, k .within) in
@@ -132,10 +134,12 @@ module _ (w : Widths) (f : List ℕ) (size : ℕ) (o : Order) (j : ℕ) (Visited
         (d : Ifd) → is d ≡ run f (ifdReading w size o at) → (p s n : ℕ) → is (parent p s n) ≡ run f (lookReading d) →
         (i : ℕ) → i < n → Visited (numberOf o (part f (p + s * i) s))
 
-  ifd-heads : (at : ℕ) (d : Ifd) → is d ≡ run f (ifdReading w size o at) → reads (directoryAsked w f o at) j ≡ false → reads (headsOf d) j ≡ false
+  ifd-heads :
+      (at : ℕ) (d : Ifd) → is d ≡ run f (ifdReading w size o at) → reads (directoryAsked w f o at) j ≡ false → reads (headsOf d) j ≡ false
   ifd-heads at d e h =
       subst (λ (x : Ifd). reads (headsOf x) j ≡ false) (sym (ifd-count w f size o at d e))
-      (heads-unasked w f o j (entriesIn w f o at) (at + w .entries) (off-rest j _ (entriesAsked w f o (entriesIn w f o at) (at + w .entries)) h))
+      (heads-unasked w f o j (entriesIn w f o at) (at + w .entries)
+      (off-rest j _ (entriesAsked w f o (entriesIn w f o at) (at + w .entries)) h))
 
   -- what follows the look at a directory, where the directories below are visited
   after-unread :
@@ -161,7 +165,8 @@ module _ (w : Widths) (f : List ℕ) (size : ℕ) (o : Order) (j : ℕ) (Visited
         unread-bind f j (lookReading d) _ (look-unread f d j heads (c .values d e .0) (c .values d e .1)) (λ x ex.
         after-unread depth v d below (c .children d e) x ex (seen-off f d j heads (c .values d e .1) x ex)))
 
-    walk-unread : (at n p : ℕ) → Visited at → is (ifd w o n p) ≡ run f (ifdReading w size o at) → Unread f j (walkReading size (ifd w o n p))
+    walk-unread :
+        (at n p : ℕ) → Visited at → is (ifd w o n p) ≡ run f (ifdReading w size o at) → Unread f j (walkReading size (ifd w o n p))
     unfolding walkReading
     walk-unread at n p h e =
         let c = clear at h in

@@ -68,7 +68,8 @@ module _ (f : List ℕ) (d : Ifd) (v : Values) where
       let b = bind-inverse f (blacksTest (d .order) tag kind.SignedRational (a .0 .size) (a .0 .count) (a .0 .place)) _ v (a .2) in
       subst (λ (x : Values). is x ≡ run f (valuesReading d (deltaRule tag n))) (sym (same-value v (a .0) (b .2 ∙ run-answer f _))) (a .1)
 
-  strips-given : (size : ℕ) (w : Frame) (l : Layout) → is v ≡ run f (stripsReading size d w l) → is v ≡ run f (valuesReading d (offsetsRule w l))
+  strips-given :
+      (size : ℕ) (w : Frame) (l : Layout) → is v ≡ run f (stripsReading size d w l) → is v ≡ run f (valuesReading d (offsetsRule w l))
   unfolding stripsReading
   strips-given size w l e =
       let a = bind-inverse f (valuesReading d (offsetsRule w l)) _ v e in
@@ -114,8 +115,10 @@ module _ (f : List ℕ) (j : ℕ) (d : Ifd) (c : Raw-clear f j d) where
         black = values-off f d j (blackRule (r .0) s) (b .0) (black-given f d (b .0) (r .0) s (b .1)) (c .values 50714 refl) .off;
         column-deltas =
             values-off f d j (deltaRule 50715 columns) (cs .0) (delta-given f d (cs .0) 50715 columns (cs .1)) (c .values 50715 refl) .off;
-        row-deltas = values-off f d j (deltaRule 50716 rows) (rs .0) (delta-given f d (rs .0) 50716 rows (rs .1)) (c .values 50716 refl) .off;
-        white = values-off f d j (whiteRule s) (w .0) (all-given f d (w .0) (whiteRule s) (range 0 0 65535) (w .1)) (c .values 50717 refl) .off;
+        row-deltas =
+            values-off f d j (deltaRule 50716 rows) (rs .0) (delta-given f d (rs .0) 50716 rows (rs .1)) (c .values 50716 refl) .off;
+        white =
+            values-off f d j (whiteRule s) (w .0) (all-given f d (w .0) (whiteRule s) (range 0 0 65535) (w .1)) (c .values 50717 refl) .off;
       })
 
   tags-off : (size : ℕ) (t : Tags) → is t ≡ run f (tagsReading size d) → Tags-off j t
@@ -129,7 +132,8 @@ module _ (f : List ℕ) (j : ℕ) (d : Ifd) (c : Raw-clear f j d) where
       let o = bind-inverse f (listReading d) _ t (v .2) in
       subst (Tags-off j) (sym (same-value t _ (o .2 ∙ run-answer f _)))
       (record {
-        strips = values-off f d j (offsetsRule (w .0) (l .0)) (s .0) (strips-given f d (s .0) size (w .0) (l .0) (s .1)) (c .values 273 refl) .off;
+        strips =
+            values-off f d j (offsetsRule (w .0) (l .0)) (s .0) (strips-given f d (s .0) size (w .0) (l .0) (s .1)) (c .values 273 refl) .off;
         levels = levels-off (w .0 .samples) (activeRows (a .0)) (activeColumns (a .0)) (v .0) (v .1);
       })
 
@@ -170,8 +174,8 @@ module _ (f : List ℕ) (j : ℕ) (d : Ifd) (c : Raw-clear f j d) where
   raw-unread size =
       unread-bind f j (tagsReading size d) _ (tags-unread f d j (c .heads) size (c .values) (c .list)) (λ t e.
       unread-bind f j _ _
-      (unread-then f j (levelsReading (d .order) t) (λ (l : Levels). answer (spannedOf l)) (levels-unread (d .order) t (tags-off size t e .levels))
-          (unread-answer f j _))
+      (unread-then f j (levelsReading (d .order) t) (λ (l : Levels). answer (spannedOf l))
+          (levels-unread (d .order) t (tags-off size t e .levels)) (unread-answer f j _))
       (λ s _. unread-answer f j (is (rawWith t s))))
 
 -- all tests up to 9

@@ -15,7 +15,8 @@ use Rattle.reading.specs.declared.number.Order.{Order}
 use Rattle.reading.proofs.Reading.{run-answer}
 use Rattle.reading.proofs.Unread.{Unread, Off, off-inside, unread-answer, unread-ask, unread-number, unread-then, unread-pick}
 use Rattle.directory.specs.Out.{Out.refused, Out.is}
-use Rattle.directory.specs.Tag.{valuesReading, notCarried, faultOf, judgedOf, firstReading, oneReading, eachReading, required, optional, range}
+use Rattle.directory.specs.Tag.{valuesReading, notCarried, faultOf, judgedOf, firstReading, oneReading, eachReading}
+use Rattle.directory.specs.Tag.{required, optional, range}
 use Rattle.directory.specs.declared.Ifd.{Ifd}
 use Rattle.directory.specs.declared.tag.Kinds.{Kinds}
 use Rattle.directory.specs.declared.tag.Kinds.the-variants as kinds
@@ -25,7 +26,8 @@ use Rattle.directory.specs.declared.tag.Values.{Values}
 use Rattle.directory.proofs.Outs.{bind-inverse, not-refused, same-value}
 use Rattle.directory.proofs.Tags.{judged-is, judged-bad, first-default, first-is}
 use Rattle.directory.proofs.Unread.{unread-bind}
-use Rattle.directory.proofs.TagUnread.{headsOf, offsetIn, valueIn, other-value-unread, list-tag-unread, not-carried-unread, Values-off, values-off}
+use Rattle.directory.proofs.TagUnread.{headsOf, offsetIn, valueIn, other-value-unread, list-tag-unread, not-carried-unread}
+use Rattle.directory.proofs.TagUnread.{Values-off, values-off}
 use Rattle.directory.proofs.TagUnread.{first-off, each-unread, one-unread, all-unread}
 use Rattle.levels.specs.declared.black.BlackKind.{BlackKind}
 use Rattle.levels.specs.declared.black.BlackKind.the-variants as kind
@@ -104,7 +106,9 @@ frame-some f d v e =
     subst (λ (u : Frame). 1 ≤ u .samples) (sym s) (planes-some f d (c .0) (c .1))
 
 -- as many values as the rule says, where there are any
-exact-off : (j : ℕ) (r : Rule) (v : Values) (n : ℕ) → r .least ≡ n → r .most ≡ n → Values-off j r v → 0 < v .count → Off j (v .place) (v .size * n)
+exact-off :
+    (j : ℕ) (r : Rule) (v : Values) (n : ℕ) → r .least ≡ n → r .most ≡ n → Values-off j r v → 0 < v .count →
+    Off j (v .place) (v .size * n)
 exact-off j r v n l m h z =
     let c : v .count ≡ n = omega (arith, h .enough z, h .within) in
     subst (λ (k : ℕ). Off j (v .place) (v .size * k)) c (h .off)
@@ -145,8 +149,8 @@ module _ (f : List ℕ) (d : Ifd) (j : ℕ) (heads : reads (headsOf d) j ≡ fal
   frame-unread : Off-tag 256 → Off-tag 257 → Off-tag 262 → Off-tag 277 → Unread f j (frameReading d)
   unfolding frameReading dimensionReading planesReading
   frame-unread a b c e =
-      unread-bind f j (dimensionReading d 256) _ (one-unread f d j heads (required 256 kinds.ShortOrLong 1) a 0 dimensionRange) (λ columns _.
-      unread-bind f j (dimensionReading d 257) _ (one-unread f d j heads (required 257 kinds.ShortOrLong 1) b 0 dimensionRange) (λ rows _.
+      unread-bind f j (dimensionReading d 256) _ (one-unread f d j heads (required 256 kinds.ShortOrLong 1) a 0 dimensionRange) (λ _ _.
+      unread-bind f j (dimensionReading d 257) _ (one-unread f d j heads (required 257 kinds.ShortOrLong 1) b 0 dimensionRange) (λ _ _.
       unread-bind f j (planesReading d) _
       (unread-bind f j (oneReading d (required 262 kinds.Short 1) 0 (range 0 0 65535)) _
           (one-unread f d j heads (required 262 kinds.Short 1) c 0 (range 0 0 65535)) (λ p _.
