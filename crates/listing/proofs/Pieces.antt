@@ -11,15 +11,15 @@ use Rattle.listing.specs.Text.{listingOf}
 use Rattle.listing.specs.Body.{Headed, rowsFrom}
 use Rattle.listing.specs.Pieces.{Stands, Remains, Ends}
 use Rattle.listing.specs.declared.First.{First}
-use Rattle.listing.specs.declared.Written.{Written}
 
 module _ (f : List ℕ) where
   -- before anything is written, the first line and all rows are to come
-  pub all-remains : (h : First) (text : List ℕ) → Headed f h text → Remains f 0 (take (h .length) text ++ rowsFrom f 0)
-  all-remains h text q =
+  pub all-remains : (at : ℕ) → at ≡ 0 → (h : First) (text : List ℕ) → Headed f h text →
+      Remains f at (take (h .length) text ++ rowsFrom f 0)
+  all-remains at z h text q =
       record {
-        inside = omega arith;
-        behind = sym (ap (λ (line : List ℕ). line ++ rowsFrom f 0) (q .line));
+        inside = omega (arith, z);
+        behind = ap (λ (k : ℕ). drop k (listingOf f)) z ∙ sym (ap (λ (line : List ℕ). line ++ rowsFrom f 0) (q .line));
       }
 
   -- ---- the piece that is to come next
@@ -37,18 +37,19 @@ module _ (f : List ℕ) where
           behind = sym (drop-drop n at (listingOf f)) ∙ ap (drop n) (r .behind) ∙ drop-at piece rest n refl;
         }
 
-    module _ (w : Written) (e : w .bytes ≡ cond (w .well) (at + length piece) at) where
-      pub written-rest : w .well ≡ true → Remains f (w .bytes) rest
+    -- a write that went well, and one that failed
+    module _ (well : Bool) (end : ℕ) (e : end ≡ cond well (at + length piece) at) where
+      pub written-rest : well ≡ true → Remains f end rest
       written-rest t =
-          let b : w .bytes ≡ at + length piece = e ∙ ap (λ (x : Bool). cond x (at + length piece) at) t in
+          let b : end ≡ at + length piece = e ∙ ap (λ (x : Bool). cond x (at + length piece) at) t in
           subst (λ (k : ℕ). Remains f k rest) (sym b) rest-remains
 
-      pub ends-early : w .well ≡ false → Ends f w
+      pub ends-early : well ≡ false → Ends f end false
       ends-early t =
-          let b : w .bytes ≡ at = e ∙ ap (λ (x : Bool). cond x (at + length piece) at) t in
+          let b : end ≡ at = e ∙ ap (λ (x : Bool). cond x (at + length piece) at) t in
           record {
             beginning = omega (arith, b, r .inside);
-            whole = λ k. absurd (true≢false (sym k ∙ t));
+            whole = λ k. absurd (true≢false (sym k));
           }
 
   -- a piece goes no further than the listing
@@ -58,10 +59,10 @@ module _ (f : List ℕ) where
       omega (arith, a, length-take (length piece) (drop at (listingOf f)), length-drop at (listingOf f))
 
   -- where nothing is to come, all is written
-  pub ends-whole : (w : Written) → Remains f (w .bytes) [] → Ends f w
-  ends-whole w r =
-      let a : length (drop (w .bytes) (listingOf f)) ≡ 0 = ap length (r .behind) in
+  pub ends-whole : (at : ℕ) → Remains f at [] → Ends f at true
+  ends-whole at r =
+      let a : length (drop at (listingOf f)) ≡ 0 = ap length (r .behind) in
       record {
         beginning = r .inside;
-        whole = λ k. omega (arith, r .inside, a, length-drop (w .bytes) (listingOf f));
+        whole = λ k. omega (arith, r .inside, a, length-drop at (listingOf f));
       }

@@ -1,9 +1,9 @@
 // Document 01's example 11: reads a file from standard input and prints its frame or its refusal.
 //
 // No contract can say what the operating system reads or writes: that of `io::write_all` says nothing of the bytes. So
-// `write_piece` alone writes, and its `requires` says which bytes it is handed: those that `listingOf` of the file has from a
-// place on. It answers with the place behind them, where the next piece begins. `list` promises that the last place is the end
-// of the listing, where no write has failed.
+// `write_piece` alone writes, and its `requires` says which bytes it is handed: those that `listingOf` of the file has behind the
+// bytes that are written. It counts them to those, so that no byte is handed over twice, and none is left out. `list` promises
+// that a beginning of the listing is written, and all of it where no write has failed.
 ghost use mathlib.Core.Path.{_≡_};
 ghost use mathlib.Core.Bool.{not, cond};
 ghost use mathlib.Core.List.{_∷_, _++_};
@@ -184,55 +184,44 @@ fn put_rows(
     put_lines(text, &values[..m], height, width)
 }
 
-// How many bytes of a listing are written, and whether no write has failed.
-struct Written {
-    bytes: usize,
-    well: bool,
-}
-
-// Writes a piece of the file's listing: what stands behind its first `at` bytes. Nothing else writes.
-fn write_piece(file: &[u8], at: usize, piece: &[u8]) -> Written
-    requires { ⌜ Stands (now file) at (now piece) ⌝ }
+// Writes the next piece of the file's listing, what it has behind the first `written` bytes, and counts it to those. Nothing else
+// writes or counts.
+fn write_piece(file: &[u8], written: &mut usize, piece: &[u8]) -> bool
+    requires { ⌜ Stands (now file) (now written) (now piece) ⌝ }
     requires { ⌜ length (listingOf (now file)) < 18446744073709551616 ⌝ }
-    ensures { λ r. ⌜ r .bytes ≡ cond (r .well) (at + length (now (piece .entry))) at ⌝ }
+    ensures { λ r. ⌜ now (written .exit) ≡ cond r (now (written .entry) + length (now (piece .entry))) (now (written .entry)) ⌝ }
 {
-    let end = at + piece.len();
-    if io::write_all(STDOUT_FILENO, piece) {
-        Written {
-            bytes: end,
-            well: true,
-        }
-    } else {
-        Written {
-            bytes: at,
-            well: false,
-        }
+    let end = *written + piece.len();
+    if !io::write_all(STDOUT_FILENO, piece) {
+        return false;
     }
+    *written = end;
+    true
 }
 
-// Writes the rows behind the first `at` bytes, a block at a time. A write that fails ends the listing.
-fn print_rows(text: &mut [u8], values: &mut [f64], file: &[u8], view: View, at: usize) -> Written
+// Writes the rows, a block at a time. A write that fails ends the listing.
+fn print_rows(
+    text: &mut [u8],
+    values: &mut [f64],
+    file: &[u8],
+    view: View,
+    written: &mut usize,
+) -> bool
     requires { ⌜ Ready (now file) view (now text) (now values) ⌝ }
-    requires { ⌜ Remains (now file) at (rowsFrom (now file) 0) ⌝ }
-    ensures { λ r. ⌜ Ends (now (file .entry)) r ⌝ }
+    requires { ⌜ Remains (now file) (now written) (rowsFrom (now file) 0) ⌝ }
+    ensures { λ r. ⌜ Ends (now (file .entry)) (now (written .exit)) r ⌝ }
 {
     let size = view.size;
     let mut top = 0;
-    let mut end = at;
     while top < size.rows {
         let height = block(size, top);
         let n = put_rows(text, values, file, view, top, height);
-        let written = write_piece(file, end, &text[..n]);
-        if !written.well {
-            return written;
+        if !write_piece(file, written, &text[..n]) {
+            return false;
         }
-        end = written.bytes;
         top += height;
     }
-    Written {
-        bytes: end,
-        well: true,
-    }
+    true
 }
 
 // A block's values: at least one row of the widest frame, 16,384 columns of three samples.
@@ -256,26 +245,27 @@ fn file_space() -> [u8; 65537]
     [0; 65537]
 }
 
-// Writes a file's listing.
-fn list(file: &[u8]) -> Written
-    ensures { λ r. ⌜ Ends (now (file .entry)) r ⌝ }
+// Writes a file's listing, and answers whether all of it is written.
+fn list(file: &[u8], written: &mut usize) -> bool
+    requires { ⌜ now written ≡ 0 ⌝ }
+    ensures { λ r. ⌜ Ends (now (file .entry)) (now (written .exit)) r ⌝ }
 {
     let mut values = value_space();
     let mut text = text_space();
     let first = put_first(&mut text, file);
     let opening = first.opening;
-    let written = write_piece(file, 0, &text[..first.length]);
-    if !written.well {
-        return written;
+    if !write_piece(file, written, &text[..first.length]) {
+        return false;
     }
     match opening {
-        Opening::Refused { number, detail } => written,
-        Opening::Is(view) => print_rows(&mut text, &mut values, file, view, written.bytes),
+        Opening::Refused { number, detail } => true,
+        Opening::Is(view) => print_rows(&mut text, &mut values, file, view, written),
     }
 }
 
 fn main() {
     let mut file = file_space();
     let n = io::read_full(STDIN_FILENO, &mut file);
-    list(&file[..n]);
+    let mut written = 0;
+    list(&file[..n], &mut written);
 }

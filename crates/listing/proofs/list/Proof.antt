@@ -1,4 +1,5 @@
 use mathlib.Core.Path.{_≡_, refl, sym, ap, _∙_, subst}
+use mathlib.Core.Bool.{true}
 use mathlib.Core.List.{List, [], _++_}
 use Prim.Native.Nat.{ℕ}
 use native.Mathlib.Omega.{arith}
@@ -20,12 +21,23 @@ start g = g .before .before .before .before .before
 abbrev file : tie.After-put-first → List ℕ
 file g = now (start g .args .file)
 
+abbrev written : tie.After-put-first → ℕ
+written g = now (start g .args .written)
+
 -- the first line, and the rows behind it
 abbrev line : tie.After-put-first → List ℕ
 line g = take (g .put-first .result .length) (g .put-first .last .0)
 
-to-come : (g : tie.After-put-first) → Remains (file g) 0 (line g ++ rowsFrom (file g) 0)
-to-come g = all-remains (file g) (g .put-first .result) (g .put-first .last .0) (g .put-first .ensures)
+to-come : (g : tie.After-put-first) → Remains (file g) (written g) (line g ++ rowsFrom (file g) 0)
+to-come g = all-remains (file g) (written g) (start g .pre) (g .put-first .result) (g .put-first .last .0) (g .put-first .ensures)
+
+-- behind the first line, if it could be written, the rows are to come
+rows-remain : (c : tie.After-write-piece) → c .write-piece .result ≡ true →
+    let g = c .before .before .before .before in
+    Remains (file g) (c .write-piece .last .1 .0) (rowsFrom (file g) 0)
+rows-remain c t =
+    let g = c .before .before .before .before in
+    written-rest (file g) (written g) (line g) (rowsFrom (file g) 0) (to-come g) _ _ (c .write-piece .ensures) t
 
 -- ---- needs
 value-space-requires : tie.Need-value-space-requires
@@ -45,19 +57,19 @@ array-share-prefix-text c = search needs
 
 slice-aggregate-write-piece : tie.Need-slice-aggregate-write-piece
 slice-aggregate-write-piece c =
-    let put-first = c .before .before .put-first in
+    let put-first = c .before .before .before .put-first in
     sym (length-take-le _ (put-first .last .0) (put-first .ensures .inside))
 
 write-piece-requires : tie.Need-write-piece-requires
 write-piece-requires c κs =
-    let g = c .before .before in
-    (piece-stands (file g) 0 (line g) (rowsFrom (file g) 0) (to-come g), g .put-first .ensures .short)
+    let g = c .before .before .before in
+    (piece-stands (file g) (written g) (line g) (rowsFrom (file g) 0) (to-come g), g .put-first .ensures .short)
 
 returns : tie.Need-returns
 returns c =
-    let w = c .before .before .write-piece in
+    let w = c .before .write-piece in
     let g = c .before .before .before .before .before in
-    ends-early (file g) 0 (line g) (rowsFrom (file g) 0) (to-come g) (w .result) (w .ensures) (not-true _ (c .if1 .taken))
+    ends-early (file g) (written g) (line g) (rowsFrom (file g) 0) (to-come g) (w .result) _ (w .ensures) (not-true _ (c .if1 .taken))
 
 enum-known-opening : tie.Need-enum-known-opening
 enum-known-opening c = search needs
@@ -75,26 +87,24 @@ slice-aggregate-print-rows-2 c =
 
 print-rows-requires : tie.Need-print-rows-requires
 print-rows-requires c κs =
-    let opening2 = c .before .before .before .opening2 in
-    let e = c .before .before .before .before .before in
-    let w = e .before .before .write-piece in
+    let opening2 = c .before .before .before .before .opening2 in
+    let e = c .before .before .before .before .before .before in
     let g = e .before .before .before .before .before in
     let t = g .before .before in
-    let o = subst (OpenedIs (file g) (g .put-first .result .size)) (opening2 .given .1) (g .put-first .ensures .file) in
-    let r = written-rest (file g) 0 (line g) (rowsFrom (file g) 0) (to-come g) (w .result) (w .ensures) (not-false _ (e .if1 .left)) in
-    ((omega (arith, g .put-first .kept .0, t .text-space .ensures), omega (arith, t .before .value-space .ensures), o .1, o .2), r)
+    let o = subst (OpenedIs (file g) (g .put-first .result .size)) (opening2 .given .1) (g .put-first .ensures .file) in (
+      (omega (arith, g .put-first .kept .0, t .text-space .ensures), omega (arith, t .before .value-space .ensures), o .1, o .2),
+      rows-remain (e .before) (not-false _ (e .if1 .left)),
+    )
 
 returns-2 : tie.Need-returns-2
 returns-2 c =
     let e = c .before .before .before in
-    let w = e .before .before .write-piece in
     let g = e .before .before .before .before .before in
-    let first = g .put-first in
-    let z : first .result .size .rows ≡ 0 = subst (OpenedIs (file g) (first .result .size)) (c .before .opening .given .1)
-    (first .ensures .file) in
-    let none : rowsFrom (file g) 0 ≡ [] = ap (rowsFrom (file g)) (sym z) ∙ first .ensures .all in
-    let r = written-rest (file g) 0 (line g) (rowsFrom (file g) 0) (to-come g) (w .result) (w .ensures) (not-false _ (e .if1 .left)) in
-    ends-whole (file g) _ (subst (Remains (file g) (w .result .bytes)) none r)
+    let f = file g in
+    let p = g .put-first in
+    let z : p .result .size .rows ≡ 0 = subst (OpenedIs f (p .result .size)) (c .before .opening .given .1) (p .ensures .file) in
+    let none : rowsFrom f 0 ≡ [] = ap (rowsFrom f) (sym z) ∙ p .ensures .all in
+    ends-whole f _ (subst (Remains f _) none (rows-remain (e .before) (not-false _ (e .if1 .left))))
 
 returns-3 : tie.Need-returns-3
 returns-3 c = c .before .before .print-rows .ensures

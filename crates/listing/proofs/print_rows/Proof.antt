@@ -16,11 +16,11 @@ use Rattle.listing.proofs.print_rows.Tie as tie
 
 -- behind the bytes that are written, the rows from `top` on are to come
 abbrev Inv-loop : tie.InvT-loop
-Inv-loop text₀ values₀ file view at size top₀ end₀ text values top end =
-    (length text ≡ length text₀) × (length values ≡ length values₀) × Remains file end (rowsFrom file top)
+Inv-loop text₀ values₀ file view written₀ size top₀ text values written top =
+    (length text ≡ length text₀) × (length values ≡ length values₀) × Remains file written (rowsFrom file top)
 
 abbrev μ-loop : tie.MeasureT-loop
-μ-loop text₀ values₀ file view at size top₀ end₀ text values top end = size .rows - top
+μ-loop text₀ values₀ file view written₀ size top₀ text values written top = size .rows - top
 
 -- ---- places
 abbrev Put : Type 0
@@ -42,8 +42,8 @@ piece g = take (g .put-rows .result) (g .put-rows .last .0)
 abbrev rest : Put → List ℕ
 rest g = rowsFrom (file g) (turn g .loop .top + g .before .before .before .block .result)
 
-to-come : (g : Put) → Remains (file g) (turn g .loop .end) (piece g ++ rest g)
-to-come g = subst (Remains (file g) (turn g .loop .end)) (sym (g .put-rows .ensures .1)) (turn g .loop .inv .2)
+to-come : (g : Put) → Remains (file g) (turn g .loop .written) (piece g ++ rest g)
+to-come g = subst (Remains (file g) (turn g .loop .written)) (sym (g .put-rows .ensures .1)) (turn g .loop .inv .2)
 
 -- ---- needs
 loop-holds : tie.Need-loop-holds Inv-loop μ-loop
@@ -61,17 +61,17 @@ put-rows-requires c κs =
     ((omega (arith, v .0, p .0), omega (arith, v .1, p .1), p .2, p .3), c .before .before .block .ensures)
 
 slice-reshare-prefix-write-piece : tie.Need-slice-reshare-prefix-write-piece Inv-loop μ-loop
-slice-reshare-prefix-write-piece c = c .before .before .before .before .put-rows .ensures .0
+slice-reshare-prefix-write-piece c = c .before .before .before .before .before .put-rows .ensures .0
 
 slice-aggregate-write-piece : tie.Need-slice-aggregate-write-piece Inv-loop μ-loop
 slice-aggregate-write-piece c =
-    let put-rows = c .before .before .before .before .before .put-rows in
+    let put-rows = c .before .before .before .before .before .before .put-rows in
     sym (length-take-le _ (put-rows .last .0) (put-rows .ensures .0))
 
 write-piece-requires : tie.Need-write-piece-requires Inv-loop μ-loop
 write-piece-requires c κs =
-    let g = c .before .before .before .before .before in
-    (piece-stands (file g) (turn g .loop .end) (piece g) (rest g) (to-come g), short-listed (file g) _ (start g .pre .0 .2))
+    let g = c .before .before .before .before .before .before in
+    (piece-stands (file g) (turn g .loop .written) (piece g) (rest g) (to-come g), short-listed (file g) _ (start g .pre .0 .2))
 
 same-length : tie.Need-same-length Inv-loop μ-loop
 same-length c =
@@ -85,9 +85,9 @@ same-length-2 c =
 
 returns : tie.Need-returns Inv-loop μ-loop
 returns c =
-    let w = c .before .before .write-piece in
+    let w = c .before .write-piece in
     let g = c .before .before .before .before .before .before .before .before in
-    ends-early (file g) (turn g .loop .end) (piece g) (rest g) (to-come g) (w .result) (w .ensures) (not-true _ (c .if2 .taken))
+    ends-early (file g) (turn g .loop .written) (piece g) (rest g) (to-come g) (w .result) _ (w .ensures) (not-true _ (c .if2 .taken))
 
 add-top : tie.Need-add-top Inv-loop μ-loop
 add-top c =
@@ -101,12 +101,12 @@ loop-less c =
 
 loop-again : tie.Need-loop-again Inv-loop μ-loop
 loop-again c =
-    let w = c .before .before .write-piece in
+    let w = c .before .write-piece in
     let g = c .before .before .before .before .before .before .before .before in
     let v = turn g .loop in (
       g .put-rows .kept .0 ∙ v .inv .0,
       g .put-rows .kept .1 .0 ∙ v .inv .1,
-      written-rest (file g) (v .end) (piece g) (rest g) (to-come g) (w .result) (w .ensures) (not-false _ (c .if2 .left)),
+      written-rest (file g) (v .written) (piece g) (rest g) (to-come g) (w .result) _ (w .ensures) (not-false _ (c .if2 .left)),
     )
 
 same-length-3 : tie.Need-same-length-3 Inv-loop μ-loop
@@ -121,7 +121,7 @@ returns-2 c =
     let s = c .before .before .before .before .before .before .before in
     let f = now (s .args .file) in
     let none = rows-none f _ (s .pre .0 .2) (v .top) (c .if1 .left) in
-    ends-whole f _ (subst (Remains f (v .end)) none (v .inv .2))
+    ends-whole f _ (subst (Remains f (v .written)) none (v .inv .2))
 
 pub print-rows-spec : {M : Type 1} → statement M
 print-rows-spec =

@@ -7,8 +7,9 @@ use Rattle.listing.proofs.write_piece.Tie as tie
 
 add-end : tie.Need-add-end
 add-end c =
-    let s = c .before .before in
-    omega (arith, s .pre .1, piece-inside (now (s .args .file)) (s .args .at) (now (s .args .piece)) (s .pre .0))
+    let s = c .before .before .before in
+    let a = s .args in
+    omega (arith, s .pre .1, piece-inside (now (a .file)) (now (a .written)) (now (a .piece)) (s .pre .0))
 
 write-all-requires : tie.Need-write-all-requires
 write-all-requires c κs = search needs
