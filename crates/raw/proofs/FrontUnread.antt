@@ -133,7 +133,8 @@ module _ (f : List ℕ) (j : ℕ) (d : Ifd) (c : Raw-clear f j d) where
       subst (Tags-off j) (sym (same-value t _ (o .2 ∙ run-answer f _)))
       (record {
         strips =
-            values-off f d j (offsetsRule (w .0) (l .0)) (s .0) (strips-given f d (s .0) size (w .0) (l .0) (s .1)) (c .values 273 refl) .off;
+            values-off f d j (offsetsRule (w .0) (l .0)) (s .0) (strips-given f d (s .0) size (w .0) (l .0) (s .1))
+            (c .values 273 refl) .off;
         levels = levels-off (w .0 .samples) (activeRows (a .0)) (activeColumns (a .0)) (v .0) (v .1);
       })
 

@@ -7,24 +7,23 @@ use mathlib.Core.List.{List, [], _∷_}
 use Prim.Native.Nat.{ℕ, zero, suc, _+_, _*_, _-_, _≤_, _<_, min}
 use native.Mathlib.Nat.{mul-suc}
 use native.Mathlib.Omega.{arith}
-use lib.Dec.{eqb, leb, ltb}
+use lib.Dec.{eqb, leb}
 use mir.Val.{hasKey}
-use borrow.Author.Tests.{eqb-true, eqb-false, ltb-false}
+use borrow.Author.Tests.{eqb-false}
 use Rattle.reading.specs.Reading.{Reading.answer, run, pick, reads, numberAt}
 use Rattle.reading.specs.declared.number.Order.{Order}
 use Rattle.reading.proofs.Reading.{run-answer}
 use Rattle.reading.proofs.Unread.{Unread, Off, off-inside, unread-answer, unread-ask, unread-number, unread-then, unread-pick}
 use Rattle.directory.specs.Out.{Out.refused, Out.is}
-use Rattle.directory.specs.Tag.{valuesReading, notCarried, faultOf, judgedOf, firstReading, oneReading, eachReading}
+use Rattle.directory.specs.Tag.{valuesReading, notCarried, oneReading, eachReading}
 use Rattle.directory.specs.Tag.{required, optional, range}
 use Rattle.directory.specs.declared.Ifd.{Ifd}
 use Rattle.directory.specs.declared.tag.Kinds.{Kinds}
 use Rattle.directory.specs.declared.tag.Kinds.the-variants as kinds
 use Rattle.directory.specs.declared.tag.Rule.{Rule}
-use Rattle.directory.specs.declared.tag.Range.{Range}
 use Rattle.directory.specs.declared.tag.Values.{Values}
 use Rattle.directory.proofs.Outs.{bind-inverse, not-refused, same-value}
-use Rattle.directory.proofs.Tags.{judged-is, judged-bad, first-default, first-is}
+use Rattle.directory.proofs.Accepted.{one-in}
 use Rattle.directory.proofs.Unread.{unread-bind}
 use Rattle.directory.proofs.TagUnread.{headsOf, offsetIn, valueIn, other-value-unread, list-tag-unread, not-carried-unread}
 use Rattle.directory.proofs.TagUnread.{Values-off, values-off}
@@ -51,36 +50,7 @@ rawTags =
     256 ∷ 257 ∷ 262 ∷ 277 ∷ 258 ∷ 259 ∷ 284 ∷ 339 ∷ 50975 ∷ 52547 ∷ 278 ∷ 273 ∷ 279 ∷ 50829
     ∷ 50712 ∷ 50713 ∷ 50714 ∷ 50715 ∷ 50716 ∷ 50717 ∷ []
 
--- ---- an accepted number is at least where its range begins
-fault-from : (r : Range) (v : ℕ) → faultOf r v ≡ 0 → r .from ≤ v
-unfolding faultOf pick
-fault-from r v e = go (ltb v (r .legal)) (ltb v (r .from)) refl e
-  where
-    go : (a b : Bool) → ltb v (r .from) ≡ b → _≡_ {A = ℕ} (pick a 4 (pick b 8 (pick (ltb (r .to) v) 8 0))) 0 → r .from ≤ v
-    go true b h q = absurd (let n : _≡_ {A = ℕ} 4 0 = q in omega arith)
-    go false true h q = absurd (let n : _≡_ {A = ℕ} 8 0 = q in omega arith)
-    go false false h q = ltb-false v (r .from) h
-
-judged-from : (tag : ℕ) (r : Range) (v s : ℕ) → is s ≡ judgedOf tag r v → r .from ≤ s
-judged-from tag r v s e = go (eqb (faultOf r v) 0) refl
-  where
-    go : (b : Bool) → eqb (faultOf r v) 0 ≡ b → r .from ≤ s
-    go true q =
-        let z : faultOf r v ≡ 0 = eqb-true _ _ q in
-        let t : s ≡ v = same-value s v (e ∙ sym (judged-is tag r v z)) in
-        omega (arith, fault-from r v z)
-    go false q = absurd (not-refused s (faultOf r v) tag (e ∙ sym (judged-bad tag r v (eqb-false _ _ q))))
-
-one-from : (f : List ℕ) (d : Ifd) (r : Rule) (default : ℕ) (g : Range) (s : ℕ) → is s ≡ run f (oneReading d r default g) → g .from ≤ s
-unfolding oneReading
-one-from f d r default g s e =
-    let i = bind-inverse f (valuesReading d r) (firstReading (d .order) (r .tag) default g) s e in
-    go (i .0) (i .2) (eqb (i .0 .count) 0) refl
-  where
-    go : (v : Values) → is s ≡ run f (firstReading (d .order) (r .tag) default g v) → (b : Bool) → eqb (v .count) 0 ≡ b → g .from ≤ s
-    go v h true q = judged-from (r .tag) g default s (h ∙ sym (first-default f (d .order) (r .tag) default g v (eqb-true _ _ q)))
-    go v h false q = judged-from (r .tag) g _ s (h ∙ sym (first-is f (d .order) (r .tag) default g v (eqb-false _ _ q) _ refl))
-
+-- ---- a frame has a plane
 planes-some : (f : List ℕ) (d : Ifd) (s : ℕ) → is s ≡ run f (planesReading d) → 1 ≤ s
 unfolding planesReading pick
 planes-some f d s e =
@@ -94,7 +64,7 @@ planes-some f d s e =
     go p true q h = absurd (not-refused s 8 262 (h ∙ run-answer f _))
     go p false q h =
         let z : samplesOf p ≡ 0 → ⊥ = eqb-false _ _ q in
-        omega (arith, one-from f d (optional 277 kinds.Short 1) 1 (range 0 (samplesOf p) (samplesOf p)) s h)
+        omega (arith, one-in f d (optional 277 kinds.Short 1) 1 (range 0 (samplesOf p) (samplesOf p)) s h .from)
 
 frame-some : (f : List ℕ) (d : Ifd) (v : Frame) → is v ≡ run f (frameReading d) → 1 ≤ v .samples
 unfolding frameReading
