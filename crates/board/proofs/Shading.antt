@@ -15,7 +15,7 @@ use Rattle.levels.specs.Clip.{clipOf}
 use Rattle.opcodes.specs.Grid.{gridOf, fitsOf}
 use Rattle.opcodes.specs.Step.{resultOf, appliedOf}
 use Rattle.opcodes.specs.GainMap.{placeOf, wholeOf, restOf, betweenOf, alongOf, gainOf, gainMapOf, gainMapLegal}
-use Rattle.opcodes.specs.Bracket.{GainMap-in, cornersOf}
+use Rattle.opcodes.specs.Facts.Bracket.{GainMap-in, cornersOf}
 use Rattle.opcodes.specs.OpcodeList.{refusedIn, gainMapFault}
 use Rattle.opcodes.specs.declared.gain_map.Corners.{Corners}
 use Rattle.opcodes.specs.declared.gain_map.Bracket.the-variants.{At}

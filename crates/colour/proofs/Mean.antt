@@ -12,7 +12,7 @@ use lib.Ieee.Fits.{down-pos}
 use lib.Ieee.Exact.{HasValue}
 use lib.Ieee.Order.{round-mono}
 use lib.Ieee.Scale.{grid}
-use Rattle.colour.specs.Bounds.{Within, Plus, Developed}
+use Rattle.colour.specs.Facts.Bounds.{Within, Plus, Developed}
 use Rattle.colour.specs.Pixel.{half, meanOf}
 use Rattle.colour.proofs.Magnitudes.{Exact, exact-0, exact-1, below-power, round-within, round-value, mul-opened, add-opened}
 use Rattle.colour.proofs.Magnitudes.{sum-opened, summed}

@@ -1,4 +1,5 @@
 -- The colour tags of IFD 0, in order of test.
+use Rattle.directory.specs.Names.{analogBalance, asShotNeutral, cameraCalibration1, forwardMatrix1, forwardMatrix2}
 use mathlib.Core.Bool.{true, false}
 use Prim.Native.Nat.{ℕ, _+_}
 use lib.Dec.{eqb}
@@ -6,29 +7,24 @@ use Rattle.reading.specs.Reading.{Reading, Reading.answer, pick}
 use Rattle.reading.specs.declared.number.Order.{Order}
 use Rattle.reading.specs.declared.fraction.FractionKind.{FractionKind}
 use Rattle.reading.specs.declared.fraction.FractionKind.the-variants as kind
-use Rattle.directory.specs.Out.{Out, Out.refused, Out.is, bind}
+use Rattle.directory.specs.Out.{Out, Out.is, bind}
 use Rattle.directory.specs.Entry.{codeOf}
 use Rattle.directory.specs.Tag.{valuesReading, notCarried, required}
 use Rattle.directory.specs.declared.entry.Kind.{Kind}
 use Rattle.directory.specs.declared.Ifd.{Ifd}
 use Rattle.directory.specs.declared.tag.Kinds.the-variants as kinds
 use Rattle.directory.specs.declared.tag.Rule.{Rule}
-use Rattle.colour.specs.Bounds.{Within, Beyond, All}
-use Rattle.colour.specs.Value.{tripleReading, TripleFrom}
+use Rattle.colour.specs.Value.{tripleReading}
 use Rattle.colour.specs.declared.Colour.{Colour}
-use Rattle.colour.specs.declared.Coloured.{Coloured}
-use Rattle.colour.specs.declared.Coloured.the-variants as coloured
 use Rattle.colour.specs.declared.value.Triple.{Triple}
 use Rattle.colour.specs.declared.tags.Matrix.{Matrix}
-use Rattle.colour.specs.declared.tags.Forward.{Forward}
-use Rattle.colour.specs.declared.tags.Forward.the-variants as forward
 
 abbrev pub matrixRule : Rule
-matrixRule = required 50964 kinds.SignedRational 9
+matrixRule = required forwardMatrix1 kinds.SignedRational 9
 
 -- a row of the forward matrix
 abbrev pub rowReading : Order → ℕ → Reading (Out Triple)
-rowReading o at = tripleReading o kind.SignedRational 8 50964 false at
+rowReading o at = tripleReading o kind.SignedRational 8 forwardMatrix1 false at
 
 -- 50964: "SRATIONAL 9, required, denominators not 0"
 unfoldable pub matrixReading : Ifd → Reading (Out Matrix)
@@ -40,7 +36,7 @@ matrixReading d =
     answer (is (record { x = x; y = y; z = z }))))))
 
 abbrev pub neutralRule : Rule
-neutralRule = required 50728 kinds.ShortOrRational 3
+neutralRule = required asShotNeutral kinds.ShortOrRational 3
 
 -- SHORT or RATIONAL, by the entry's type
 unfoldable pub neutralKind : Kind → FractionKind
@@ -49,7 +45,7 @@ neutralKind k = pick (eqb (codeOf k) 3) kind.Short kind.Rational
 -- 50728: "SHORT or RATIONAL 3, required, no numerator or denominator 0"
 unfoldable pub neutralReading : Ifd → Reading (Out Triple)
 neutralReading d =
-    bind (valuesReading d neutralRule) (λ v. tripleReading (d .order) (neutralKind (v .kind)) (v .size) 50728 true (v .place))
+    bind (valuesReading d neutralRule) (λ v. tripleReading (d .order) (neutralKind (v .kind)) (v .size) asShotNeutral true (v .place))
 
 abbrev pub colourOf : Matrix → Triple → Colour
 colourOf m n =
@@ -71,39 +67,9 @@ colourOf m n =
 -- "50723, 50727, 50965 present with any type: not carried"; then 50964 and 50728
 unfoldable pub colourReading : Ifd → Reading (Out Colour)
 colourReading d =
-    bind (notCarried d 50723) (λ _.
-    bind (notCarried d 50727) (λ _.
-    bind (notCarried d 50965) (λ _.
+    bind (notCarried d cameraCalibration1) (λ _.
+    bind (notCarried d analogBalance) (λ _.
+    bind (notCarried d forwardMatrix2) (λ _.
     bind (matrixReading d) (λ m.
     bind (neutralReading d) (λ n.
     answer (is (colourOf m n)))))))
-
-abbrev pub matrixOut : Forward → Out Matrix
-matrixOut (forward.Refused n d) = refused n d
-matrixOut (forward.Is v) = is v
-
-abbrev pub colourOut : Coloured → Out Colour
-colourOut (coloured.Refused n d) = refused n d
-colourOut (coloured.Is v) = is v
-
--- ---- what holds of accepted tags
-
-pub record Matrix-in (m : Matrix) : Type 0 where
-  pub x : TripleFrom false (m .x)
-  pub y : TripleFrom false (m .y)
-  pub z : TripleFrom false (m .z)
-
-abbrev pub MatrixIn : Forward → Type 0
-MatrixIn (forward.Refused n d) = Unit {0}
-MatrixIn (forward.Is m) = Matrix-in m
-
--- a number of the matrix is at most 2 ^ 32 in magnitude, one of the neutral at least 1 / 2 ^ 32
-pub record Colour-in (c : Colour) : Type 0 where
-  pub x : All (Within 0x1_0000_0000) (c .x0) (c .x1) (c .x2)
-  pub y : All (Within 0x1_0000_0000) (c .y0) (c .y1) (c .y2)
-  pub z : All (Within 0x1_0000_0000) (c .z0) (c .z1) (c .z2)
-  pub neutral : All (Beyond 0x1_0000_0000) (c .neutral0) (c .neutral1) (c .neutral2)
-
-abbrev pub ColourIn : Coloured → Type 0
-ColourIn (coloured.Refused n d) = Unit {0}
-ColourIn (coloured.Is c) = Colour-in c

@@ -2,22 +2,24 @@
 ghost use mathlib.Core.Path.{_≡_};
 ghost use mathlib.Core.Bool.{true};
 ghost use Rattle.reading.specs.Reading.{run};
-ghost use Rattle.directory.specs.Shape.{Tested};
-ghost use Rattle.colour.specs.Value.{tripleOut, TripleIn};
-ghost use Rattle.colour.specs.Tags.{neutralKind, colourOf, matrixOut, MatrixIn, matrixReading, neutralReading, colourOut, ColourIn, colourReading};
+ghost use Rattle.directory.specs.Facts.Shape.{Tested};
+ghost use Rattle.colour.specs.Facts.Value.{tripleOut, TripleIn};
+ghost use Rattle.colour.specs.Tags.{neutralKind, colourOf, matrixReading, neutralReading, colourReading};
+ghost use Rattle.colour.specs.Facts.Tags.{matrixOut, MatrixIn, colourOut, ColourIn};
 use crate::Colour;
-use crate::Coloured;
+use crate::ColourTest;
 use crate::value;
 use crate::value::Triple;
-use crate::value::Tripled;
+use crate::value::TripleTest;
 use directory::Ifd;
 use directory::Number;
 use directory::entry;
 use directory::entry::Kind;
+use directory::names;
 use directory::tag;
-use directory::tag::Given;
 use directory::tag::Kinds;
 use directory::tag::Rule;
+use directory::tag::ValuesTest;
 use reading::fraction::FractionKind;
 
 pub struct Matrix {
@@ -26,43 +28,59 @@ pub struct Matrix {
     pub z: Triple,
 }
 
-pub enum Forward {
+pub enum MatrixTest {
     Refused { number: usize, detail: usize },
     Is(Matrix),
 }
 
 // 50964.
-fn matrix_of(file: &[u8], ifd: Ifd) -> Forward
+fn matrix_of(file: &[u8], ifd: Ifd) -> MatrixTest
     requires { ⌜ Tested (now file) ifd ⌝ }
     ensures { λ r. ⌜ (matrixOut r ≡ run (now (file .entry)) (matrixReading ifd)) × MatrixIn r ⌝ }
 {
     let rule = Rule {
-        tag: 50964,
+        tag: names::FORWARD_MATRIX_1,
         kinds: Kinds::SignedRational,
         required: true,
         least: 9,
         most: 9,
     };
     let v = match tag::look_up(file, ifd, rule) {
-        Given::Refused { number, detail } => return Forward::Refused { number, detail },
-        Given::Is(v) => v,
+        ValuesTest::Refused { number, detail } => return MatrixTest::Refused { number, detail },
+        ValuesTest::Is(v) => v,
     };
     let place = v.place;
     let order = ifd.order;
     let kind = FractionKind::SignedRational;
-    let x = match value::triple_at(file, order, kind, 8, 50964, false, place) {
-        Tripled::Refused { number, detail } => return Forward::Refused { number, detail },
-        Tripled::Is(t) => t,
+    let x = match value::triple_at(file, order, kind, 8, names::FORWARD_MATRIX_1, false, place) {
+        TripleTest::Refused { number, detail } => return MatrixTest::Refused { number, detail },
+        TripleTest::Is(t) => t,
     };
-    let y = match value::triple_at(file, order, kind, 8, 50964, false, place + 24) {
-        Tripled::Refused { number, detail } => return Forward::Refused { number, detail },
-        Tripled::Is(t) => t,
+    let y = match value::triple_at(
+        file,
+        order,
+        kind,
+        8,
+        names::FORWARD_MATRIX_1,
+        false,
+        place + 24,
+    ) {
+        TripleTest::Refused { number, detail } => return MatrixTest::Refused { number, detail },
+        TripleTest::Is(t) => t,
     };
-    let z = match value::triple_at(file, order, kind, 8, 50964, false, place + 48) {
-        Tripled::Refused { number, detail } => return Forward::Refused { number, detail },
-        Tripled::Is(t) => t,
+    let z = match value::triple_at(
+        file,
+        order,
+        kind,
+        8,
+        names::FORWARD_MATRIX_1,
+        false,
+        place + 48,
+    ) {
+        TripleTest::Refused { number, detail } => return MatrixTest::Refused { number, detail },
+        TripleTest::Is(t) => t,
     };
-    Forward::Is(Matrix { x, y, z })
+    MatrixTest::Is(Matrix { x, y, z })
 }
 
 // SHORT or RATIONAL, by the entry's type.
@@ -78,27 +96,27 @@ fn neutral_kind(kind: Kind) -> FractionKind
 }
 
 // 50728.
-fn neutral_of(file: &[u8], ifd: Ifd) -> Tripled
+fn neutral_of(file: &[u8], ifd: Ifd) -> TripleTest
     requires { ⌜ Tested (now file) ifd ⌝ }
     ensures { λ r. ⌜ (tripleOut r ≡ run (now (file .entry)) (neutralReading ifd)) × TripleIn true r ⌝ }
 {
     let rule = Rule {
-        tag: 50728,
+        tag: names::AS_SHOT_NEUTRAL,
         kinds: Kinds::ShortOrRational,
         required: true,
         least: 3,
         most: 3,
     };
     let v = match tag::look_up(file, ifd, rule) {
-        Given::Refused { number, detail } => return Tripled::Refused { number, detail },
-        Given::Is(v) => v,
+        ValuesTest::Refused { number, detail } => return TripleTest::Refused { number, detail },
+        ValuesTest::Is(v) => v,
     };
     let size = v.size;
     let place = v.place;
     let order = ifd.order;
     let values_kind = v.kind;
     let kind = neutral_kind(values_kind);
-    value::triple_at(file, order, kind, size, 50728, true, place)
+    value::triple_at(file, order, kind, size, names::AS_SHOT_NEUTRAL, true, place)
 }
 
 fn joined(m: Matrix, n: Triple) -> Colour
@@ -121,29 +139,29 @@ fn joined(m: Matrix, n: Triple) -> Colour
 }
 
 // The colour tags, in order of test.
-pub fn colour_of(file: &[u8], ifd: Ifd) -> Coloured
+pub fn colour_of(file: &[u8], ifd: Ifd) -> ColourTest
     requires { ⌜ Tested (now file) ifd ⌝ }
     ensures { λ r. ⌜ (colourOut r ≡ run (now (file .entry)) (colourReading ifd)) × ColourIn r ⌝ }
 {
-    match tag::not_carried(file, ifd, 50723) {
-        Number::Refused { number, detail } => return Coloured::Refused { number, detail },
+    match tag::not_carried(file, ifd, names::CAMERA_CALIBRATION_1) {
+        Number::Refused { number, detail } => return ColourTest::Refused { number, detail },
         Number::Is(_) => {}
     }
-    match tag::not_carried(file, ifd, 50727) {
-        Number::Refused { number, detail } => return Coloured::Refused { number, detail },
+    match tag::not_carried(file, ifd, names::ANALOG_BALANCE) {
+        Number::Refused { number, detail } => return ColourTest::Refused { number, detail },
         Number::Is(_) => {}
     }
-    match tag::not_carried(file, ifd, 50965) {
-        Number::Refused { number, detail } => return Coloured::Refused { number, detail },
+    match tag::not_carried(file, ifd, names::FORWARD_MATRIX_2) {
+        Number::Refused { number, detail } => return ColourTest::Refused { number, detail },
         Number::Is(_) => {}
     }
     let matrix = match matrix_of(file, ifd) {
-        Forward::Refused { number, detail } => return Coloured::Refused { number, detail },
-        Forward::Is(m) => m,
+        MatrixTest::Refused { number, detail } => return ColourTest::Refused { number, detail },
+        MatrixTest::Is(m) => m,
     };
     let neutral = match neutral_of(file, ifd) {
-        Tripled::Refused { number, detail } => return Coloured::Refused { number, detail },
-        Tripled::Is(n) => n,
+        TripleTest::Refused { number, detail } => return ColourTest::Refused { number, detail },
+        TripleTest::Is(n) => n,
     };
-    Coloured::Is(joined(matrix, neutral))
+    ColourTest::Is(joined(matrix, neutral))
 }

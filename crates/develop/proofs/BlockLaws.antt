@@ -18,13 +18,15 @@ use Rattle.directory.proofs.Outs.{bind-refused, bind-is, bind-inverse, same-val
 use Rattle.levels.specs.Run.{runOf}
 use Rattle.levels.proofs.Runs.{run-same, run-at, length-run}
 use Rattle.levels.proofs.Unit.{unit, in-unit, unit-plain}
-use Rattle.raw.specs.Pattern.{patternReading, Pattern-in}
+use Rattle.raw.specs.Pattern.{patternReading}
+use Rattle.raw.specs.Facts.Pattern.{Pattern-in}
 use Rattle.raw.specs.declared.front.Picture.{Picture}
 use Rattle.raw.specs.declared.pattern.Pattern.{Pattern}
 use Rattle.raw.proofs.PatternLaws.{pattern-below}
-use Rattle.colour.specs.Bounds.{All, Plus, Developed, Finite}
+use Rattle.colour.specs.Facts.Bounds.{All, Plus, Developed, Finite}
 use Rattle.colour.specs.Pixel.{xyzOf, meanOf}
-use Rattle.colour.specs.Tags.{colourReading, Colour-in}
+use Rattle.colour.specs.Tags.{colourReading}
+use Rattle.colour.specs.Facts.Tags.{Colour-in}
 use Rattle.colour.specs.declared.Colour.{Colour}
 use Rattle.colour.specs.declared.pixel.Xyz.{Xyz}
 use Rattle.colour.proofs.Passes.{threeOf, three-stored}
@@ -32,13 +34,13 @@ use Rattle.colour.proofs.FinitePixel.{xyz-finite}
 use Rattle.colour.proofs.Mean.{mean-developed}
 use Rattle.opcodes.specs.Frame.{standing}
 use Rattle.opcodes.specs.declared.grid.Size.{Size}
-use Rattle.rows.specs.Part.{Sized-in}
+use Rattle.rows.specs.Facts.Part.{Sized-in}
 use Rattle.develop.specs.Calls.{Opened, halfFor, sizeOf, frameOf, inside, joined, valuesOf, windowWith, filledOf, channelOf, blocksOf}
 use Rattle.develop.specs.Calls.{blockAt}
 use Rattle.develop.specs.Calls.{blockXyz, blockIn, halvedOf, halfWindowOf, halfWindowCall}
 use Rattle.develop.specs.Demand.{developedIn, aloneIn}
-use Rattle.develop.specs.View.{Viewed}
-use Rattle.develop.specs.Fill.{Blocks-in, pairOf, blockRow, windowFault}
+use Rattle.develop.specs.Facts.View.{Viewed}
+use Rattle.develop.specs.Facts.Fill.{Blocks-in, pairOf, blockRow, windowFault}
 use Rattle.develop.specs.declared.View.{View}
 use Rattle.develop.specs.declared.half_window.Half.{Half}
 use Rattle.develop.proofs.Answers.{developed-alone, alone-is-unit, values-same, inside-fits}

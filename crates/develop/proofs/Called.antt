@@ -16,18 +16,18 @@ use Rattle.directory.specs.Out.{Out, Out.refused, Out.is}
 use Rattle.raw.specs.Sample.{ActiveIn}
 use Rattle.raw.specs.declared.front.Picture.{Picture}
 use Rattle.colour.specs.Tags.{colourReading}
-use Rattle.colour.specs.Pass.{passOf}
+use Rattle.colour.specs.Facts.Pass.{passOf}
 use Rattle.colour.specs.declared.Colour.{Colour}
 use Rattle.opcodes.specs.Frame.{standing, alone}
 use Rattle.opcodes.specs.declared.grid.Size.{Size}
 use Rattle.opcodes.proofs.OpcodeLists.{and-true}
-use Rattle.samples.specs.Line.{scaledIn}
+use Rattle.samples.specs.Facts.Line.{scaledFrom}
 use Rattle.develop.specs.Calls.{Opened, sizeOf, frameOf, within, refusedSpot, spotOf, spotCall, inside, valuesOf, windowWith}
 use Rattle.develop.specs.Calls.{refusedWindow, filledOf}
 use Rattle.develop.specs.Calls.{windowOf, windowCall, colourFor, pixelIn, colouredOf, colourWindowOf, colourWindowCall}
 use Rattle.develop.specs.Demand.{aloneIn}
-use Rattle.develop.specs.View.{Viewed}
-use Rattle.develop.specs.Fill.{Fill-in, windowFault}
+use Rattle.develop.specs.Facts.View.{Viewed}
+use Rattle.develop.specs.Facts.Fill.{Fill-in, windowFault}
 use Rattle.develop.specs.declared.View.{View}
 use Rattle.develop.proofs.Answers.{developed-alone, within-active, inside-fits, values-same}
 use Rattle.develop.proofs.Windows.{viewed-alone}
@@ -47,7 +47,7 @@ module _ (f : List ℕ) (v : View) (h : Viewed f v) (r c p : ℕ) where
 
   pub spot-viewed :
       within (v .size) r c p ≡ true → (y : Float) →
-      y ≡ alone (o .opcodes) r c p (scaledIn f (v .picture .order) (v .picture .raw .tags) r c p) →
+      y ≡ alone (o .opcodes) r c p (scaledFrom f (v .picture .order) (v .picture .raw .tags) r c p) →
       record { number = 0; detail = 0; value = y } ≡ spotCall f r c p
   spot-viewed t y e =
       let a : ActiveIn (o .picture .raw .tags) r c p = within-active (o .picture) r c p (within-is ∙ t) in

@@ -10,7 +10,7 @@ use lib.Ieee.{Float}
 use lib.ListN.{getD, List·getD-eq-default}
 use borrow.Author.Tests.{ltb-true, ltb-false}
 use Rattle.develop.specs.Calls.{valuesOf}
-use Rattle.develop.specs.Demand.{rowAt, columnAt}
+use Rattle.develop.specs.Demand.{slotRow, slotColumn}
 use Rattle.develop.proofs.Windows.{some-of, window-length, values-at}
 
 -- a place of h rows of w pixels of n values: its row, its pixel there and its value of the pixel
@@ -36,14 +36,14 @@ place-is w n k =
 
 module _ (x y : ℕ → ℕ → ℕ → Float) (t l h w n k : ℕ) (d : Float) where
   values-place : (z : ℕ → ℕ → ℕ → Float) → k < h * (w * n) →
-      getD (valuesOf z t l h w n) k d ≡ z (rowAt t w n k) (columnAt l w n k) (k % n)
+      getD (valuesOf z t l h w n) k d ≡ z (slotRow t w n k) (slotColumn l w n k) (k % n)
   values-place z b =
       let p = place-in h w n k b in
       ap (λ (i : ℕ). getD (valuesOf z t l h w n) i d) (sym (place-is w n k))
       ∙ values-at z t l h w n (k / n / w) (k / n % w) (k % n) d (p .row) (p .column) (p .plane)
 
   -- two windows agree in a place where their functions do
-  pub place-same : (Place-in h w n k → x (rowAt t w n k) (columnAt l w n k) (k % n) ≡ y (rowAt t w n k) (columnAt l w n k) (k % n)) →
+  pub place-same : (Place-in h w n k → x (slotRow t w n k) (slotColumn l w n k) (k % n) ≡ y (slotRow t w n k) (slotColumn l w n k) (k % n)) →
       getD (valuesOf x t l h w n) k d ≡ getD (valuesOf y t l h w n) k d
   place-same e = go (ltb k (h * (w * n))) refl
     where

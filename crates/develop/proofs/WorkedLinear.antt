@@ -17,7 +17,7 @@ use Rattle.raw.specs.Sample.{cellOf, ActiveIn}
 use Rattle.colour.specs.declared.Colour.{Colour}
 use Rattle.develop.specs.Calls.{Opened, opened, opcodesOf, colourFor, halfFor, frameOf, pixelIn, filledOf, colouredOf}
 use Rattle.develop.specs.Calls.{colourWindowOf, colourWindowCall}
-use Rattle.develop.specs.Demand.{storedPlace, Tagless, Unread-but-sample, Same-elsewhere, Demand-3}
+use Rattle.develop.specs.Demand.{storedPlace, Not-in-tags, Unread-but-sample, Same-elsewhere, Demand-3}
 use Rattle.develop.proofs.Views.{open-is}
 use Rattle.develop.proofs.Demands.{meets-demand-3}
 use Rattle.develop.proofs.Linear.{unitColour, file, found, picture, stored, held}
@@ -40,7 +40,7 @@ no-half : (i : ℕ) → reads (trace file (halfFor picture)) i ≡ false
 unfolding halfFor pick trace reads
 no-half i = refl
 
-tagless : (i : ℕ) → 218 ≤ i → i < 230 → Tagless file held i
+tagless : (i : ℕ) → 218 ≤ i → i < 230 → Not-in-tags file held i
 tagless i a b = (
   unread-in 218 230 (traceWhole file frontReading) (fronts .1 .unread) i a b,
   unread-in 218 230 (trace file (storedReading Little found)) (values .1 .unread) i a b,

@@ -13,7 +13,7 @@ use Rattle.raw.specs.Raw.{activeRows, activeColumns}
 use Rattle.raw.specs.Front.{frontReading}
 use Rattle.raw.specs.Pattern.{patternReading}
 use Rattle.raw.specs.Stored.{Stored, storedReading}
-use Rattle.raw.specs.Sample.{scaledOf}
+use Rattle.raw.specs.Sample.{scaledSample}
 use Rattle.raw.specs.declared.front.Picture.{Picture}
 use Rattle.opcodes.specs.Opcode.{Opcode}
 use Rattle.opcodes.specs.OpcodeList.{listReading, keptIn, skippedIn}
@@ -69,7 +69,7 @@ halfFor p =
 
 -- the scaled value at an active row, an active column and a plane
 abbrev pub scaledIn : List ℕ → Opened → ℕ → ℕ → ℕ → Float
-scaledIn f o r c p = scaledOf f (o .picture .order) (o .picture .raw .tags) (o .stored) r c p
+scaledIn f o r c p = scaledSample f (o .picture .order) (o .picture .raw .tags) (o .stored) r c p
 
 -- "The frame holds one f64 per active sample, at first its scaled value"; "The numbers after the last correction .. are the
 -- developed values"

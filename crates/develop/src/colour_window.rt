@@ -2,7 +2,7 @@
 ghost use mathlib.Core.Path.{_≡_};
 ghost use Rattle.directory.specs.Out;
 ghost use Rattle.develop.specs.Calls.{windowWith, colouredOf, colourWindowCall};
-ghost use Rattle.develop.specs.View.{Viewed};
+ghost use Rattle.develop.specs.Facts.View.{Viewed};
 use crate::Answer;
 use crate::Opening;
 use crate::View;
@@ -10,7 +10,7 @@ use crate::fill;
 use crate::fill::Rectangle;
 use crate::window;
 use colour::Colour;
-use colour::Coloured;
+use colour::ColourTest;
 use colour::pass;
 use colour::tags;
 
@@ -60,8 +60,17 @@ fn colour_window_in(
     if size.samples == 3 {
         let first = view.picture.first;
         return match tags::colour_of(file, first) {
-            Coloured::Refused { number, detail } => Answer { number, detail },
-            Coloured::Is(colour) => coloured_in(file, view, colour, top, left, height, width, out),
+            ColourTest::Refused { number, detail } => Answer { number, detail },
+            ColourTest::Is(colour) => coloured_in(
+                file,
+                view,
+                colour,
+                top,
+                left,
+                height,
+                width,
+                out,
+            ),
         };
     }
     Answer {

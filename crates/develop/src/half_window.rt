@@ -4,16 +4,16 @@ ghost use Prim.Native.Nat.{ℕ, _+_, _*_, _≤_, _<_};
 ghost use lib.ListN.{length};
 ghost use Rattle.reading.specs.Reading.{run};
 ghost use Rattle.directory.specs.Out;
-ghost use Rattle.raw.specs.Front.{Picture-in};
-ghost use Rattle.raw.specs.Pattern.{Pattern-in};
-ghost use Rattle.colour.specs.Bounds.{All, Developed, Finite};
-ghost use Rattle.colour.specs.Tags.{Colour-in};
+ghost use Rattle.raw.specs.Facts.Front.{Picture-in};
+ghost use Rattle.raw.specs.Facts.Pattern.{Pattern-in};
+ghost use Rattle.colour.specs.Facts.Bounds.{All, Developed, Finite};
+ghost use Rattle.colour.specs.Facts.Tags.{Colour-in};
 ghost use Rattle.raw.specs.Stored.{levelsReading};
-ghost use Rattle.samples.specs.Along.{Along-in, Deltas-in};
+ghost use Rattle.samples.specs.Facts.Along.{Along-in, Deltas-in};
 ghost use Rattle.develop.specs.Calls.{valuesOf, windowWith, halfFor, blocksOf, blockAt, blockXyz, blockIn, halvedOf, halfWindowCall};
 ghost use Rattle.develop.specs.Demand.{aloneIn};
-ghost use Rattle.develop.specs.View.{Viewed};
-ghost use Rattle.develop.specs.Fill.{numberOf, Upto, halfOut, Blocks-in, Stretch-in, pairOf, blockRow};
+ghost use Rattle.develop.specs.Facts.View.{Viewed};
+ghost use Rattle.develop.specs.Facts.Fill.{numberOf, Upto, halfOut, Blocks-in, Stretch-in, pairOf, blockRow};
 use crate::Answer;
 use crate::Opening;
 use crate::View;
@@ -21,7 +21,7 @@ use crate::fill;
 use crate::fill::Rectangle;
 use crate::window;
 use colour::Colour;
-use colour::Coloured;
+use colour::ColourTest;
 use colour::pixel;
 use colour::pixel::Xyz;
 use colour::tags;
@@ -30,7 +30,7 @@ use opcodes::grid::Size;
 use raw::front::Picture;
 use raw::pattern;
 use raw::pattern::Pattern;
-use raw::pattern::Patterned;
+use raw::pattern::PatternTest;
 use reading::number;
 use samples::along;
 
@@ -57,12 +57,12 @@ fn half_of(file: &[u8], picture: Picture) -> Halved
         };
     }
     let colour = match tags::colour_of(file, picture.first) {
-        Coloured::Refused { number, detail } => return Halved::Refused { number, detail },
-        Coloured::Is(c) => c,
+        ColourTest::Refused { number, detail } => return Halved::Refused { number, detail },
+        ColourTest::Is(c) => c,
     };
     match pattern::pattern_of(file, picture.directory) {
-        Patterned::Refused { number, detail } => Halved::Refused { number, detail },
-        Patterned::Is(pattern) => Halved::Is(Half { colour, pattern }),
+        PatternTest::Refused { number, detail } => Halved::Refused { number, detail },
+        PatternTest::Is(pattern) => Halved::Is(Half { colour, pattern }),
     }
 }
 

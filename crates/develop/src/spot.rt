@@ -2,7 +2,7 @@
 ghost use mathlib.Core.Path.{_≡_};
 ghost use Rattle.develop.specs.Calls.{spotCall};
 ghost use Rattle.develop.specs.Calls;
-ghost use Rattle.develop.specs.View.{Viewed};
+ghost use Rattle.develop.specs.Facts.View.{Viewed};
 use crate::Opening;
 use crate::View;
 use levels::active::ActiveColumn;

@@ -15,14 +15,19 @@ use Rattle.reading.specs.declared.number.Order.{Order}
 use Rattle.reading.specs.declared.number.Order.the-variants.{Little, Big}
 use Rattle.reading.proofs.Reading.{run-answer, run-ask, run-andThen}
 use Rattle.directory.specs.Out.{Out, Out.refused, Out.is}
-use Rattle.directory.specs.Widths.{headWidth, entryWidth, classic, bigTiff, Laid}
-use Rattle.directory.specs.Entry.{bytesOf, headerOf}
-use Rattle.directory.specs.Shape.{shapeFrom, ifd, ifdReading, Tested}
-use Rattle.directory.specs.Tag.{findFrom, foundReading, FoundIn, allowsOf, testedReading, absentOf, noValues, valuesReading, Placed}
-use Rattle.directory.specs.Tag.{Placed-values, faultOf, judgedOf, firstReading, oneReading, InRange}
+use Rattle.directory.specs.Widths.{headWidth, entryWidth, classic, bigTiff}
+use Rattle.directory.specs.Facts.Widths.{Widths-in}
+use Rattle.directory.specs.Entry.{bytesOf, entryOf}
+use Rattle.directory.specs.Shape.{shapeFrom, ifd, ifdReading}
+use Rattle.directory.specs.Facts.Shape.{Tested}
+use Rattle.directory.specs.Tag.{findFrom, foundReading, allowsOf, testedReading, absentOf, noValues, valuesReading}
+use Rattle.directory.specs.Facts.Tag.{FoundIn, Placed}
+use Rattle.directory.specs.Tag.{rangeFault, judgedOf, firstReading, oneReading}
+use Rattle.directory.specs.Facts.Tag.{Placed-values, InRange}
 use Rattle.directory.specs.Tree.{lookReading, versionReading, Seen, raw-one, parent, Walked, raw, left, afterLook, afterChild}
 use Rattle.directory.specs.Tree.{childrenReading, visitReading, listVisit, walkReading, afterWalk, roots, rootReading}
-use Rattle.directory.specs.Tree.{offsetReading, bigTiffReading, treeReading, Rooted}
+use Rattle.directory.specs.Tree.{offsetReading, bigTiffReading, treeReading}
+use Rattle.directory.specs.Facts.Tree.{Rooted}
 use Rattle.directory.specs.declared.Ifd.{Ifd}
 use Rattle.directory.specs.declared.Widths.{Widths}
 use Rattle.directory.specs.declared.entry.Entry.{Entry}
@@ -58,7 +63,7 @@ either f p q v true x y e = x e
 either f p q v false x y e = y e
 
 -- ---- a directory
-pub ifd-tested : (w : Widths) → Laid w → (f : List ℕ) (o : Order) (at : ℕ) (d : Ifd) → is d ≡ run f (ifdReading w (length f) o at) →
+pub ifd-tested : (w : Widths) → Widths-in w → (f : List ℕ) (o : Order) (at : ℕ) (d : Ifd) → is d ≡ run f (ifdReading w (length f) o at) →
     Tested f d
 unfolding ifdReading
 ifd-tested w laid f o at d e =
@@ -98,7 +103,7 @@ module _ (f : List ℕ) where
   after-look t d r k h raw-one e = subst Raw-tested (sym (same-value t (raw d) (e ∙ run-answer f _))) r
   after-look t d r k h (parent p s n) e = h p s n e
 
-  visit-tested : (w : Widths) → Laid w → (o : Order) (d at v : ℕ) (t : Walked) →
+  visit-tested : (w : Widths) → Widths-in w → (o : Order) (d at v : ℕ) (t : Walked) →
       is t ≡ run f (visitReading w (length f) o d at v) → Raw-tested t
   unfolding visitReading
   visit-tested w laid o zero at v t e = absurd (not-refused t 6 0 (e ∙ run-answer f _))
@@ -126,7 +131,7 @@ module _ (f : List ℕ) where
         subst (Rooted f) (sym (same-value r (roots e d) (q ∙ run-answer f _))) (record { size = z; first = h; raw = k })
     after-walk z e h (left v) k q = absurd (not-refused r 6 0 (q ∙ run-answer f _))
 
-    offset-rooted : (w : Widths) → Laid w → (o : Order) (at : ℕ) → length f ≤ 67108864 →
+    offset-rooted : (w : Widths) → Widths-in w → (o : Order) (at : ℕ) → length f ≤ 67108864 →
         is r ≡ run f (offsetReading w (length f) o at) → Rooted f r
     unfolding offsetReading rootReading
     offset-rooted w laid o at z q =
@@ -163,7 +168,7 @@ step-fits at s n size h = let e = mul-suc s n in (omega arith, omega arith)
 
 module _ (w : Widths) (f : List ℕ) (o : Order) (tag size : ℕ) where
   found-step : (n at : ℕ) → at + entryWidth w ≤ size → FoundIn w size (run f (findFrom w o n (at + entryWidth w) tag)) →
-      (b : Bool) → eqb (headerOf w o (part f at (headWidth w)) .tag) tag ≡ b → FoundIn w size (run f (findFrom w o (suc n) at tag))
+      (b : Bool) → eqb (entryOf w o (part f at (headWidth w)) .tag) tag ≡ b → FoundIn w size (run f (findFrom w o (suc n) at tag))
   found-step n at h k true q =
       subst (FoundIn w size) (find-here w f o at tag (suc n) n (omega arith) _ refl (eqb-true _ _ q)) (omega arith)
   found-step n at h k false q =
@@ -173,7 +178,7 @@ module _ (w : Widths) (f : List ℕ) (o : Order) (tag size : ℕ) where
   found-inside zero at h = subst (FoundIn w size) (find-none w f o at tag) tt
   found-inside (suc n) at h =
       let k = step-fits at (entryWidth w) n size h in
-      found-step n at (k .0) (found-inside n (at + entryWidth w) (k .1)) (eqb (headerOf w o (part f at (headWidth w)) .tag) tag) refl
+      found-step n at (k .0) (found-inside n (at + entryWidth w) (k .1)) (eqb (entryOf w o (part f at (headWidth w)) .tag) tag) refl
 
 -- ---- a tag's values
 module _ (f : List ℕ) (r : Rule) (v : Values) where
@@ -224,8 +229,8 @@ module _ (f : List ℕ) (r : Rule) (v : Values) where
       go (found.At p x) q i h = tested-placed w o p x i h (e ∙ values-found f d r (found.At p x) q)
 
 -- ---- a number is in its range
-pub fault-in : (r : Range) (v : ℕ) → faultOf r v ≡ 0 → InRange r v
-unfolding faultOf pick
+pub fault-in : (r : Range) (v : ℕ) → rangeFault r v ≡ 0 → InRange r v
+unfolding rangeFault pick
 fault-in r v e = go (ltb v (r .legal)) (ltb v (r .from)) (ltb (r .to) v) refl refl refl e
   where
     go : (a b c : Bool) → ltb v (r .legal) ≡ a → ltb v (r .from) ≡ b → ltb (r .to) v ≡ c →
@@ -236,9 +241,9 @@ fault-in r v e = go (ltb v (r .legal)) (ltb v (r .from)) (ltb (r .to) v) refl re
     go false false false x y z q = record { legal = ltb-false _ _ x; from = ltb-false _ _ y; to = ltb-false _ _ z }
 
 pub judged-in : (tag : ℕ) (r : Range) (v n : ℕ) → is n ≡ judgedOf tag r v → InRange r n
-judged-in tag r v n e = go (eqb (faultOf r v) 0) refl
+judged-in tag r v n e = go (eqb (rangeFault r v) 0) refl
   where
-    go : (b : Bool) → eqb (faultOf r v) 0 ≡ b → InRange r n
+    go : (b : Bool) → eqb (rangeFault r v) 0 ≡ b → InRange r n
     go true q =
         let z = eqb-true _ _ q in
         subst (InRange r) (sym (same-value n v (e ∙ sym (judged-is tag r v z)))) (fault-in r v z)

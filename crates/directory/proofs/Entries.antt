@@ -12,12 +12,13 @@ use borrow.Author.Tests.{eqb-true, eqb-false, leb-true, leb-false, eq-eqb, ne-eq
 use lib.Ieee.Fits.{and-l, and-r}
 use lib.ListN.{getD, List·getD-map}
 use Rattle.reading.specs.Bytes.{part}
-use Rattle.reading.specs.Number.{numberOf, Wide}
+use Rattle.reading.specs.Number.{numberOf}
+use Rattle.reading.specs.Facts.Number.{Wide}
 use Rattle.reading.specs.declared.number.Order.{Order}
 use Rattle.reading.proofs.Bytes.{part-part}
 use Rattle.reading.proofs.Reading.{pick-yes, pick-no}
 use Rattle.directory.specs.Widths.{headWidth, entryWidth}
-use Rattle.directory.specs.Entry.{kinds, kindOf, codeOf, plainOf, sizes, sizeOf, headerOf}
+use Rattle.directory.specs.Entry.{kinds, kindOf, codeOf, plainOf, sizes, sizeOf, entryOf}
 use Rattle.directory.specs.declared.Widths.{Widths}
 use Rattle.directory.specs.declared.entry.Kind.{Kind}
 use Rattle.directory.specs.declared.entry.Kind.the-variants as kind
@@ -123,14 +124,14 @@ module _ (w : Widths) (f : List ℕ) (o : Order) (at : ℕ) where
   field : (i n : ℕ) → i + n ≤ headWidth w → numberOf o (part (part f at (headWidth w)) i n) ≡ numberOf o (part f (at + i) n)
   field i n h = ap (numberOf o) (part-part f at (headWidth w) i n h)
 
-  pub head-tag : headerOf w o (part f at (headWidth w)) .tag ≡ numberOf o (part f at 2)
-  unfolding headerOf
+  pub head-tag : entryOf w o (part f at (headWidth w)) .tag ≡ numberOf o (part f at 2)
+  unfolding entryOf
   head-tag = let z : at + 0 ≡ at = omega arith in field 0 2 (omega arith) ∙ ap (λ (p : ℕ). numberOf o (part f p 2)) z
 
   pub header-at : (t n : ℕ) (k : Kind) →
       t ≡ numberOf o (part f at 2) → k ≡ kindOf (w .types) (numberOf o (part f (at + 2) 2)) → n ≡ numberOf o (part f (at + 4) (w .word)) →
-      _≡_ {A = Entry} (record { tag = t; kind = k; count = n }) (headerOf w o (part f at (headWidth w)))
-  unfolding headerOf
+      _≡_ {A = Entry} (record { tag = t; kind = k; count = n }) (entryOf w o (part f at (headWidth w)))
+  unfolding entryOf
   header-at t n k et ek en =
       let p = et ∙ sym head-tag in
       let q = ek ∙ ap (kindOf (w .types)) (sym (field 2 2 (omega arith))) in

@@ -22,7 +22,8 @@ use Rattle.directory.specs.Widths.{headWidth, entryWidth}
 use Rattle.directory.specs.Entry.{codeOf, plainOf, bytesOf}
 use Rattle.directory.specs.Tag.{findFrom, foundReading, allowsOf, valuesAt, noValues, wholeReading, valueReading, testedReading}
 use Rattle.directory.specs.Tag.{absentOf, valuesFound, valuesReading, notCarried, ifAbsent, judgedOf, firstReading, oneReading}
-use Rattle.directory.specs.Tag.{eachReading, allReading, SizeIn}
+use Rattle.directory.specs.Tag.{eachReading, allReading}
+use Rattle.directory.specs.Facts.Tag.{SizeIn}
 use Rattle.directory.specs.declared.Ifd.{Ifd}
 use Rattle.directory.specs.declared.Widths.{Widths}
 use Rattle.directory.specs.declared.entry.Kind.{Kind}
@@ -127,8 +128,8 @@ module _ (w : Widths) (f : List ℕ) (o : Order) (j : ℕ) where
       let later : reads rest j ≡ false = off-rest j (stretch at (headWidth w)) rest h in
       unread-ask f j at (headWidth w) _ (off-first j (stretch at (headWidth w)) rest h)
       (unread-pick f j (eqb (headAt w f o at .tag) tag) (answer (found.At (at + headWidth w) (headAt w f o at)))
-          (findFrom w o n (at + entryWidth w) tag)
-          (λ _. unread-answer f j (found.At (at + headWidth w) (headAt w f o at))) (λ _. find-unread tag n (at + entryWidth w) later))
+      (findFrom w o n (at + entryWidth w) tag)
+      (λ _. unread-answer f j (found.At (at + headWidth w) (headAt w f o at))) (λ _. find-unread tag n (at + entryWidth w) later))
 
   whole-unread : (p : ℕ) (e : Entry) → Off j p (bytesOf e) → Unread f j (wholeReading p e)
   unfolding wholeReading
@@ -148,8 +149,8 @@ module _ (w : Widths) (f : List ℕ) (o : Order) (j : ℕ) where
       go false g =
           let rest : List Stretch = stretch (numberOf o (part f p (w .word))) (bytesOf e) ∷ [] in
           let here : Unread f j (wholeReading (numberOf o (part f p (w .word))) e) =
-              whole-unread _ e (off-first j (stretch (numberOf o (part f p (w .word))) (bytesOf e)) []
-              (off-rest j (stretch p (w .word)) rest g)) in
+          whole-unread _ e (off-first j (stretch (numberOf o (part f p (w .word))) (bytesOf e)) []
+          (off-rest j (stretch p (w .word)) rest g)) in
           unread-then f j (numberAt o p (w .word)) (λ (q : ℕ). wholeReading q e)
           (unread-number f j o p (w .word) (off-first j (stretch p (w .word)) rest g))
           (subst (λ (q : ℕ). Unread f j (wholeReading q e)) (sym (run-number f o p (w .word))) here)
@@ -177,9 +178,9 @@ module _ (w : Widths) (f : List ℕ) (o : Order) (j : ℕ) where
   tested-unread r p e h =
       unread-pick f j (allowsOf (r .kinds) (e .kind)) _ (answer (refused 4 (r .tag)))
       (λ k. unread-pick f j (leb (r .least) (e .count)) _ (answer (refused 4 (r .tag)))
-          (λ _. unread-pick f j (leb (e .count) (r .most)) (valueReading w o p e) (answer (refused 4 (r .tag)))
-              (λ _. h k) (λ _. unread-answer f j (refused 4 (r .tag))))
-          (λ _. unread-answer f j (refused 4 (r .tag))))
+      (λ _. unread-pick f j (leb (e .count) (r .most)) (valueReading w o p e) (answer (refused 4 (r .tag)))
+      (λ _. h k) (λ _. unread-answer f j (refused 4 (r .tag))))
+      (λ _. unread-answer f j (refused 4 (r .tag))))
       (λ _. unread-answer f j (refused 4 (r .tag)))
 
   found-unread : (r : Rule) (x : Found) → reads (valueAsked w f o x) j ≡ false → Unread f j (valuesFound w o r x)
@@ -258,7 +259,7 @@ module _ (f : List ℕ) (j : ℕ) (r : Rule) (v : Values) where
             (k : Bool) → allowsOf (r .kinds) (e .kind) ≡ k → (l : Bool) → leb (r .least) (e .count) ≡ l →
             (m : Bool) → leb (e .count) (r .most) ≡ m → (b : Bool) → leb (bytesOf e) (w .word) ≡ b →
             reads (pick b (stretch p (bytesOf e) ∷ [])
-                (stretch p (w .word) ∷ stretch (numberOf o (part f p (w .word))) (bytesOf e) ∷ [])) j ≡ false →
+            (stretch p (w .word) ∷ stretch (numberOf o (part f p (w .word))) (bytesOf e) ∷ [])) j ≡ false →
             Values-off j r v
         go false ek l el m em b eb g = absurd (not-refused v 4 (r .tag) (t ∙ sym (kind-wrong w f o r p e ek)))
         go true ek false el m em b eb g = absurd (not-refused v 4 (r .tag) (t ∙ sym (count-low w f o r p e ek (leb-false _ _ el))))
@@ -317,9 +318,9 @@ module _ (f : List ℕ) (j : ℕ) (o : Order) where
   first-unread tag default r v h =
       unread-pick f j (eqb (v .count) 0) (answer (judgedOf tag r default)) _ (λ _. unread-answer f j (judgedOf tag r default))
       (λ e. let z : v .count ≡ 0 → ⊥ = eqb-false _ _ e in
-          unread-then f j (numberAt o (v .place) (v .size)) _
-          (unread-number f j o (v .place) (v .size) (first-off j (v .place) (v .size) (v .count) h (omega arith)))
-          (unread-answer f j (judgedOf tag r _)))
+      unread-then f j (numberAt o (v .place) (v .size)) _
+      (unread-number f j o (v .place) (v .size) (first-off j (v .place) (v .size) (v .count) h (omega arith)))
+      (unread-answer f j (judgedOf tag r _)))
 
   pub each-unread : (s tag : ℕ) (r : Range) (n p : ℕ) → Off j p (s * n) → Unread f j (eachReading o s tag r n p)
   unfolding eachReading
@@ -328,7 +329,7 @@ module _ (f : List ℕ) (j : ℕ) (o : Order) where
       let m = mul-suc s n in
       unread-bind f j (andThen (numberAt o p s) (λ (v : ℕ). answer (judgedOf tag r v))) _
       (unread-then f j (numberAt o p s) _ (unread-number f j o p s (off-inside j p (s * suc n) p s h (omega arith) (omega arith)))
-          (unread-answer f j (judgedOf tag r _)))
+      (unread-answer f j (judgedOf tag r _)))
       (λ _ _. each-unread s tag r n (p + s) (off-inside j p (s * suc n) (p + s) (s * n) h (omega arith) (omega arith)))
 
 module _ (f : List ℕ) (d : Ifd) (j : ℕ) (heads : reads (headsOf d) j ≡ false) (r : Rule)
@@ -346,5 +347,5 @@ module _ (f : List ℕ) (d : Ifd) (j : ℕ) (heads : reads (headsOf d) j ≡ fal
   all-unread range =
       unread-bind f j (valuesReading d r) _ (other-value-unread f d j heads r value)
       (λ v e. unread-bind f j (eachReading (d .order) (v .size) (r .tag) range (v .count) (v .place)) _
-          (each-unread f j (d .order) (v .size) (r .tag) range (v .count) (v .place) (values-off f d j r v e value .off))
-          (λ _ _. unread-answer f j (is v)))
+      (each-unread f j (d .order) (v .size) (r .tag) range (v .count) (v .place) (values-off f d j r v e value .off))
+      (λ _ _. unread-answer f j (is v)))

@@ -12,19 +12,22 @@ use lib.ListN.{length, getD}
 use mir.Val.{hasKey}
 use borrow.Author.Tests.{eqb-true, eqb-false, leb-true, leb-false, ltb-true, ltb-false, le-leb, lt-leb, eq-eqb, ne-eqb}
 use Rattle.reading.specs.Bytes.{part}
-use Rattle.reading.specs.Number.{numberOf, Wide}
+use Rattle.reading.specs.Number.{numberOf}
+use Rattle.reading.specs.Facts.Number.{Wide}
 use Rattle.reading.specs.Reading.{Reading.answer, Reading.ask, andThen, run, trace, pick, numberAt}
 use Rattle.reading.specs.declared.number.Order.{Order}
 use Rattle.reading.proofs.Reading.{running, run-answer, run-ask, run-then, pick-yes, pick-no, trace-answer}
 use Rattle.directory.specs.Out.{Out, Out.refused, Out.is}
 use Rattle.directory.specs.Widths.{headWidth, entryWidth}
-use Rattle.directory.specs.Entry.{codeOf, plainOf, sizes, sizeOf, bytesOf, headerOf}
+use Rattle.directory.specs.Entry.{codeOf, plainOf, sizes, sizeOf, bytesOf, entryOf}
 use Rattle.directory.specs.Shape.{entryReading, shapeFrom}
 use Rattle.directory.specs.Tag.{findFrom, foundReading, allowsOf, valuesAt, noValues, wholeReading, valueReading, testedReading}
 use Rattle.directory.specs.Tag.{valuesFound}
-use Rattle.directory.specs.Tag.{valuesOut, valuesReading, ValuesIn, Placed, Long, SizeIn, Numeric, Placed-values, required, optional}
-use Rattle.directory.specs.Tag.{faultOf}
-use Rattle.directory.specs.Tag.{judgedOf, firstReading, eachReading, InRange, NumberIn}
+use Rattle.directory.specs.Tag.{valuesReading, required, optional}
+use Rattle.directory.specs.Facts.Tag.{valuesOut, ValuesIn, Placed, Long, SizeIn, Numeric, Placed-values}
+use Rattle.directory.specs.Tag.{rangeFault}
+use Rattle.directory.specs.Tag.{judgedOf, firstReading, eachReading}
+use Rattle.directory.specs.Facts.Tag.{InRange, NumberIn}
 use Rattle.directory.specs.declared.Ifd.{Ifd}
 use Rattle.directory.specs.declared.Widths.{Widths}
 use Rattle.directory.specs.declared.Number.{Number}
@@ -38,8 +41,8 @@ use Rattle.directory.specs.declared.tag.Kinds.the-variants as kinds
 use Rattle.directory.specs.declared.tag.Rule.{Rule}
 use Rattle.directory.specs.declared.tag.Range.{Range}
 use Rattle.directory.specs.declared.tag.Values.{Values}
-use Rattle.directory.specs.declared.tag.Given.{Given}
-use Rattle.directory.specs.declared.tag.Given.the-variants as given
+use Rattle.directory.specs.declared.tag.ValuesTest.{ValuesTest}
+use Rattle.directory.specs.declared.tag.ValuesTest.the-variants as given
 use Rattle.directory.proofs.Entries.{plain-is}
 use Rattle.directory.proofs.Outs.{bind-refused, bind-is, not-refused}
 use Rattle.directory.proofs.Shapes.{entry-outside, shape-refused, shape-order, shape-next}
@@ -50,7 +53,7 @@ module _ (w : Widths) (f : List ℕ) (o : Order) (at tag : ℕ) where
   unfolding findFrom
   find-none = simp running
 
-  module _ (n m : ℕ) (h : n ≡ m + 1) (e : Entry) (head : e ≡ headerOf w o (part f at (headWidth w))) where
+  module _ (n m : ℕ) (h : n ≡ m + 1) (e : Entry) (head : e ≡ entryOf w o (part f at (headWidth w))) where
     pub find-here : e .tag ≡ tag → found.At (at + headWidth w) e ≡ run f (findFrom w o n at tag)
     unfolding findFrom
     find-here t = rw (h, add-one m, run-ask, ← head, eq-eqb _ _ t, pick-yes, run-answer)
@@ -66,12 +69,12 @@ PlacedIn w f o (found.At p e) = Placed w f o p e
 
 module _ (w : Widths) (f : List ℕ) (o : Order) where
   entry-placed : (at t : ℕ) → is t ≡ run f (entryReading w (length f) o at) →
-      Placed w f o (at + headWidth w) (headerOf w o (part f at (headWidth w)))
+      Placed w f o (at + headWidth w) (entryOf w o (part f at (headWidth w)))
   unfolding Placed
   entry-placed at t r b = go (leb (p + bytesOf e) (length f)) refl
     where
       e : Entry
-      e = headerOf w o (part f at (headWidth w))
+      e = entryOf w o (part f at (headWidth w))
 
       p : ℕ
       p = numberOf o (part f (at + headWidth w) (w .word))
@@ -85,17 +88,17 @@ module _ (w : Widths) (f : List ℕ) (o : Order) where
         ((t : ℕ) → is z ≡ run f (shapeFrom w (length f) o n (at + entryWidth w) t) →
         PlacedIn w f o (run f (findFrom w o n (at + entryWidth w) tag))) →
         is z ≡ run f (shapeFrom w (length f) o (suc n) at low) →
-        (r : Out ℕ) → r ≡ run f (entryReading w (length f) o at) → (b : Bool) → eqb (headerOf w o (part f at (headWidth w)) .tag) tag ≡ b →
+        (r : Out ℕ) → r ≡ run f (entryReading w (length f) o at) → (b : Bool) → eqb (entryOf w o (part f at (headWidth w)) .tag) tag ≡ b →
         PlacedIn w f o (run f (findFrom w o (suc n) at tag))
     unfolding PlacedIn
     found-step n at low z rec s (refused k d) e b q = absurd
         (not-refused z k d (s ∙ sym (shape-refused w f (length f) o at low (suc n) n (omega arith) k d e)))
     found-step n at low z rec s (is t) e true q =
-        subst (PlacedIn w f o) (find-here w f o at tag (suc n) n (omega arith) (headerOf w o (part f at (headWidth w))) refl
+        subst (PlacedIn w f o) (find-here w f o at tag (suc n) n (omega arith) (entryOf w o (part f at (headWidth w))) refl
         (eqb-true _ _ q))
         (entry-placed at t e)
     found-step n at low z rec s (is t) e false q =
-        subst (PlacedIn w f o) (sym (find-later w f o at tag (suc n) n (omega arith) (headerOf w o (part f at (headWidth w))) refl
+        subst (PlacedIn w f o) (sym (find-later w f o at tag (suc n) n (omega arith) (entryOf w o (part f at (headWidth w))) refl
         (eqb-false _ _ q)))
         (rec (t + 1) (go (ltb t low) refl))
       where
@@ -108,7 +111,7 @@ module _ (w : Widths) (f : List ℕ) (o : Order) where
     found-placed zero at low z s = subst (PlacedIn w f o) (find-none w f o at tag) tt
     found-placed (suc n) at low z s =
         found-step n at low z (λ t. found-placed n (at + entryWidth w) t z) s (run f (entryReading w (length f) o at)) refl
-        (eqb (headerOf w o (part f at (headWidth w)) .tag) tag) refl
+        (eqb (entryOf w o (part f at (headWidth w)) .tag) tag) refl
 
 -- ---- type and count
 
@@ -261,7 +264,7 @@ unfolding valuesReading
 values-found f d r fd e = run-then _ _ _ fd e
 
 -- a tag that was looked up: its values, and what holds of them
-pub looked-up : (f : List ℕ) (d : Ifd) (r : Rule) {g : Given} {v : Values} → g ≡ given.Is v →
+pub looked-up : (f : List ℕ) (d : Ifd) (r : Rule) {g : ValuesTest} {v : Values} → g ≡ given.Is v →
     (valuesOut g ≡ run f (valuesReading d r)) × ValuesIn (length f) r g → (is v ≡ run f (valuesReading d r)) × Placed-values (length f) r v
 looked-up f d r e q = (ap valuesOut (sym e) ∙ q .0, subst (ValuesIn (length f) r) e (q .1))
 
@@ -297,11 +300,11 @@ wide kinds.ShortLongOrRational n s e = absurd n
 wide kinds.SignedRational n s e = absurd n
 wide kinds.Undefined n s e = absurd n
 
-pub judged-is : (tag : ℕ) (r : Range) (v : ℕ) → faultOf r v ≡ 0 → is v ≡ judgedOf tag r v
+pub judged-is : (tag : ℕ) (r : Range) (v : ℕ) → rangeFault r v ≡ 0 → is v ≡ judgedOf tag r v
 unfolding judgedOf
 judged-is tag r v e = simp (eq-eqb _ _ e, pick-yes)
 
-pub judged-bad : (tag : ℕ) (r : Range) (v : ℕ) → (faultOf r v ≡ 0 → ⊥) → refused (faultOf r v) tag ≡ judgedOf tag r v
+pub judged-bad : (tag : ℕ) (r : Range) (v : ℕ) → (rangeFault r v ≡ 0 → ⊥) → refused (rangeFault r v) tag ≡ judgedOf tag r v
 unfolding judgedOf
 judged-bad tag r v e = simp (ne-eqb _ _ e, pick-no)
 

@@ -1,6 +1,7 @@
 -- What is read on the way to the raw directory: of each directory that is visited its count and entries, and the values of 254 and 330;
 -- of IFD 0 those of 50706 and 50707 too.
 -- Assumes nothing.
+use Rattle.directory.specs.Names.{dngBackwardVersion, dngVersion, newSubfileType, subIfds}
 use mathlib.Core.Path.{_≡_, refl, sym, ap, subst, _∙_}
 use mathlib.Core.Bool.{Bool, true, false}
 use mathlib.Core.List.{List}
@@ -43,17 +44,17 @@ Seen-off j (parent p s n) = Off j p (s * n)
 
 module _ (f : List ℕ) (d : Ifd) (j : ℕ) (heads : reads (headsOf d) j ≡ false) where
   -- whether it is the raw one, and where its children are
-  pub look-unread : reads (valueIn f d 254) j ≡ false → reads (valueIn f d 330) j ≡ false → Unread f j (lookReading d)
+  pub look-unread : reads (valueIn f d newSubfileType) j ≡ false → reads (valueIn f d subIfds) j ≡ false → Unread f j (lookReading d)
   unfolding lookReading
   look-unread a b =
       unread-bind f j (subfileReading d) _
-      (one-unread f d j heads (optional 254 kinds.Long 1) a 0 (range 0 0 0xFFFF_FFFF_FFFF_FFFF)) (λ t _.
+      (one-unread f d j heads (optional newSubfileType kinds.Long 1) a 0 (range 0 0 0xFFFF_FFFF_FFFF_FFFF)) (λ t _.
       unread-pick f j (eqb t 0) (answer (is raw-one)) _ (λ _. unread-answer f j (is raw-one))
       (λ _. unread-bind f j (valuesReading d childrenRule) _ (other-value-unread f d j heads childrenRule b)
-          (λ v _. unread-answer f j (is (parent (v .place) (v .size) (v .count))))))
+      (λ v _. unread-answer f j (is (parent (v .place) (v .size) (v .count))))))
 
   -- its version
-  pub version-unread : reads (valueIn f d 50706) j ≡ false → reads (valueIn f d 50707) j ≡ false → Unread f j (versionReading d)
+  pub version-unread : reads (valueIn f d dngVersion) j ≡ false → reads (valueIn f d dngBackwardVersion) j ≡ false → Unread f j (versionReading d)
   unfolding versionReading backwardReading
   version-unread a b =
       unread-bind f j (valuesReading d versionRule) _ (other-value-unread f d j heads versionRule a) (λ v ev.
@@ -69,16 +70,16 @@ module _ (f : List ℕ) (d : Ifd) (j : ℕ) (heads : reads (headsOf d) j ≡ fal
       number v x q k =
           unread-pick f j (eqb (x .count) 0) _ _
           (λ _. let c : v .count ≡ 4 = omega (arith, q .present refl, q .within) in
-              let h : Off j (v .place) 4 = four v (q .sized (omega arith)) c (q .off) in
-              unread-then f j (numberAt Big (v .place) 2) _
-              (unread-number f j Big (v .place) 2 (off-inside j (v .place) 4 (v .place) 2 h (omega arith) (omega arith)))
-              (unread-answer f j _))
+          let h : Off j (v .place) 4 = four v (q .sized (omega arith)) c (q .off) in
+          unread-then f j (numberAt Big (v .place) 2) _
+          (unread-number f j Big (v .place) 2 (off-inside j (v .place) 4 (v .place) 2 h (omega arith) (omega arith)))
+          (unread-answer f j _))
           (λ e. let z : x .count ≡ 0 → ⊥ = eqb-false _ _ e in
-              let s : 0 < x .count = omega arith in
-              let c : x .count ≡ 4 = omega (arith, k .enough s, k .within) in
-              unread-number f j Big (x .place) 4 (four x (k .sized s) c (k .off)))
+          let s : 0 < x .count = omega arith in
+          let c : x .count ≡ 4 = omega (arith, k .enough s, k .within) in
+          unread-number f j Big (x .place) 4 (four x (k .sized s) c (k .off)))
 
-  seen-off : reads (valueIn f d 330) j ≡ false → (x : Seen) → is x ≡ run f (lookReading d) → Seen-off j x
+  seen-off : reads (valueIn f d subIfds) j ≡ false → (x : Seen) → is x ≡ run f (lookReading d) → Seen-off j x
   unfolding lookReading pick
   seen-off b x e =
       let i = bind-inverse f (subfileReading d) _ x e in
@@ -103,19 +104,19 @@ children-unread f j s visit o (suc n) p v h g =
     let m = mul-suc s n in
     let z : p + s * 0 ≡ p = omega (arith, mul-zero s) in
     let first : Unread f j (visit (numberOf o (part f p s)) v) =
-        subst (λ (q : ℕ). Unread f j (visit (numberOf o (part f q s)) v)) z (g 0 (omega arith) v) in
+    subst (λ (q : ℕ). Unread f j (visit (numberOf o (part f q s)) v)) z (g 0 (omega arith) v) in
     let rest : (i : ℕ) → i < n → (u : ℕ) → Unread f j (visit (numberOf o (part f (p + s + s * i) s)) u) =
-        λ i l u. let k = mul-suc s i in let y : p + s * suc i ≡ p + s + s * i = omega arith in
-            subst (λ (q : ℕ). Unread f j (visit (numberOf o (part f q s)) u)) y (g (suc i) (omega arith) u) in
+    λ i l u. let k = mul-suc s i in let y : p + s * suc i ≡ p + s + s * i = omega arith in
+    subst (λ (q : ℕ). Unread f j (visit (numberOf o (part f q s)) u)) y (g (suc i) (omega arith) u) in
     let later : (u : ℕ) → Unread f j (childrenReading s visit o n (p + s) u) =
-        λ u. children-unread f j s visit o n (p + s) u
-        (off-inside j p (s * suc n) (p + s) (s * n) h (omega arith) (omega arith)) rest in
+    λ u. children-unread f j s visit o n (p + s) u
+    (off-inside j p (s * suc n) (p + s) (s * n) h (omega arith) (omega arith)) rest in
     unread-then f j (numberAt o p s) (λ (at : ℕ). bind (visit at v) (afterChild (λ (u : ℕ). childrenReading s visit o n (p + s) u)))
     (unread-number f j o p s (off-inside j p (s * suc n) p s h (omega arith) (omega arith)))
     (subst (λ (at : ℕ). Unread f j (bind (visit at v) (afterChild (λ (u : ℕ). childrenReading s visit o n (p + s) u))))
-        (sym (run-number f o p s))
-        (unread-bind f j (visit (numberOf o (part f p s)) v) (afterChild (λ (u : ℕ). childrenReading s visit o n (p + s) u)) first
-        (λ x _. after x later)))
+    (sym (run-number f o p s))
+    (unread-bind f j (visit (numberOf o (part f p s)) v) (afterChild (λ (u : ℕ). childrenReading s visit o n (p + s) u)) first
+    (λ x _. after x later)))
   where
     after :
         (x : Walked) → ((u : ℕ) → Unread f j (childrenReading s visit o n (p + s) u)) →
@@ -129,7 +130,7 @@ module _ (w : Widths) (f : List ℕ) (size : ℕ) (o : Order) (j : ℕ) (Visited
   pub record Clear (at : ℕ) : Type 0 where
     pub asked : reads (directoryAsked w f o at) j ≡ false
     pub values :
-        (d : Ifd) → is d ≡ run f (ifdReading w size o at) → (reads (valueIn f d 254) j ≡ false) × (reads (valueIn f d 330) j ≡ false)
+        (d : Ifd) → is d ≡ run f (ifdReading w size o at) → (reads (valueIn f d newSubfileType) j ≡ false) × (reads (valueIn f d subIfds) j ≡ false)
     pub children :
         (d : Ifd) → is d ≡ run f (ifdReading w size o at) → (p s n : ℕ) → is (parent p s n) ≡ run f (lookReading d) →
         (i : ℕ) → i < n → Visited (numberOf o (part f (p + s * i) s))
@@ -179,7 +180,7 @@ module _ (w : Widths) (f : List ℕ) (size : ℕ) (o : Order) (j : ℕ) (Visited
     pub root-unread :
         (at : ℕ) → Visited at →
         ((d : Ifd) → is d ≡ run f (ifdReading w size o at) →
-            (reads (valueIn f d 50706) j ≡ false) × (reads (valueIn f d 50707) j ≡ false)) →
+        (reads (valueIn f d dngVersion) j ≡ false) × (reads (valueIn f d dngBackwardVersion) j ≡ false)) →
         Unread f j (rootReading w size o at)
     unfolding rootReading
     root-unread at h version =
@@ -189,7 +190,7 @@ module _ (w : Widths) (f : List ℕ) (size : ℕ) (o : Order) (j : ℕ) (Visited
         (version-unread f d j (ifd-heads at d e (c .asked)) (version d e .0) (version d e .1)) (λ _ _.
         unread-bind f j (walkReading size d) (afterWalk d)
         (subst (λ (x : Ifd). is x ≡ run f (ifdReading w size o at) → Unread f j (walkReading size x)) (sym (ifd-count w f size o at d e))
-            (walk-unread at _ _ h) e)
+        (walk-unread at _ _ h) e)
         (λ x _. found d x)))
       where
         found : (d : Ifd) (x : Walked) → Unread f j (afterWalk d x)
@@ -219,11 +220,11 @@ module _ (f : List ℕ) (size j : ℕ) (behind : 16 ≤ j) where
   big-tiff-unread o h =
       unread-pick f j (ltb size 16) (answer (refused 1 0)) _ (λ _. unread-answer f j (refused 1 0))
       (λ _. unread-then f j (numberAt o 4 2) _ (unread-number f j o 4 2 (off-behind j 4 2 (omega arith)))
-          (unread-pick f j (eqb (run f (numberAt o 4 2)) 8) _ (answer (refused 2 0))
-              (λ _. unread-then f j (numberAt o 6 2) _ (unread-number f j o 6 2 (off-behind j 6 2 (omega arith)))
-                  (unread-pick f j (eqb (run f (numberAt o 6 2)) 0) (offsetReading bigTiff size o 8) (answer (refused 2 0))
-                      (λ _. offset-unread bigTiff o 8 (omega arith) h) (λ _. unread-answer f j (refused 2 0))))
-              (λ _. unread-answer f j (refused 2 0))))
+      (unread-pick f j (eqb (run f (numberAt o 4 2)) 8) _ (answer (refused 2 0))
+      (λ _. unread-then f j (numberAt o 6 2) _ (unread-number f j o 6 2 (off-behind j 6 2 (omega arith)))
+      (unread-pick f j (eqb (run f (numberAt o 6 2)) 0) (offsetReading bigTiff size o 8) (answer (refused 2 0))
+      (λ _. offset-unread bigTiff o 8 (omega arith) h) (λ _. unread-answer f j (refused 2 0))))
+      (λ _. unread-answer f j (refused 2 0))))
 
   -- a byte behind the header that is not read from IFD 0 on is not read for the tree
   pub tree-unread :
@@ -234,10 +235,10 @@ module _ (f : List ℕ) (size j : ℕ) (behind : 16 ≤ j) where
       (λ _. unread-pick f j (ltb 67108864 size) (answer (refused 1 0)) _ (λ _. unread-answer f j (refused 1 0))
       (λ _. unread-ask f j 0 4 _ (off-behind j 0 4 (omega arith))
       (unread-pick f j (sameBytes (part f 0 4) (classicMark Little)) (offsetReading classic size Little 4) _
-          (λ e. offset-unread classic Little 4 (omega arith) (h classic Little _ (inl (e, refl, refl))))
+      (λ e. offset-unread classic Little 4 (omega arith) (h classic Little _ (inl (e, refl, refl))))
       (λ _. unread-pick f j (sameBytes (part f 0 4) (classicMark Big)) (offsetReading classic size Big 4) _
-          (λ e. offset-unread classic Big 4 (omega arith) (h classic Big _ (inl (e, refl, refl))))
+      (λ e. offset-unread classic Big 4 (omega arith) (h classic Big _ (inl (e, refl, refl))))
       (λ _. unread-pick f j (sameBytes (part f 0 4) (bigTiffMark Little)) (bigTiffReading size Little) _
-          (λ e. big-tiff-unread Little (h bigTiff Little _ (inr (e, refl, refl))))
+      (λ e. big-tiff-unread Little (h bigTiff Little _ (inr (e, refl, refl))))
       (λ _. unread-pick f j (sameBytes (part f 0 4) (bigTiffMark Big)) (bigTiffReading size Big) (answer (refused 2 0))
-          (λ e. big-tiff-unread Big (h bigTiff Big _ (inr (e, refl, refl)))) (λ _. unread-answer f j (refused 2 0))))))))
+      (λ e. big-tiff-unread Big (h bigTiff Big _ (inr (e, refl, refl)))) (λ _. unread-answer f j (refused 2 0))))))))

@@ -17,7 +17,8 @@ use Rattle.reading.specs.declared.number.Order.{Order}
 use Rattle.reading.specs.declared.number.Order.the-variants.{Little, Big}
 use Rattle.reading.proofs.Reading.{running, run-answer, run-then, pick-yes, pick-no}
 use Rattle.directory.specs.Out.{Out.refused, Out.is}
-use Rattle.directory.specs.Widths.{classic, bigTiff, Laid}
+use Rattle.directory.specs.Widths.{classic, bigTiff}
+use Rattle.directory.specs.Facts.Widths.{Widths-in}
 use Rattle.directory.specs.Shape.{ifdReading}
 use Rattle.directory.specs.Tag.{valuesReading}
 use Rattle.directory.specs.Tree.{Seen, raw-one, parent, childrenRule, subfileReading, lookReading, versionRule, backwardRule}
@@ -151,10 +152,10 @@ start-is f m h e = rw (four f h) (go m e)
     go (a ∷ b ∷ c ∷ d ∷ x ∷ l) q = absurd (omega arith)
 
 -- the two layouts' widths, whatever types are known
-pub classic-laid : (w : Widths) → w .entries ≡ 2 → w .word ≡ 4 → w .types < 19 → Laid w
+pub classic-laid : (w : Widths) → w .entries ≡ 2 → w .word ≡ 4 → w .types < 19 → Widths-in w
 classic-laid w e o t = record { entries = inl e; word = inr (inl o); types = t }
 
-pub big-tiff-laid : (w : Widths) → w .entries ≡ 8 → w .word ≡ 8 → w .types < 19 → Laid w
+pub big-tiff-laid : (w : Widths) → w .entries ≡ 8 → w .word ≡ 8 → w .types < 19 → Widths-in w
 big-tiff-laid w e o t = record { entries = inr (inr e); word = inr (inr o); types = t }
 
 -- IFD 0, whose offset stands at a place

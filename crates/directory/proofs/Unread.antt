@@ -18,7 +18,7 @@ use Rattle.reading.proofs.Unread.{Unread, Off, off-below, off-behind, off-none,
 use Rattle.reading.proofs.Unread.{off-right, off-append, unread-answer, unread-number, unread-then, unread-pick}
 use Rattle.directory.specs.Out.{Out, Out.refused, Out.is, onward, bind}
 use Rattle.directory.specs.Widths.{headWidth, entryWidth}
-use Rattle.directory.specs.Entry.{bytesOf, headerOf}
+use Rattle.directory.specs.Entry.{bytesOf, entryOf}
 use Rattle.directory.specs.Shape.{placeTest, entryReading, orderTest, shapeFrom, ifd, ifdReading}
 use Rattle.directory.specs.declared.Ifd.{Ifd}
 use Rattle.directory.specs.declared.Widths.{Widths}
@@ -42,7 +42,7 @@ unread-bind {A} f j p k h g = unread-then f j p (onward k) h (rest (run f p) ref
 module _ (w : Widths) (f : List ℕ) (o : Order) where
   -- tag, type and count of the entry at a place
   abbrev pub headAt : ℕ → Entry
-  headAt at = headerOf w o (part f at (headWidth w))
+  headAt at = entryOf w o (part f at (headWidth w))
 
   -- what the shape test reads of an entry: tag, type and count; and the offset of a value that does not stand in the entry
   unfoldable pub entryAsked : ℕ → List Stretch
@@ -104,7 +104,7 @@ module _ (w : Widths) (f : List ℕ) (o : Order) (j : ℕ) where
       let z : at + entryWidth w * 0 ≡ at = omega (arith, mul-zero (entryWidth w)) in
       let c : bytesOf (headAt w f o at) ≤ w .word = subst (λ (p : ℕ). bytesOf (headAt w f o p) ≤ w .word) z b in
       let none : reads (pick (leb (bytesOf (headAt w f o at)) (w .word)) [] (stretch (at + headWidth w) (w .word) ∷ [])) j ≡ false =
-          rw (le-leb _ _ c, pick-yes) (off-none j) in
+      rw (le-leb _ _ c, pick-yes) (off-none j) in
       off-append j _ (entriesAsked w f o n (at + entryWidth w)) (off-both j _ _ (off-behind j at (headWidth w) (omega arith)) none)
       (entries-below n (at + entryWidth w) (omega arith))
   entries-within (suc n) at (suc m) b l h =
@@ -158,8 +158,8 @@ module _ (w : Widths) (f : List ℕ) (size : ℕ) (o : Order) where
       let u = bind-inverse f (answer (orderTest low (t .0))) later z (t .2) in
       let r : trace f (later (u .0)) ≡ entriesAsked w f o n (at + entryWidth w) = shape-asks n (at + entryWidth w) (u .0) z (u .2) in
       let q : trace f (ordered n at low (t .0)) ≡ entriesAsked w f o n (at + entryWidth w) =
-          bind-trace f (answer (orderTest low (t .0))) later (u .0) (u .1)
-          ∙ ap (λ (l : List Stretch). l ++ trace f (later (u .0))) (trace-answer f (orderTest low (t .0))) ∙ r in
+      bind-trace f (answer (orderTest low (t .0))) later (u .0) (u .1)
+      ∙ ap (λ (l : List Stretch). l ++ trace f (later (u .0))) (trace-answer f (orderTest low (t .0))) ∙ r in
       bind-trace f (entryReading w size o at) (ordered n at low) (t .0) (t .1)
       ∙ ap (λ (l : List Stretch). l ++ trace f (ordered n at low (t .0))) (entry-asks at)
       ∙ ap (λ (l : List Stretch). entryAsked w f o at ++ l) q
@@ -176,9 +176,9 @@ module _ (w : Widths) (f : List ℕ) (size : ℕ) (o : Order) where
   counted-unread j at n h =
       unread-pick f j (ltb 0 n) _ (answer (refused 3 0))
       (λ _. unread-pick f j (leb (at + w .entries + entryWidth w * n + w .word) size) (entries-tested at n) (answer (refused 3 0))
-          (λ _. unread-bind f j (shapeFrom w size o n (at + w .entries) 0) _ (shape-unread j n (at + w .entries) 0 h)
-              (λ _ _. unread-answer f j (is (ifd w o n (at + w .entries)))))
-          (λ _. unread-answer f j (refused 3 0)))
+      (λ _. unread-bind f j (shapeFrom w size o n (at + w .entries) 0) _ (shape-unread j n (at + w .entries) 0 h)
+      (λ _ _. unread-answer f j (is (ifd w o n (at + w .entries)))))
+      (λ _. unread-answer f j (refused 3 0)))
       (λ _. unread-answer f j (refused 3 0))
 
   -- accepted or refused, a directory's shape test reads no byte but of its count and its entries
@@ -191,7 +191,7 @@ module _ (w : Widths) (f : List ℕ) (size : ℕ) (o : Order) where
       let entries : Unread f j (counted at n) = counted-unread j at n (off-rest j (stretch at (w .entries)) rest h) in
       unread-pick f j (leb (at + w .entries) size) (andThen (numberAt o at (w .entries)) (counted at)) (answer (refused 3 0))
       (λ _. unread-then f j (numberAt o at (w .entries)) (counted at) (unread-number f j o at (w .entries) count)
-          (subst (λ (m : ℕ). Unread f j (counted at m)) (sym (run-number f o at (w .entries))) entries))
+      (subst (λ (m : ℕ). Unread f j (counted at m)) (sym (run-number f o at (w .entries))) entries))
       (λ _. unread-answer f j (refused 3 0))
 
   -- so not its next offset, nor what lies behind
@@ -238,11 +238,12 @@ module _ (w : Widths) (f : List ℕ) (size : ℕ) (o : Order) where
       go true p true q true s (is z) t =
           let n = entriesIn w f o at in
           let shaped : trace f (entries-tested at n) ≡ entriesAsked w f o n (at + w .entries) =
-              bind-trace f (shapeFrom w size o n (at + w .entries) 0) _ z t
-              ∙ ap (λ (l : List Stretch). trace f (shapeFrom w size o n (at + w .entries) 0) ++ l) (trace-answer f _)
-              ∙ append-nil (trace f (shapeFrom w size o n (at + w .entries) 0)) ∙ shape-asks n (at + w .entries) 0 z t in
-          (same-value d _ (e ∙ sym (ifd-is w f size o at (leb-true _ _ p) _ refl (ltb-true _ _ q) (leb-true _ _ s) z t)),
-          simp (p, pick-yes, tracing, run-number, q, s) (ap (λ (l : List Stretch). stretch at (w .entries) ∷ l) shaped))
+          bind-trace f (shapeFrom w size o n (at + w .entries) 0) _ z t
+          ∙ ap (λ (l : List Stretch). trace f (shapeFrom w size o n (at + w .entries) 0) ++ l) (trace-answer f _)
+          ∙ append-nil (trace f (shapeFrom w size o n (at + w .entries) 0)) ∙ shape-asks n (at + w .entries) 0 z t in (
+            same-value d _ (e ∙ sym (ifd-is w f size o at (leb-true _ _ p) _ refl (ltb-true _ _ q) (leb-true _ _ s) z t)),
+            simp (p, pick-yes, tracing, run-number, q, s) (ap (λ (l : List Stretch). stretch at (w .entries) ∷ l) shaped),
+          )
 
   -- the count of an accepted directory
   pub ifd-count : (at : ℕ) (d : Ifd) → is d ≡ run f (ifdReading w size o at) → d ≡ ifd w o (entriesIn w f o at) (at + w .entries)

@@ -1,23 +1,16 @@
 -- One tag of a directory: "presence (5), type and count (4), then each value in stored order: legal (4), then carried (8)".
-use mathlib.Core.Path.{_≡_}
 use mathlib.Core.List.{List, [], _∷_}
 use mathlib.Core.Bool.{Bool, true, false}
-use mathlib.Core.Logic.{_⊎_}
-use Prim.Native.Nat.{ℕ, zero, suc, _+_, _*_, _≤_, _<_}
+use Prim.Native.Nat.{ℕ, zero, suc, _+_}
 use lib.Dec.{ltb, leb, eqb}
-use lib.ListN.{length}
 use mir.Val.{hasKey}
-use Rattle.reading.specs.Bytes.{part}
-use Rattle.reading.specs.Number.{numberOf, Wide}
 use Rattle.reading.specs.Reading.{Reading, Reading.answer, Reading.ask, andThen, pick, numberAt}
 use Rattle.reading.specs.declared.number.Order.{Order}
 use Rattle.directory.specs.Out.{Out, Out.refused, Out.is, bind}
 use Rattle.directory.specs.Widths.{headWidth, entryWidth}
-use Rattle.directory.specs.Entry.{codeOf, plainOf, sizeOf, bytesOf, headerOf}
+use Rattle.directory.specs.Entry.{codeOf, plainOf, sizeOf, bytesOf, entryOf}
 use Rattle.directory.specs.declared.Ifd.{Ifd}
 use Rattle.directory.specs.declared.Widths.{Widths}
-use Rattle.directory.specs.declared.Number.{Number}
-use Rattle.directory.specs.declared.Number.the-variants as number
 use Rattle.directory.specs.declared.entry.Kind.{Kind}
 use Rattle.directory.specs.declared.entry.Kind.the-variants as kind
 use Rattle.directory.specs.declared.entry.Entry.{Entry}
@@ -28,8 +21,6 @@ use Rattle.directory.specs.declared.tag.Kinds.the-variants as kinds
 use Rattle.directory.specs.declared.tag.Rule.{Rule}
 use Rattle.directory.specs.declared.tag.Range.{Range}
 use Rattle.directory.specs.declared.tag.Values.{Values}
-use Rattle.directory.specs.declared.tag.Given.{Given}
-use Rattle.directory.specs.declared.tag.Given.the-variants as given
 
 -- ---- finding a tag
 
@@ -38,7 +29,7 @@ unfoldable pub findFrom : Widths → Order → ℕ → ℕ → ℕ → Reading F
 findFrom w o zero at tag = answer found.Absent
 findFrom w o (suc n) at tag =
     ask at (headWidth w) (λ bs.
-    pick (eqb (headerOf w o bs .tag) tag) (answer (found.At (at + headWidth w) (headerOf w o bs))) (findFrom w o n (at + entryWidth w) tag))
+    pick (eqb (entryOf w o bs .tag) tag) (answer (found.At (at + headWidth w) (entryOf w o bs))) (findFrom w o n (at + entryWidth w) tag))
 
 abbrev pub foundReading : Ifd → ℕ → Reading Found
 foundReading d tag = findFrom (d .widths) (d .order) (d .count) (d .at) tag
@@ -66,10 +57,6 @@ valuesAt p e = record { place = p; kind = e .kind; size = sizeOf (e .kind); coun
 
 abbrev pub noValues : Values
 noValues = record { place = 0; kind = kind.Unknown; size = 0; count = 0 }
-
-abbrev pub valuesOut : Given → Out Values
-valuesOut (given.Refused n d) = refused n d
-valuesOut (given.Is v) = is v
 
 -- the value of a tag that is tested is read, whole; but an opcode list (UNDEFINED) is read where its opcodes are tested,
 -- and not all of it: "a skipped correction's parameters"
@@ -110,11 +97,11 @@ notCarried d tag = andThen (foundReading d tag) (ifAbsent tag)
 -- ---- value by value
 
 -- the refusal of a number by its range, or 0: legal (4), then carried (8)
-unfoldable pub faultOf : Range → ℕ → ℕ
-faultOf r v = pick (ltb v (r .legal)) 4 (pick (ltb v (r .from)) 8 (pick (ltb (r .to) v) 8 0))
+unfoldable pub rangeFault : Range → ℕ → ℕ
+rangeFault r v = pick (ltb v (r .legal)) 4 (pick (ltb v (r .from)) 8 (pick (ltb (r .to) v) 8 0))
 
 unfoldable pub judgedOf : ℕ → Range → ℕ → Out ℕ
-judgedOf tag r v = pick (eqb (faultOf r v) 0) (is v) (refused (faultOf r v) tag)
+judgedOf tag r v = pick (eqb (rangeFault r v) 0) (is v) (refused (rangeFault r v) tag)
 
 -- the first of a tag's numbers, or the default, which is judged like a value
 unfoldable pub firstReading : Order → ℕ → ℕ → Range → Values → Reading (Out ℕ)
@@ -151,62 +138,3 @@ optional tag ks n = rule false tag ks n n
 -- at least legal, else 4; from one number to another, else 8
 abbrev pub range : ℕ → ℕ → ℕ → Range
 range legal from to = record { legal = legal; from = from; to = to }
-
--- ---- what holds of a found entry, and of an accepted tag
-
--- the value or offset of an entry that was found lies in the file
-abbrev pub FoundIn : Widths → ℕ → Found → Type 0
-FoundIn w size found.Absent = Unit {0}
-FoundIn w size (found.At p e) = p + w .word ≤ size
-
--- and so does a value that stands elsewhere
-unfoldable pub Placed : Widths → List ℕ → Order → ℕ → Entry → Type 0
-Placed w f o p e = w .word < bytesOf e → numberOf o (part f p (w .word)) + bytesOf e ≤ length f
-
--- LONG or LONG8
-abbrev pub Long : ℕ → Type 0
-Long s = (s ≡ 4) ⊎ (s ≡ 8)
-
-abbrev pub SizeIn : Kinds → ℕ → Type 0
-SizeIn kinds.Byte s = s ≡ 1
-SizeIn kinds.Short s = s ≡ 2
-SizeIn kinds.Long s = Long s
-SizeIn kinds.ShortOrLong s = Wide s
-SizeIn kinds.LongOrIfd s = Long s
-SizeIn kinds.ShortOrRational s = (s ≡ 2) ⊎ (s ≡ 8)
-SizeIn kinds.ShortLongOrRational s = Wide s
-SizeIn kinds.SignedRational s = s ≡ 8
-SizeIn kinds.Undefined s = s ≡ 1
-
--- the types that are numbers
-abbrev pub Numeric : Kinds → Type 0
-Numeric kinds.Byte = ⊥
-Numeric kinds.Short = Unit {0}
-Numeric kinds.Long = Unit {0}
-Numeric kinds.ShortOrLong = Unit {0}
-Numeric kinds.LongOrIfd = Unit {0}
-Numeric kinds.ShortOrRational = ⊥
-Numeric kinds.ShortLongOrRational = ⊥
-Numeric kinds.SignedRational = ⊥
-Numeric kinds.Undefined = ⊥
-
-pub record Placed-values (size : ℕ) (r : Rule) (v : Values) : Type 0 where
-  pub inside : v .place + v .size * v .count ≤ size
-  pub typed : 0 < v .count → (allowsOf (r .kinds) (v .kind) ≡ true) × (v .size ≡ sizeOf (v .kind))
-  pub sized : 0 < v .count → SizeIn (r .kinds) (v .size)
-  pub enough : 0 < v .count → r .least ≤ v .count
-  pub within : v .count ≤ r .most
-  pub present : r .required ≡ true → r .least ≤ v .count
-
-abbrev pub ValuesIn : ℕ → Rule → Given → Type 0
-ValuesIn size r (given.Refused n d) = Unit {0}
-ValuesIn size r (given.Is v) = Placed-values size r v
-
-pub record InRange (r : Range) (v : ℕ) : Type 0 where
-  pub legal : r .legal ≤ v
-  pub from : r .from ≤ v
-  pub to : v ≤ r .to
-
-abbrev pub NumberIn : Range → Number → Type 0
-NumberIn r (number.Refused n d) = Unit {0}
-NumberIn r (number.Is v) = InRange r v

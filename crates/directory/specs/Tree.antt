@@ -1,29 +1,22 @@
 -- The directory tree: refusals 1, 2, 6, 7, and the raw directory.
+use Rattle.directory.specs.Names.{dngBackwardVersion, dngVersion, newSubfileType, subIfds}
 use mathlib.Core.List.{List, [], _∷_}
 use mathlib.Core.Bool.{Bool, true, false, _&&_}
-use Prim.Native.Nat.{ℕ, zero, suc, _+_, _*_, _≤_, _<_}
+use Prim.Native.Nat.{ℕ, zero, suc, _+_, _*_}
 use lib.Dec.{ltb, eqb}
-use lib.ListN.{length}
-use Rattle.reading.specs.Number.{Wide}
 use Rattle.reading.specs.Reading.{Reading, Reading.answer, Reading.ask, andThen, pick, numberAt}
 use Rattle.reading.specs.declared.number.Order.{Order}
 use Rattle.reading.specs.declared.number.Order.the-variants.{Little, Big}
 use Rattle.directory.specs.Out.{Out, Out.refused, Out.is, bind}
 use Rattle.directory.specs.Widths.{classic, bigTiff}
-use Rattle.directory.specs.Shape.{ifdReading, Tested}
+use Rattle.directory.specs.Shape.{ifdReading}
 use Rattle.directory.specs.Tag.{valuesReading, oneReading, rule, required, optional, range}
 use Rattle.directory.specs.declared.Ifd.{Ifd}
 use Rattle.directory.specs.declared.Widths.{Widths}
 use Rattle.directory.specs.declared.tag.Kinds.the-variants as kinds
 use Rattle.directory.specs.declared.tag.Rule.{Rule}
 use Rattle.directory.specs.declared.tag.Values.{Values}
-use Rattle.directory.specs.declared.tree.Look.{Look}
-use Rattle.directory.specs.declared.tree.Look.the-variants as look
-use Rattle.directory.specs.declared.tree.Walk.{Walk}
-use Rattle.directory.specs.declared.tree.Walk.the-variants as walk
 use Rattle.directory.specs.declared.tree.Roots.{Roots}
-use Rattle.directory.specs.declared.tree.Tree.{Tree}
-use Rattle.directory.specs.declared.tree.Tree.the-variants as tree
 
 -- ---- one directory
 
@@ -32,18 +25,13 @@ pub data Seen : Type 0 where
   raw-one : Seen
   parent : ℕ → ℕ → ℕ → Seen
 
-abbrev pub lookOut : Look → Out Seen
-lookOut look.Raw = is raw-one
-lookOut (look.Refused n d) = refused n d
-lookOut (look.Into p s n) = is (parent p s n)
-
 -- 330: "LONG or IFD, 1 to 16 of them"
 abbrev pub childrenRule : Rule
-childrenRule = rule false 330 kinds.LongOrIfd 1 16
+childrenRule = rule false subIfds kinds.LongOrIfd 1 16
 
 -- 254: LONG 1, default 0; any number is legal
 abbrev pub subfileReading : Ifd → Reading (Out ℕ)
-subfileReading d = oneReading d (optional 254 kinds.Long 1) 0 (range 0 0 0xFFFF_FFFF_FFFF_FFFF)
+subfileReading d = oneReading d (optional newSubfileType kinds.Long 1) 0 (range 0 0 0xFFFF_FFFF_FFFF_FFFF)
 
 -- the raw directory is one where 254 is 0, and otherwise 330 is tested
 unfoldable pub lookReading : Ifd → Reading (Out Seen)
@@ -55,10 +43,10 @@ lookReading d =
 -- ---- the version, of IFD 0 only
 
 abbrev pub versionRule : Rule
-versionRule = required 50706 kinds.Byte 4
+versionRule = required dngVersion kinds.Byte 4
 
 abbrev pub backwardRule : Rule
-backwardRule = optional 50707 kinds.Byte 4
+backwardRule = optional dngBackwardVersion kinds.Byte 4
 
 -- 50707, or its default, "50706 with its last two bytes zero": four bytes, of which the first weighs most
 unfoldable pub backwardReading : Values → Values → Reading ℕ
@@ -78,11 +66,6 @@ versionReading d =
 pub data Walked : Type 0 where
   raw : Ifd → Walked
   left : ℕ → Walked
-
-abbrev pub walkOut : Walk → Out Walked
-walkOut (walk.Raw d) = is (raw d)
-walkOut (walk.Refused n d) = refused n d
-walkOut (walk.Left v) = is (left v)
 
 abbrev pub afterLook : Ifd → (ℕ → ℕ → ℕ → Reading (Out Walked)) → Seen → Reading (Out Walked)
 afterLook d k raw-one = answer (is (raw d))
@@ -111,10 +94,6 @@ abbrev pub listVisit : Widths → ℕ → Order → ℕ → ℕ → ℕ → ℕ 
 listVisit w size o d s n p v = childrenReading s (λ a u. visitReading w size o d a u) o n p v
 
 -- ---- the file
-
-abbrev pub treeOut : Tree → Out Roots
-treeOut (tree.Refused n d) = refused n d
-treeOut (tree.Is r) = is r
 
 abbrev pub roots : Ifd → Ifd → Roots
 roots first it = record { first = first; raw = it }
@@ -174,24 +153,3 @@ treeReading size =
     (pick (sameBytes m (bigTiffMark Little)) (bigTiffReading size Little)
     (pick (sameBytes m (bigTiffMark Big)) (bigTiffReading size Big)
     (answer (refused 2 0))))))))
-
--- ---- what holds of what was found
-
-abbrev pub LookIn : ℕ → Look → Type 0
-LookIn size look.Raw = Unit {0}
-LookIn size (look.Refused n d) = Unit {0}
-LookIn size (look.Into p s n) = (n ≤ 16) × (p + s * n ≤ size) × (0 < n → Wide s)
-
-abbrev pub WalkIn : List ℕ → Walk → Type 0
-WalkIn f (walk.Raw d) = Tested f d
-WalkIn f (walk.Refused n d) = Unit {0}
-WalkIn f (walk.Left v) = Unit {0}
-
-pub record Rooted (f : List ℕ) (r : Roots) : Type 0 where
-  pub size : length f ≤ 67108864
-  pub first : Tested f (r .first)
-  pub raw : Tested f (r .raw)
-
-abbrev pub TreeIn : List ℕ → Tree → Type 0
-TreeIn f (tree.Refused n d) = Unit {0}
-TreeIn f (tree.Is r) = Rooted f r

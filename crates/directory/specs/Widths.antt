@@ -1,6 +1,5 @@
 -- How wide the fields of a directory are, and which types it knows.
-use Prim.Native.Nat.{ℕ, _+_, _<_}
-use Rattle.reading.specs.Number.{Wide}
+use Prim.Native.Nat.{ℕ, _+_}
 use Rattle.directory.specs.declared.Widths.{Widths}
 
 -- the 32-bit layout: 2-byte count, 12-byte entries, 4-byte next offset; types 1 to 13
@@ -17,9 +16,3 @@ headWidth w = 4 + w .word
 
 abbrev pub entryWidth : Widths → ℕ
 entryWidth w = headWidth w + w .word
-
--- all that the proofs ask of a layout: widths that numbers can have, and no type past the list
-pub record Laid (w : Widths) : Type 0 where
-  pub entries : Wide (w .entries)
-  pub word : Wide (w .word)
-  pub types : w .types < 19

@@ -4,8 +4,9 @@ ghost use Prim.Native.Nat.{_+_, _*_, _≤_, _<_};
 ghost use lib.Dec.{leb};
 ghost use lib.ListN.{length};
 ghost use Rattle.reading.specs.Bytes.{part};
-ghost use Rattle.directory.specs.Widths.{headWidth, Laid};
-ghost use Rattle.directory.specs.Entry.{kindOf, codeOf, plainOf, sizeOf, headerOf};
+ghost use Rattle.directory.specs.Widths.{headWidth};
+ghost use Rattle.directory.specs.Facts.Widths.{Widths-in};
+ghost use Rattle.directory.specs.Entry.{kindOf, codeOf, plainOf, sizeOf, entryOf};
 use crate::Widths;
 use reading::number;
 use reading::number::Order;
@@ -145,8 +146,8 @@ pub fn many_inside(place: usize, size: usize, count: usize, len: usize) -> bool
 
 // The entry at a place: its bytes before its value.
 pub fn header(file: &[u8], order: Order, widths: Widths, at: usize) -> Entry
-    requires { ⌜ (at + headWidth widths ≤ length (now file)) × Laid widths ⌝ }
-    ensures { λ r. ⌜ (r ≡ headerOf widths order (part (now (file .entry)) at (headWidth widths))) × (r .tag < 65536) ⌝ }
+    requires { ⌜ (at + headWidth widths ≤ length (now file)) × Widths-in widths ⌝ }
+    ensures { λ r. ⌜ (r ≡ entryOf widths order (part (now (file .entry)) at (headWidth widths))) × (r .tag < 65536) ⌝ }
 {
     let tag = number::short(file, order, at) as usize;
     let kind = kind_of(widths.types, number::short(file, order, at + 2) as usize);

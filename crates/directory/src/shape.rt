@@ -3,12 +3,14 @@ ghost use mathlib.Core.Path.{_≡_};
 ghost use Prim.Native.Nat.{_+_, _*_, _≤_, _<_};
 ghost use lib.ListN.{length};
 ghost use Rattle.reading.specs.Reading.{run};
-ghost use Rattle.directory.specs.Out.{numberOut};
-ghost use Rattle.directory.specs.Widths.{entryWidth, Laid};
-ghost use Rattle.directory.specs.Shape.{entryReading, shapeFrom, TagIn, ifdReading, ifdOut, IfdIn};
+ghost use Rattle.directory.specs.Facts.Out.{numberOut};
+ghost use Rattle.directory.specs.Widths.{entryWidth};
+ghost use Rattle.directory.specs.Facts.Widths.{Widths-in};
+ghost use Rattle.directory.specs.Shape.{entryReading, shapeFrom, ifdReading};
+ghost use Rattle.directory.specs.Facts.Shape.{TagIn, ifdOut, IfdIn};
 use crate::Ifd;
+use crate::IfdTest;
 use crate::Number;
-use crate::Opened;
 use crate::Widths;
 use crate::entry;
 use reading::number;
@@ -17,7 +19,7 @@ use reading::number::Order;
 // The tag of the entry at a place, whose value must lie in the file. The fields are read here one by one, and the size by the
 // type's number: `header` would stay a call in the loop over all entries.
 fn placed_tag(file: &[u8], order: Order, widths: Widths, at: usize) -> Number
-    requires { ⌜ (at + entryWidth widths ≤ length (now file)) × (length (now file) ≤ 67108864) × Laid widths ⌝ }
+    requires { ⌜ (at + entryWidth widths ≤ length (now file)) × (length (now file) ≤ 67108864) × Widths-in widths ⌝ }
     ensures { λ r. ⌜ numberOut r ≡ run (now (file .entry)) (entryReading widths (length (now (file .entry))) order at) ⌝ }
     ensures { λ r. ⌜ TagIn r ⌝ }
 {
@@ -43,7 +45,7 @@ fn placed_tag(file: &[u8], order: Order, widths: Widths, at: usize) -> Number
 
 // So many entries from a place on: their values lie in the file, and their tags ascend strictly.
 fn check_entries(file: &[u8], order: Order, widths: Widths, count: usize, at: usize) -> Number
-    requires { ⌜ (at + entryWidth widths * count ≤ length (now file)) × (length (now file) ≤ 67108864) × Laid widths ⌝ }
+    requires { ⌜ (at + entryWidth widths * count ≤ length (now file)) × (length (now file) ≤ 67108864) × Widths-in widths ⌝ }
     ensures { λ r. ⌜ numberOut r ≡ run (now (file .entry)) (shapeFrom widths (length (now (file .entry))) order count at 0) ⌝ }
 {
     let word = widths.word;
@@ -70,8 +72,8 @@ fn check_entries(file: &[u8], order: Order, widths: Widths, count: usize, at: us
 }
 
 // The directory at an offset.
-pub fn ifd_at(file: &[u8], order: Order, widths: Widths, at: usize) -> Opened
-    requires { ⌜ (length (now file) ≤ 67108864) × Laid widths ⌝ }
+pub fn ifd_at(file: &[u8], order: Order, widths: Widths, at: usize) -> IfdTest
+    requires { ⌜ (length (now file) ≤ 67108864) × Widths-in widths ⌝ }
     ensures { λ r. ⌜ (ifdOut r ≡ run (now (file .entry)) (ifdReading widths (length (now (file .entry))) order at)) × IfdIn (now (file .entry)) r ⌝ }
 {
     let entries = widths.entries;
@@ -82,8 +84,8 @@ pub fn ifd_at(file: &[u8], order: Order, widths: Widths, at: usize) -> Opened
         if 0 < count {
             if entry::many_inside(first + word, 4 + word + word, count, file.len()) {
                 return match check_entries(file, order, widths, count, first) {
-                    Number::Refused { number, detail } => Opened::Refused { number, detail },
-                    Number::Is(_) => Opened::Is(Ifd {
+                    Number::Refused { number, detail } => IfdTest::Refused { number, detail },
+                    Number::Is(_) => IfdTest::Is(Ifd {
                         order,
                         widths,
                         count,
@@ -93,7 +95,7 @@ pub fn ifd_at(file: &[u8], order: Order, widths: Widths, at: usize) -> Opened
             }
         }
     }
-    Opened::Refused {
+    IfdTest::Refused {
         number: 3,
         detail: 0,
     }

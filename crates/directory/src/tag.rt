@@ -2,13 +2,16 @@
 ghost use mathlib.Core.Path.{_≡_};
 ghost use Prim.Native.Nat.{ℕ, _+_, _*_, _≤_, _<_};
 ghost use lib.ListN.{length};
-ghost use Rattle.reading.specs.Number.{Wide};
+ghost use Rattle.reading.specs.Facts.Number.{Wide};
 ghost use Rattle.reading.specs.Reading.{run};
-ghost use Rattle.directory.specs.Out.{numberOut};
-ghost use Rattle.directory.specs.Widths.{entryWidth, Laid};
-ghost use Rattle.directory.specs.Shape.{Tested};
-ghost use Rattle.directory.specs.Tag.{findFrom, FoundIn, Placed, allowsOf, valuesOut, absentOf, testedReading, valuesReading, notCarried};
-ghost use Rattle.directory.specs.Tag.{ValuesIn, faultOf, eachReading, oneReading, NumberIn, InRange, Numeric, judgedOf, allReading};
+ghost use Rattle.directory.specs.Facts.Out.{numberOut};
+ghost use Rattle.directory.specs.Widths.{entryWidth};
+ghost use Rattle.directory.specs.Facts.Widths.{Widths-in};
+ghost use Rattle.directory.specs.Facts.Shape.{Tested};
+ghost use Rattle.directory.specs.Tag.{findFrom, allowsOf, absentOf, testedReading, valuesReading, notCarried};
+ghost use Rattle.directory.specs.Facts.Tag.{FoundIn, Placed, valuesOut};
+ghost use Rattle.directory.specs.Tag.{rangeFault, eachReading, oneReading, judgedOf, allReading};
+ghost use Rattle.directory.specs.Facts.Tag.{ValuesIn, NumberIn, InRange, Numeric};
 use crate::Ifd;
 use crate::Number;
 use crate::Widths;
@@ -54,7 +57,7 @@ pub struct Values {
     pub count: usize,
 }
 
-pub enum Given {
+pub enum ValuesTest {
     Refused { number: usize, detail: usize },
     Is(Values),
 }
@@ -68,7 +71,7 @@ pub struct Range {
 
 // The first of so many entries with a tag: of the others only the tag is read.
 fn find(file: &[u8], order: Order, widths: Widths, count: usize, at: usize, tag: usize) -> Found
-    requires { ⌜ (at + entryWidth widths * count ≤ length (now file)) × Laid widths ⌝ }
+    requires { ⌜ (at + entryWidth widths * count ≤ length (now file)) × Widths-in widths ⌝ }
     ensures { λ r. ⌜ (r ≡ run (now (file .entry)) (findFrom widths order count at tag)) × FoundIn widths (length (now (file .entry))) r ⌝ }
 {
     let word = widths.word;
@@ -106,16 +109,16 @@ fn allows(kinds: Kinds, kind: Kind) -> bool
     }
 }
 
-fn absent(rule: Rule) -> Given
+fn absent(rule: Rule) -> ValuesTest
     ensures { λ r. ⌜ (valuesOut r ≡ absentOf rule) × ((size : ℕ) → ValuesIn size rule r) ⌝ }
 {
     if rule.required {
-        Given::Refused {
+        ValuesTest::Refused {
             number: 5,
             detail: rule.tag,
         }
     } else {
-        Given::Is(Values {
+        ValuesTest::Is(Values {
             place: 0,
             kind: Kind::Unknown,
             size: 0,
@@ -132,8 +135,8 @@ fn tested(
     rule: Rule,
     place: usize,
     entry: Entry,
-) -> Given
-    requires { ⌜ (place + widths .word ≤ length (now file)) × Laid widths ⌝ }
+) -> ValuesTest
+    requires { ⌜ (place + widths .word ≤ length (now file)) × Widths-in widths ⌝ }
     requires { ⌜ Placed widths (now file) order place entry ⌝ }
     ensures { λ r. ⌜ (valuesOut r ≡ run (now (file .entry)) (testedReading widths order rule place entry)) × ValuesIn (length (now (file .entry))) rule r ⌝ }
 {
@@ -144,22 +147,22 @@ fn tested(
     let ok = allows(kinds, kind);
     if ok {
         if count < rule.least {
-            return Given::Refused { number: 4, detail };
+            return ValuesTest::Refused { number: 4, detail };
         }
         if rule.most < count {
-            return Given::Refused { number: 4, detail };
+            return ValuesTest::Refused { number: 4, detail };
         }
         let size = entry::size(kind);
         let word = widths.word;
         if entry::fits(size, count, word) {
-            Given::Is(Values {
+            ValuesTest::Is(Values {
                 place,
                 kind,
                 size,
                 count,
             })
         } else {
-            Given::Is(Values {
+            ValuesTest::Is(Values {
                 place: number::value(file, order, word, place),
                 kind,
                 size,
@@ -167,12 +170,12 @@ fn tested(
             })
         }
     } else {
-        Given::Refused { number: 4, detail }
+        ValuesTest::Refused { number: 4, detail }
     }
 }
 
 // A tag by its rule.
-pub fn look_up(file: &[u8], ifd: Ifd, rule: Rule) -> Given
+pub fn look_up(file: &[u8], ifd: Ifd, rule: Rule) -> ValuesTest
     requires { ⌜ Tested (now file) ifd ⌝ }
     ensures { λ r. ⌜ (valuesOut r ≡ run (now (file .entry)) (valuesReading ifd rule)) × ValuesIn (length (now (file .entry))) rule r ⌝ }
 {
@@ -204,7 +207,7 @@ pub fn not_carried(file: &[u8], ifd: Ifd, tag: usize) -> Number
 
 // The refusal of a number, or 0.
 fn fault(range: Range, v: usize) -> usize
-    ensures { λ r. ⌜ (r ≡ faultOf range v) × (r ≡ 0 → InRange range v) ⌝ }
+    ensures { λ r. ⌜ (r ≡ rangeFault range v) × (r ≡ 0 → InRange range v) ⌝ }
 {
     if v < range.legal {
         return 4;
@@ -263,8 +266,8 @@ pub fn one(file: &[u8], ifd: Ifd, rule: Rule, default: usize, range: Range) -> N
     ensures { λ r. ⌜ (numberOut r ≡ run (now (file .entry)) (oneReading ifd rule default range)) × NumberIn range r ⌝ }
 {
     let v = match look_up(file, ifd, rule) {
-        Given::Refused { number, detail } => return Number::Refused { number, detail },
-        Given::Is(v) => v,
+        ValuesTest::Refused { number, detail } => return Number::Refused { number, detail },
+        ValuesTest::Is(v) => v,
     };
     let count = v.count;
     if count == 0 {
@@ -277,21 +280,21 @@ pub fn one(file: &[u8], ifd: Ifd, rule: Rule, default: usize, range: Range) -> N
 }
 
 // A tag whose numbers must all be in a range.
-pub fn all(file: &[u8], ifd: Ifd, rule: Rule, range: Range) -> Given
+pub fn all(file: &[u8], ifd: Ifd, rule: Rule, range: Range) -> ValuesTest
     requires { ⌜ Tested (now file) ifd ⌝ }
     requires { ⌜ Numeric (rule .kinds) ⌝ }
     ensures { λ r. ⌜ (valuesOut r ≡ run (now (file .entry)) (allReading ifd rule range)) × ValuesIn (length (now (file .entry))) rule r ⌝ }
 {
     let v = match look_up(file, ifd, rule) {
-        Given::Refused { number, detail } => return Given::Refused { number, detail },
-        Given::Is(v) => v,
+        ValuesTest::Refused { number, detail } => return ValuesTest::Refused { number, detail },
+        ValuesTest::Is(v) => v,
     };
     let size = v.size;
     let place = v.place;
     let count = v.count;
     let order = ifd.order;
     match each(file, order, size, rule.tag, range, count, place) {
-        Number::Refused { number, detail } => Given::Refused { number, detail },
-        Number::Is(_) => Given::Is(v),
+        Number::Refused { number, detail } => ValuesTest::Refused { number, detail },
+        Number::Is(_) => ValuesTest::Is(v),
     }
 }

@@ -2,26 +2,29 @@
 ghost use mathlib.Core.Path.{_≡_};
 ghost use Prim.Native.Nat.{_+_, _*_, _≤_, _<_};
 ghost use lib.ListN.{length, take};
-ghost use Rattle.reading.specs.Number.{Wide};
+ghost use Rattle.reading.specs.Facts.Number.{Wide};
 ghost use Rattle.reading.specs.Reading.{run, runWhole};
-ghost use Rattle.directory.specs.Out.{numberOut};
-ghost use Rattle.directory.specs.Widths.{Laid};
-ghost use Rattle.directory.specs.Shape.{Tested};
-ghost use Rattle.directory.specs.Tag.{Placed-values};
-ghost use Rattle.directory.specs.Tree.{lookOut, lookReading, LookIn, versionRule, backwardRule, backwardReading, versionReading, walkOut};
-ghost use Rattle.directory.specs.Tree.{visitReading, listVisit, WalkIn, treeOut, walkReading, rootReading, TreeIn, sameBytes, offsetReading};
+ghost use Rattle.directory.specs.Facts.Out.{numberOut};
+ghost use Rattle.directory.specs.Facts.Widths.{Widths-in};
+ghost use Rattle.directory.specs.Facts.Shape.{Tested};
+ghost use Rattle.directory.specs.Facts.Tag.{Placed-values};
+ghost use Rattle.directory.specs.Tree.{lookReading, versionRule, backwardRule, backwardReading, versionReading};
+ghost use Rattle.directory.specs.Facts.Tree.{lookOut, LookIn, walkOut};
+ghost use Rattle.directory.specs.Tree.{visitReading, listVisit, walkReading, rootReading, sameBytes, offsetReading};
+ghost use Rattle.directory.specs.Facts.Tree.{WalkIn, treeOut, TreeIn};
 ghost use Rattle.directory.specs.Tree.{bigTiffReading, treeReading};
 use crate::Ifd;
+use crate::IfdTest;
 use crate::Number;
-use crate::Opened;
 use crate::Widths;
+use crate::names;
 use crate::shape;
 use crate::tag;
-use crate::tag::Given;
 use crate::tag::Kinds;
 use crate::tag::Range;
 use crate::tag::Rule;
 use crate::tag::Values;
+use crate::tag::ValuesTest;
 use reading::number;
 use reading::number::Order;
 
@@ -63,7 +66,7 @@ fn inspect(file: &[u8], ifd: Ifd) -> Look
     ensures { λ r. ⌜ (lookOut r ≡ run (now (file .entry)) (lookReading ifd)) × LookIn (length (now (file .entry))) r ⌝ }
 {
     let subfile = Rule {
-        tag: 254,
+        tag: names::NEW_SUBFILE_TYPE,
         kinds: Kinds::Long,
         required: false,
         least: 1,
@@ -82,15 +85,15 @@ fn inspect(file: &[u8], ifd: Ifd) -> Look
         return Look::Raw;
     }
     let children = Rule {
-        tag: 330,
+        tag: names::SUB_IFDS,
         kinds: Kinds::LongOrIfd,
         required: false,
         least: 1,
         most: 16,
     };
     match tag::look_up(file, ifd, children) {
-        Given::Refused { number, detail } => Look::Refused { number, detail },
-        Given::Is(v) => Look::Into {
+        ValuesTest::Refused { number, detail } => Look::Refused { number, detail },
+        ValuesTest::Is(v) => Look::Into {
             place: v.place,
             size: v.size,
             count: v.count,
@@ -121,29 +124,29 @@ fn check_version(file: &[u8], ifd: Ifd) -> Number
         file,
         ifd,
         Rule {
-            tag: 50706,
+            tag: names::DNG_VERSION,
             kinds: Kinds::Byte,
             required: true,
             least: 4,
             most: 4,
         },
     ) {
-        Given::Refused { number, detail } => return Number::Refused { number, detail },
-        Given::Is(v) => v,
+        ValuesTest::Refused { number, detail } => return Number::Refused { number, detail },
+        ValuesTest::Is(v) => v,
     };
     let given = match tag::look_up(
         file,
         ifd,
         Rule {
-            tag: 50707,
+            tag: names::DNG_BACKWARD_VERSION,
             kinds: Kinds::Byte,
             required: false,
             least: 4,
             most: 4,
         },
     ) {
-        Given::Refused { number, detail } => return Number::Refused { number, detail },
-        Given::Is(v) => v,
+        ValuesTest::Refused { number, detail } => return Number::Refused { number, detail },
+        ValuesTest::Is(v) => v,
     };
     let n = backward(file, version, given);
     if 0x01070100 < n {
@@ -158,7 +161,7 @@ fn check_version(file: &[u8], ifd: Ifd) -> Number
 
 // Visits the directory at an offset, with so many levels and visits left.
 fn visit(file: &[u8], order: Order, widths: Widths, depth: usize, at: usize, visits: usize) -> Walk
-    requires { ⌜ (length (now file) ≤ 67108864) × Laid widths ⌝ }
+    requires { ⌜ (length (now file) ≤ 67108864) × Widths-in widths ⌝ }
     ensures { λ r. ⌜ walkOut r ≡ run (now (file .entry)) (visitReading widths (length (now (file .entry))) order depth at visits) ⌝ }
     ensures { λ r. ⌜ WalkIn (now (file .entry)) r ⌝ }
 {
@@ -175,8 +178,8 @@ fn visit(file: &[u8], order: Order, widths: Widths, depth: usize, at: usize, vis
         };
     }
     let ifd = match shape::ifd_at(file, order, widths, at) {
-        Opened::Refused { number, detail } => return Walk::Refused { number, detail },
-        Opened::Is(d) => d,
+        IfdTest::Refused { number, detail } => return Walk::Refused { number, detail },
+        IfdTest::Is(d) => d,
     };
     match inspect(file, ifd) {
         Look::Raw => Walk::Raw(ifd),
@@ -205,7 +208,7 @@ fn visit_children(
     place: usize,
     visits: usize,
 ) -> Walk
-    requires { ⌜ (length (now file) ≤ 67108864) × Laid widths ⌝ }
+    requires { ⌜ (length (now file) ≤ 67108864) × Widths-in widths ⌝ }
     requires { ⌜ (count ≤ 16) × (place + size * count ≤ length (now file)) × (0 < count → Wide size) ⌝ }
     ensures { λ r. ⌜ walkOut r ≡ run (now (file .entry)) (listVisit widths (length (now (file .entry))) order depth size count place visits) ⌝ }
     ensures { λ r. ⌜ WalkIn (now (file .entry)) r ⌝ }
@@ -255,12 +258,12 @@ fn walk_from(file: &[u8], first: Ifd) -> Walk
 
 // IFD 0 at an offset, its version, and the walk from it.
 fn root(file: &[u8], order: Order, widths: Widths, at: usize) -> Tree
-    requires { ⌜ (length (now file) ≤ 67108864) × Laid widths ⌝ }
+    requires { ⌜ (length (now file) ≤ 67108864) × Widths-in widths ⌝ }
     ensures { λ r. ⌜ (treeOut r ≡ run (now (file .entry)) (rootReading widths (length (now (file .entry))) order at)) × TreeIn (now (file .entry)) r ⌝ }
 {
     let first = match shape::ifd_at(file, order, widths, at) {
-        Opened::Refused { number, detail } => return Tree::Refused { number, detail },
-        Opened::Is(d) => d,
+        IfdTest::Refused { number, detail } => return Tree::Refused { number, detail },
+        IfdTest::Is(d) => d,
     };
     match check_version(file, first) {
         Number::Refused { number, detail } => return Tree::Refused { number, detail },
@@ -295,7 +298,7 @@ fn starts_with(file: &[u8], mark: &[u8; 4]) -> bool
 
 // IFD 0, whose offset stands at a place.
 fn root_from(file: &[u8], order: Order, widths: Widths, place: usize) -> Tree
-    requires { ⌜ (length (now file) ≤ 67108864) × Laid widths × (place + widths .word ≤ length (now file)) ⌝ }
+    requires { ⌜ (length (now file) ≤ 67108864) × Widths-in widths × (place + widths .word ≤ length (now file)) ⌝ }
     ensures { λ r. ⌜ (treeOut r ≡ run (now (file .entry)) (offsetReading widths (length (now (file .entry))) order place)) × TreeIn (now (file .entry)) r ⌝ }
 {
     let word = widths.word;

@@ -15,7 +15,7 @@ use Rattle.reading.proofs.Magnitude.{natAbs-add, natAbs-sub}
 use Rattle.reading.proofs.Wholes.{le-or-lt}
 use Rattle.levels.specs.Clip.{plusZero}
 use Rattle.levels.specs.Level.{differenceOf, levelOf, roundedOf, scaledOf, most}
-use Rattle.levels.specs.Reciprocal.{ofParts, inverseOf, flooredOf, levelBy, SpanIn, DifferenceIs, BlackIs, InverseIs}
+use Rattle.levels.specs.Facts.Reciprocal.{ofParts, inverseOf, flooredOf, levelBy, SpanIn, DifferenceIs, BlackIs, InverseIs}
 use Rattle.levels.proofs.Values.{parts-value, add-parts, sub-parts, lt-fractions}
 use Rattle.levels.proofs.Inverse.{rounded-none, rounded-full, level-by-reciprocal}
 

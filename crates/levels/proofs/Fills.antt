@@ -10,7 +10,7 @@ use lib.Dec.{eqb}
 use lib.IntN.{ℤ, pos, natAbs}
 use lib.ListN.{length, getD, set, replicate, length-set}
 use lib.Seq.{getD-set-same, getD-set-other}
-use Rattle.levels.specs.Black.{Small}
+use Rattle.levels.specs.Facts.Black.{Small}
 
 pub record Filled (g : ℕ → ℤ) (j : ℕ) (old new : List ℤ) : Type 0 where
   pub same : length new ≡ length old

@@ -22,7 +22,7 @@ use lib.Ieee.Order.{round-mono}
 use lib.Ieee.Scale.{grid, round-val, round-same, normal-of-fraction}
 use Rattle.reading.proofs.Wholes.{le-or-lt}
 use Rattle.levels.specs.Level.{roundedOf, most}
-use Rattle.levels.specs.Reciprocal.{ofParts, raisedUnits, mostRaised, bigWhole, big, wholeOf, cappedOf, inverseOf}
+use Rattle.levels.specs.Facts.Reciprocal.{ofParts, raisedUnits, mostRaised, bigWhole, big, wholeOf, cappedOf, inverseOf}
 use Rattle.levels.proofs.Nearness.{Close, CloseTwice, close-most, close-least, close-cancel, product-close, closest-is, round-close}
 use Rattle.levels.proofs.Nearness.{whole-of}
 use Rattle.levels.proofs.Values.{parts-value, mul-values, add-values, sub-down, div-values, lt-fractions, le-values, Shape}

@@ -11,7 +11,7 @@ use lib.IntN.{ℤ, pos}
 use lib.ListN.{getD}
 use lib.Signed.{leZ}
 use Rattle.levels.specs.Levels.{Levels, maxBelow, cellFor, blackFor, greatestBlack}
-use Rattle.levels.specs.Residues.{timesOf, greatestDelta, ByResidue, residueBlack, greatestByResidues}
+use Rattle.levels.specs.Facts.Residues.{timesOf, greatestDelta, ByResidue, residueBlack, greatestByResidues}
 use Rattle.levels.proofs.SignedOrder.{leZ-refl, sum-same, sum-above}
 use Rattle.levels.proofs.Maxima.{Greatest, unique, Meets, carried-over, Below, below-greatest, Spot, spots-greatest, pairs-greatest}
 

@@ -19,7 +19,7 @@ use lib.Ieee.Exact.{HasValue, round-exact}
 use lib.Ieee.Order.{transfer}
 use lib.Ieee.Scale.{round-same}
 use Rattle.reading.proofs.Wholes.{le-or-lt, negative, int-value}
-use Rattle.levels.specs.Reciprocal.{ofParts}
+use Rattle.levels.specs.Facts.Reciprocal.{ofParts}
 
 -- ---- the product
 mul-opened : (m : ℕ) (e : ℤ) (n : ℕ) (d : ℤ) →

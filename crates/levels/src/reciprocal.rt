@@ -4,7 +4,7 @@ ghost use Prim.Native.Nat.{_<_};
 ghost use lib.IntN.{ℤ, pos, natAbs};
 ghost use lib.Ieee.{binary64, ofInt};
 ghost use Rattle.levels.specs.Level.{differenceOf, levelOf, scaledOf};
-ghost use Rattle.levels.specs.Reciprocal.{ofParts, inverseOf, flooredOf, cappedOf, wholeOf, DifferenceIs, BlackIs, InverseIs};
+ghost use Rattle.levels.specs.Facts.Reciprocal.{ofParts, inverseOf, flooredOf, cappedOf, wholeOf, DifferenceIs, BlackIs, InverseIs};
 
 // A number of 256ths as f64.
 pub fn number_of(z: i64) -> f64

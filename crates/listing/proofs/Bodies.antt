@@ -19,10 +19,10 @@ use Rattle.levels.proofs.Runs.{length-run, run-at}
 use Rattle.levels.proofs.Unit.{unit}
 use Rattle.opcodes.specs.Frame.{Frame, framed, standing}
 use Rattle.opcodes.specs.declared.grid.Size.{Size}
-use Rattle.rows.specs.Part.{Units, Sized-in}
+use Rattle.rows.specs.Facts.Part.{All-in-unit, Sized-in}
 use Rattle.develop.specs.Calls.{Opened, opened, sizeOf, frameOf, joined, valuesOf, Window, windowWith, windowOf, windowCall}
 use Rattle.develop.specs.Demand.{aloneIn}
-use Rattle.develop.specs.View.{Viewed}
+use Rattle.develop.specs.Facts.View.{Viewed}
 use Rattle.develop.specs.declared.View.{View}
 use Rattle.develop.specs.declared.Opening.the-variants as opening
 use Rattle.develop.specs.declared.Answer.{Answer}
@@ -30,7 +30,7 @@ use Rattle.develop.proofs.Answers.{frame-alone, developed-alone, values-same, a
 use Rattle.develop.proofs.Called.{spansRows, spansColumns, fault-none, filled-none}
 use Rattle.develop.proofs.Windows.{viewed-sized}
 use Rattle.listing.specs.Text.{valuesText, rowsText, refusedText, frameText, listedOf, headText, bodyText, listingOf}
-use Rattle.listing.specs.Body.{linesText, Listed, rowsFrom, OpenedIs, RefusedIs, Headed}
+use Rattle.listing.specs.Facts.Body.{linesText, Listed, rowsFrom, OpenedIs, RefusedIs, Headed}
 use Rattle.listing.specs.declared.First.{First}
 use Rattle.listing.proofs.Lines.{line-length, refused-short, frame-short}
 
@@ -145,22 +145,22 @@ module _ (f : List ℕ) (o : Opened) where
       ∙ ap (λ (k : ℕ). k * (17 * (z .columns * z .samples))) (sub-zero (z .rows))
 
 -- ---- numbers from 0 to 1
-units-append : (xs ys : List Float) → Units xs → Units ys → Units (xs ++ ys)
+units-append : (xs ys : List Float) → All-in-unit xs → All-in-unit ys → All-in-unit (xs ++ ys)
 units-append [] ys a b k h = b k h
 units-append (x ∷ xs) ys a b zero h = a 0 (omega arith)
 units-append (x ∷ xs) ys a b (suc k) h = units-append xs ys (λ j l. a (suc j) (omega arith)) b k (omega arith)
 
-units-joined : (g : ℕ → List Float) → ((r : ℕ) → Units (g r)) → (i n : ℕ) → Units (joined (runOf g 1 i n))
+units-joined : (g : ℕ → List Float) → ((r : ℕ) → All-in-unit (g r)) → (i n : ℕ) → All-in-unit (joined (runOf g 1 i n))
 unfolding runOf
 units-joined g u i zero k h = absurd (omega arith)
 units-joined g u i (suc n) k h = units-append (g i) (joined (runOf g 1 (i + 1) n)) (u i) (λ j l. units-joined g u (i + 1) n j l) k h
 
-units-run : (g : ℕ → Float) → ((k : ℕ) → unit (g k)) → (i n : ℕ) → Units (runOf g 1 i n)
+units-run : (g : ℕ → Float) → ((k : ℕ) → unit (g k)) → (i n : ℕ) → All-in-unit (runOf g 1 i n)
 units-run g u i n k h =
     let b : k < n = omega (arith, length-run g 1 i n) in
     rw (run-at g 1 i n k nan b) (u (i + 1 * k))
 
-pub values-units : (f : List ℕ) (o : Opened) (t l h w n : ℕ) → Units (valuesOf (aloneIn f o) t l h w n)
+pub values-units : (f : List ℕ) (o : Opened) (t l h w n : ℕ) → All-in-unit (valuesOf (aloneIn f o) t l h w n)
 values-units f o t l h w n = units-joined _ (λ r. units-joined _ (λ c. units-run _ (alone-is-unit f o r c) 0 n) l w) t h
 
 -- ---- what the window's promise says of a block of rows
@@ -194,8 +194,8 @@ module _ (f : List ℕ) (z : Size) (q : Listed f z) (t h : ℕ) (old : List Floa
 
   pub block-units :
       1 ≤ h → t + h ≤ z .rows → length old ≡ h * (z .columns * z .samples) → (a : Answer) (new : List Float)
-      → windowWith a new ≡ windowCall f t 0 h (z .columns) old → Units new
-  block-units s b n a new e = subst Units (sym (block-values s b n a new e)) (values-units f file t 0 h _ _)
+      → windowWith a new ≡ windowCall f t 0 h (z .columns) old → All-in-unit new
+  block-units s b n a new e = subst All-in-unit (sym (block-values s b n a new e)) (values-units f file t 0 h _ _)
 
   pub block-body :
       1 ≤ h → t + h ≤ z .rows → length old ≡ h * (z .columns * z .samples) → (a : Answer) (new : List Float)

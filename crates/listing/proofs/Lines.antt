@@ -9,9 +9,9 @@ use lib.Ieee.{Float, nan}
 use lib.ListN.{length, getD, take, drop, length-append, length-drop, length-take, drop-of-length-le, replicate, length-replicate}
 use lib.Seq.{paste, drop-cons, drop-drop, take-paste, length-paste, take-length, getD-take, getD-drop}
 use Rattle.opcodes.specs.declared.grid.Size.{Size}
-use Rattle.rows.specs.Part.{Units}
+use Rattle.rows.specs.Facts.Part.{All-in-unit}
 use Rattle.listing.specs.Text.{decimalOf, valueText, endText, valuesText, refusedWord, frameWord, refusedText, frameText}
-use Rattle.listing.specs.Body.{Puts, linesText}
+use Rattle.listing.specs.Facts.Body.{Puts, linesText}
 use Rattle.listing.proofs.Numerals.{value-length, decimal-short}
 
 -- a whole word copied
@@ -130,7 +130,7 @@ module _ (xs : List Float) where
       )
 
 -- ---- lines
-pub units-part : (xs : List Float) (a m : ℕ) → a + m ≤ length xs → Units xs → Units (take m (drop a xs))
+pub units-part : (xs : List Float) (a m : ℕ) → a + m ≤ length xs → All-in-unit xs → All-in-unit (take m (drop a xs))
 units-part xs a m h u k b =
     let l : length (take m (drop a xs)) ≡ m = simp (length-take, length-drop) (omega arith) in
     let e : getD (take m (drop a xs)) k nan ≡ getD xs (a + k) nan = getD-take m (drop a xs) k nan (omega arith) ∙ getD-drop a xs k nan in

@@ -1,3 +1,2 @@
 pub mod Text
-pub mod Body
-pub mod Pieces
+pub mod Facts

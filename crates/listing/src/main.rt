@@ -11,10 +11,10 @@ ghost use Prim.Native.Nat.{_+_, _*_, _≤_, _<_};
 ghost use lib.Dec.{T};
 ghost use lib.Ieee.{isNan};
 ghost use lib.ListN.{length, take};
-ghost use Rattle.rows.specs.Part.{Units, Sized-in};
+ghost use Rattle.rows.specs.Facts.Part.{All-in-unit, Sized-in};
 ghost use Rattle.listing.specs.Text.{decimalOf, valueText, valuesText, refusedText, frameText, listingOf};
-ghost use Rattle.listing.specs.Body.{Puts, LinesIn, linesText, RefusedIs, Headed, Ready, BlockIn, rowsFrom};
-ghost use Rattle.listing.specs.Pieces.{Stands, Remains, Ends};
+ghost use Rattle.listing.specs.Facts.Body.{Puts, LinesIn, linesText, RefusedIs, Headed, Ready, BlockIn, rowsFrom};
+ghost use Rattle.listing.specs.Facts.Pieces.{Stands, Remains, Ends};
 use develop::Opening;
 use develop::View;
 use develop::window;
@@ -58,7 +58,7 @@ fn put_value(text: &mut [u8], at: usize, x: f64) -> usize
 
 // A line of values.
 fn put_line(text: &mut [u8], at: usize, values: &[f64]) -> usize
-    requires { ⌜ (1 ≤ length (now values)) × (at + 17 * length (now values) ≤ length (now text)) × Units (now values) ⌝ }
+    requires { ⌜ (1 ≤ length (now values)) × (at + 17 * length (now values) ≤ length (now text)) × All-in-unit (now values) ⌝ }
     ensures { λ r. ⌜ Puts (now (text .entry)) at (valuesText (now (values .entry))) (now (text .exit)) r ⌝ }
 {
     let mut end = put_value(text, at, values[0]);

@@ -15,8 +15,8 @@ use Rattle.levels.specs.Clip.{plusZero}
 use Rattle.opcodes.specs.Grid.{longOf}
 use Rattle.opcodes.specs.Step.{floatIn}
 use Rattle.opcodes.specs.GainMap.{GainMap, floatOf, placeOf, wholeOf, restOf, betweenOf, alongOf, gainOf, planesIn, gainMapOf}
-use Rattle.opcodes.specs.Bracket.{GainMap-in, pointOf, takenOf, Bracket-at, Bracket-of, Bracket-in, nextOf, gainIn, cornersOf}
-use Rattle.opcodes.specs.Bracket.{cornersGain}
+use Rattle.opcodes.specs.Facts.Bracket.{GainMap-in, pointOf, takenOf, Bracket-at, Bracket-of, Bracket-in, nextOf, gainIn, cornersOf}
+use Rattle.opcodes.specs.Facts.Bracket.{cornersGain}
 use Rattle.opcodes.specs.declared.grid.Size.{Size}
 use Rattle.opcodes.specs.declared.gain_map.Corners.{Corners}
 use Rattle.opcodes.specs.declared.gain_map.Bracket.{Bracket}

@@ -16,12 +16,13 @@ use Rattle.reading.specs.Number.{numberOf}
 use Rattle.reading.specs.Reading.{pick}
 use Rattle.reading.specs.declared.number.Order.the-variants.{Big}
 use Rattle.levels.specs.Clip.{plusZero}
-use Rattle.opcodes.specs.Grid.{longOf, gridOf, fitsOf, Fits-in}
+use Rattle.opcodes.specs.Grid.{longOf, gridOf, fitsOf}
+use Rattle.opcodes.specs.Facts.Grid.{Fits-in}
 use Rattle.opcodes.specs.Step.{doubleIn}
 use Rattle.opcodes.specs.GainMap.{GainMap, planesIn}
 use Rattle.opcodes.specs.GainMap.{gainsIn, aboveAt, axisLegal, gainMapLegal}
-use Rattle.opcodes.specs.Bracket.{GainMap-in}
-use Rattle.opcodes.specs.OpcodeList.{refusedAt, refusedIn, plainFault, gainMapFault, faultOf}
+use Rattle.opcodes.specs.Facts.Bracket.{GainMap-in}
+use Rattle.opcodes.specs.OpcodeList.{refusedAt, refusedIn, plainFault, gainMapFault, opcodeFault}
 use Rattle.opcodes.specs.declared.grid.Size.{Size}
 use Rattle.opcodes.proofs.OpcodeLists.{and-true, fits-in}
 use Rattle.opcodes.proofs.Places.{or-false, real-finite, real-positive}
@@ -200,10 +201,10 @@ module _ (z : Size) (ps : List ℕ) where
 
 -- ---- by the id
 module _ (z : Size) (id : ℕ) (ps : List ℕ) where
-  pub fault-map : id ≡ 9 → gainMapFault z ps ≡ faultOf z id ps
-  unfolding faultOf pick
+  pub fault-map : id ≡ 9 → gainMapFault z ps ≡ opcodeFault z id ps
+  unfolding opcodeFault pick
   fault-map e = rw (eq-eqb id 9 e)
 
-  pub fault-plain : (id ≡ 9 → ⊥) → plainFault z id ps ≡ faultOf z id ps
-  unfolding faultOf pick
+  pub fault-plain : (id ≡ 9 → ⊥) → plainFault z id ps ≡ opcodeFault z id ps
+  unfolding opcodeFault pick
   fault-plain e = rw (ne-eqb id 9 e)

@@ -17,8 +17,10 @@ use Rattle.reading.proofs.Reading.{running, run-answer, run-ask, pick-yes, pick
 use Rattle.directory.specs.Out.{Out, Out.refused, Out.is, bind}
 use Rattle.directory.proofs.Outs.{bind-refused, bind-is, bind-inverse, not-refused, same-value}
 use Rattle.opcodes.specs.Opcode.{Opcode, skipped, kept}
-use Rattle.opcodes.specs.OpcodeList.{headerOf, classOf, faultOf, parametersOf, opcodeReading, listFrom, listReading, countedOn}
-use Rattle.opcodes.specs.OpcodeList.{countedOne, startOf}
+use Rattle.opcodes.specs.OpcodeList.{headerOf, classOf, opcodeFault, parametersOf, opcodeReading, listFrom, listReading}
+use Rattle.opcodes.specs.Facts.OpcodeList.{countedOn}
+use Rattle.opcodes.specs.OpcodeList.{startOf}
+use Rattle.opcodes.specs.Facts.OpcodeList.{countedOne}
 use Rattle.opcodes.specs.declared.grid.Size.{Size}
 use Rattle.opcodes.specs.declared.list.Header.{Header}
 use Rattle.opcodes.specs.declared.list.Class.the-variants as class
@@ -26,12 +28,12 @@ use Rattle.opcodes.specs.declared.list.Counts.{Counts}
 
 -- ---- one opcode
 module _ (z : Size) (i id : ℕ) (ps : List ℕ) (c : Counts) where
-  pub parameters-kept : faultOf z id ps ≡ 0 →
+  pub parameters-kept : opcodeFault z id ps ≡ 0 →
       is (record { kept = c .kept + 1; skipped = c .skipped }) ≡ countedOne c (parametersOf z i id ps)
   unfolding parametersOf pick
   parameters-kept e = rw (eq-eqb _ _ e)
 
-  pub parameters-refused : (faultOf z id ps ≡ 0 → ⊥) → refused (faultOf z id ps) i ≡ countedOne c (parametersOf z i id ps)
+  pub parameters-refused : (opcodeFault z id ps ≡ 0 → ⊥) → refused (opcodeFault z id ps) i ≡ countedOne c (parametersOf z i id ps)
   unfolding parametersOf pick
   parameters-refused e = rw (ne-eqb _ _ e)
 

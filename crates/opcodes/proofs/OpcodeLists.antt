@@ -16,7 +16,8 @@ use Rattle.reading.specs.Reading.{pick}
 use Rattle.reading.specs.Number.{numberOf}
 use Rattle.reading.specs.declared.number.Order.the-variants.{Big}
 use Rattle.reading.proofs.Bytes.{part-part}
-use Rattle.opcodes.specs.Grid.{longOf, gridOf, fitsOf, Fits-in}
+use Rattle.opcodes.specs.Grid.{longOf, gridOf, fitsOf}
+use Rattle.opcodes.specs.Facts.Grid.{Fits-in}
 use Rattle.opcodes.specs.OpcodeList.{listedId, classOf, countOf, rowsOf, columnsOf, tableForm, polynomialForm, linesForm, formOf}
 use Rattle.opcodes.specs.OpcodeList.{refusedAt, refusedIn, exactOf, plainFault}
 use Rattle.opcodes.specs.declared.grid.Size.{Size}

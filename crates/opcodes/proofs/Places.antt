@@ -24,7 +24,7 @@ use Rattle.levels.specs.Clip.{plusZero}
 use Rattle.opcodes.specs.Step.{half, valueOf}
 use Rattle.opcodes.specs.OpcodeList.{refusedReal}
 use Rattle.opcodes.specs.GainMap.{floatOf, placeOf, wholeOf}
-use Rattle.opcodes.specs.Bracket.{Axis-in}
+use Rattle.opcodes.specs.Facts.Bracket.{Axis-in}
 use Rattle.opcodes.specs.declared.gain_map.Axis.{Axis}
 use Rattle.levels.proofs.Values.{odd-shape, round-shape}
 

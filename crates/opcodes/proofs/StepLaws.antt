@@ -22,12 +22,13 @@ use Rattle.levels.specs.Run.{runOf}
 use Rattle.levels.specs.Table.{tableOf}
 use Rattle.levels.proofs.Runs.{run-at, run-same, within}
 use Rattle.levels.proofs.Unit.{unit}
-use Rattle.opcodes.specs.Grid.{longOf, everyOf, linesOf, gridOf, onOf, fitsOf, Fits-in}
+use Rattle.opcodes.specs.Grid.{longOf, everyOf, linesOf, gridOf, onOf, fitsOf}
+use Rattle.opcodes.specs.Facts.Grid.{Fits-in}
 use Rattle.opcodes.specs.Step.{hornerOf, mappedOf, resultOf, appliedOf, valueOf, coefficientsOf, polynomialOf}
 use Rattle.opcodes.specs.Opcode.{row, column, actOf, lineOf}
 use Rattle.opcodes.specs.OpcodeList.{listedId, countOf, rowsOf, columnsOf, tableForm, polynomialForm, linesForm, formOf}
 use Rattle.opcodes.specs.OpcodeList.{refusedReal, refusedAt, refusedIn, exactOf, plainFault, floatsOf, kindOf}
-use Rattle.opcodes.specs.StepAt.{plainId, floatAt, FloatIn, stepOf}
+use Rattle.opcodes.specs.Facts.StepAt.{plainId, floatAt, FloatIn, stepOf}
 use Rattle.opcodes.specs.declared.grid.Size.{Size}
 use Rattle.opcodes.specs.declared.grid.Grid.{Grid}
 use Rattle.opcodes.specs.declared.list.Form.{Form}

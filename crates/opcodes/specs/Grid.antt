@@ -1,5 +1,5 @@
 -- "The grid is every pitch-th row from Top, column from Left, on those planes."
-use Prim.Native.Nat.{ℕ, _+_, _-_, _/_, _%_, _≤_, _<_}
+use Prim.Native.Nat.{ℕ, _+_, _-_, _/_, _%_}
 use mathlib.Core.Bool.{Bool, _&&_}
 use mathlib.Core.List.{List}
 use lib.Dec.{leb, ltb, eqb}
@@ -50,14 +50,3 @@ planesFit z g = leb 1 (g .planes) && (leb (g .plane + g .planes) (z .samples) &&
 -- "Top < Bottom <= active rows, Left < Right <= active columns, Planes >= 1, Plane + Planes <= samples, both pitches >= 1"
 unfoldable pub fitsOf : Size → Grid → Bool
 fitsOf z g = insideOf (g .top) (g .bottom) (z .rows) && (insideOf (g .left) (g .right) (z .columns) && planesFit z g)
-
--- and as facts
-pub record Fits-in (z : Size) (g : Grid) : Type 0 where
-  pub some-rows : g .top < g .bottom
-  pub rows : g .bottom ≤ z .rows
-  pub some-columns : g .left < g .right
-  pub columns : g .right ≤ z .columns
-  pub some-planes : 1 ≤ g .planes
-  pub planes : g .plane + g .planes ≤ z .samples
-  pub row-pitch : 1 ≤ g .«row_pitch»
-  pub column-pitch : 1 ≤ g .«column_pitch»

@@ -1,9 +1,8 @@
 pub mod Grid
 pub mod Step
 pub mod GainMap
-pub mod Bracket
 pub mod Opcode
 pub mod Frame
 pub mod OpcodeList
 pub mod Swap
-pub mod StepAt
+pub mod Facts

@@ -25,9 +25,6 @@ use Rattle.opcodes.specs.declared.list.Header.{Header}
 use Rattle.opcodes.specs.declared.list.Class.{Class}
 use Rattle.opcodes.specs.declared.list.Class.the-variants as class
 use Rattle.opcodes.specs.declared.list.Form.{Form}
-use Rattle.opcodes.specs.declared.list.Counts.{Counts}
-use Rattle.opcodes.specs.declared.list.Tested.{Tested}
-use Rattle.opcodes.specs.declared.list.Tested.the-variants as tested
 
 -- ---- a header: "id, version, flags, byte length (4 bytes each)"
 unfoldable pub headerOf : List ℕ → Header
@@ -104,8 +101,8 @@ gainMapFault z ps =
     (leb 76 (length ps) && (fitsOf z (gridOf ps) && (gainMapLegal ps && eqb (length ps) (76 + 4 * gainsIn ps))))
     (refusedIn 8 ps 40 4 || refusedIn 4 ps 76 (gainsIn ps))
 
-unfoldable pub faultOf : Size → ℕ → List ℕ → ℕ
-faultOf z id ps = pick (eqb id 9) (gainMapFault z ps) (plainFault z id ps)
+unfoldable pub opcodeFault : Size → ℕ → List ℕ → ℕ
+opcodeFault z id ps = pick (eqb id 9) (gainMapFault z ps) (plainFault z id ps)
 
 -- n FLOATs
 abbrev pub floatsOf : List ℕ → ℕ → ℕ → List Float
@@ -122,7 +119,7 @@ kindOf z id ps =
 
 -- a carried opcode, i-th of the list, from its id and its parameters
 unfoldable pub parametersOf : Size → ℕ → ℕ → List ℕ → Out Opcode
-parametersOf z i id ps = pick (eqb (faultOf z id ps) 0) (is (kept (gridOf ps) (kindOf z id ps))) (refused (faultOf z id ps) i)
+parametersOf z i id ps = pick (eqb (opcodeFault z id ps) 0) (is (kept (gridOf ps) (kindOf z id ps))) (refused (opcodeFault z id ps) i)
 
 -- ---- the list
 -- one opcode, i-th of the list, whose header stands at a place; a skipped opcode's parameters are not read
@@ -161,24 +158,6 @@ abbrev pub skippedIn : List Opcode → ℕ
 skippedIn [] = 0
 skippedIn (skipped ∷ os) = suc (skippedIn os)
 skippedIn (kept g k ∷ os) = skippedIn os
-
--- the counts of an accepted list, on top of counts so far
-abbrev pub none : Counts
-none = record { kept = 0; skipped = 0 }
-
-abbrev pub countedOn : Counts → Out (List Opcode) → Out Counts
-countedOn c (refused n d) = refused n d
-countedOn c (is os) = is (record { kept = c .kept + keptIn os; skipped = c .skipped + skippedIn os })
-
--- and of one opcode
-abbrev pub countedOne : Counts → Out Opcode → Out Counts
-countedOne c (refused n d) = refused n d
-countedOne c (is skipped) = is (record { kept = c .kept; skipped = c .skipped + 1 })
-countedOne c (is (kept g k)) = is (record { kept = c .kept + 1; skipped = c .skipped })
-
-abbrev pub testedOut : Tested → Out Counts
-testedOut (tested.Refused n d) = refused n d
-testedOut (tested.Is c) = is c
 
 -- where the m-th opcode of a list stands, whose first one stands at a place
 abbrev pub startOf : List ℕ → ℕ → ℕ → ℕ

@@ -1,9 +1,9 @@
 -- The correction at one sample: "an added number, a factor, up to nine coefficients, a table".
-use Prim.Native.Nat.{ℕ, _+_, _*_, _≤_}
+use Prim.Native.Nat.{ℕ, _+_}
 use mathlib.Core.Bool.{true, false}
 use mathlib.Core.List.{List, [], _∷_}
 use lib.IntN.{pos, negsuc}
-use lib.ListN.{length, getD}
+use lib.ListN.{getD}
 use lib.Ieee.{Float, fin, binary32, binary64, add, mul, toUnsigned}
 use Rattle.reading.specs.Bytes.{part}
 use Rattle.reading.specs.Number.{numberOf}
@@ -56,18 +56,6 @@ resultOf (Table at) f x = mappedOf (tableAt f at) x
 -- "Each result is clipped"
 unfoldable pub appliedOf : Step → List ℕ → Float → Float
 appliedOf step f x = clipOf (resultOf step f x)
-
--- "size 1 to 65,536", in the file
-pub record TableIn (f : List ℕ) (at : ℕ) : Type 0 where
-  pub some : 1 ≤ sizeAt f at
-  pub most : sizeAt f at ≤ 65536
-  pub inside : at + 4 + 2 * sizeAt f at ≤ length f
-
-abbrev pub StepIn : List ℕ → Step → Type 0
-StepIn f (Add d) = Unit {0}
-StepIn f (Scale s) = Unit {0}
-StepIn f (Polynomial a0 a1 a2 a3 a4 a5 a6 a7 a8) = Unit {0}
-StepIn f (Table at) = TableIn f at
 
 -- an accepted FLOAT or DOUBLE at a place
 abbrev pub valueOf : Real → Float

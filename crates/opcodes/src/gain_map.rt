@@ -6,7 +6,7 @@ ghost use lib.Ieee.{binary64, nanBits, isNan};
 ghost use mathlib.Core.Bool.{false};
 ghost use Rattle.opcodes.specs.Grid.{longOf};
 ghost use Rattle.opcodes.specs.GainMap.{placeOf, betweenOf, gainOf, axisOf, downOf, acrossOf, planesIn, gainMapOf, aboveAt, axisLegal, gainMapLegal, gainsIn};
-ghost use Rattle.opcodes.specs.Bracket.{Axis-in, GainMap-in, pointOf, takenOf, Bracket-at, Bracket-of, Bracket-in, nextOf, cornersOf, Corners-in, cornersGain};
+ghost use Rattle.opcodes.specs.Facts.Bracket.{Axis-in, GainMap-in, pointOf, takenOf, Bracket-at, Bracket-of, Bracket-in, nextOf, cornersOf, Corners-in, cornersGain};
 use crate::grid;
 use crate::grid::Size;
 use crate::step;

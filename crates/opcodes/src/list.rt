@@ -7,7 +7,8 @@ ghost use lib.Dec.{eqb, leb};
 ghost use lib.ListN.{length};
 ghost use Rattle.reading.specs.Bytes.{part};
 ghost use Rattle.reading.specs.Reading.{pick, run};
-ghost use Rattle.opcodes.specs.OpcodeList.{headerOf, listedId, classOf, tableForm, polynomialForm, linesForm, formOf, refusedReal, refusedAt, refusedIn, exactOf, plainFault, gainMapFault, faultOf, opcodeReading, listFrom, listReading, none, countedOne, countedOn, testedOut};
+ghost use Rattle.opcodes.specs.OpcodeList.{headerOf, listedId, classOf, tableForm, polynomialForm, linesForm, formOf, refusedReal, refusedAt, refusedIn, exactOf, plainFault, gainMapFault, opcodeFault, opcodeReading, listFrom, listReading};
+ghost use Rattle.opcodes.specs.Facts.OpcodeList.{none, countedOne, countedOn, listOut};
 use crate::gain_map;
 use crate::grid;
 use crate::grid::Grid;
@@ -45,7 +46,7 @@ pub struct Counts {
     pub skipped: usize,
 }
 
-pub enum Tested {
+pub enum ListTest {
     Refused { number: usize, detail: usize },
     Is(Counts),
 }
@@ -258,7 +259,7 @@ fn gain_map_fault(ps: &[u8], size: Size) -> usize
 // The refusal of an opcode's own bytes, or 0.
 fn own_fault(ps: &[u8], size: Size, id: usize) -> usize
     requires { ⌜ (size .rows ≤ 16384) × (size .columns ≤ 16384) ⌝ }
-    ensures { λ r. ⌜ r ≡ faultOf size id (now (ps .entry)) ⌝ }
+    ensures { λ r. ⌜ r ≡ opcodeFault size id (now (ps .entry)) ⌝ }
 {
     if id == 9 {
         gain_map_fault(ps, size)
@@ -270,36 +271,36 @@ fn own_fault(ps: &[u8], size: Size, id: usize) -> usize
 // The same, of the bytes at a place.
 fn fault(file: &[u8], size: Size, at: usize, bytes: usize, id: usize) -> usize
     requires { ⌜ (at + bytes ≤ length (now file)) × (size .rows ≤ 16384) × (size .columns ≤ 16384) ⌝ }
-    ensures { λ r. ⌜ r ≡ faultOf size id (part (now (file .entry)) at bytes) ⌝ }
+    ensures { λ r. ⌜ r ≡ opcodeFault size id (part (now (file .entry)) at bytes) ⌝ }
 {
     own_fault(&file[at..at + bytes], size, id)
 }
 
 // The i-th opcode, whose header stands at a place, counted.
-fn judge(file: &[u8], size: Size, i: usize, at: usize, header: Header, counts: Counts) -> Tested
+fn judge(file: &[u8], size: Size, i: usize, at: usize, header: Header, counts: Counts) -> ListTest
     requires { ⌜ (at + 16 + header .length ≤ length (now file)) × (size .rows ≤ 16384) × (size .columns ≤ 16384) ⌝ }
     requires { ⌜ (counts .kept ≤ 32) × (counts .skipped ≤ 32) ⌝ }
-    ensures { λ r. ⌜ testedOut r ≡ countedOne counts (run (now (file .entry)) (opcodeReading (classOf header) size i at header)) ⌝ }
+    ensures { λ r. ⌜ listOut r ≡ countedOne counts (run (now (file .entry)) (opcodeReading (classOf header) size i at header)) ⌝ }
 {
     match classify(header) {
         Class::Carried => {
             let number = fault(file, size, at + 16, header.length, header.id);
             if number == 0 {
-                return Tested::Is(Counts {
+                return ListTest::Is(Counts {
                     kept: counts.kept + 1,
                     skipped: counts.skipped,
                 });
             }
-            Tested::Refused { number, detail: i }
+            ListTest::Refused { number, detail: i }
         }
         Class::Optional => {
-            Tested::Is(Counts {
+            ListTest::Is(Counts {
                 kept: counts.kept,
                 skipped: counts.skipped + 1,
             })
         }
         Class::Compulsory => {
-            Tested::Refused {
+            ListTest::Refused {
                 number: 11,
                 detail: i,
             }
@@ -308,9 +309,9 @@ fn judge(file: &[u8], size: Size, i: usize, at: usize, header: Header, counts: C
 }
 
 // So many opcodes in the bytes from a place on.
-fn test_opcodes(file: &[u8], size: Size, count: usize, at: usize, bytes: usize) -> Tested
+fn test_opcodes(file: &[u8], size: Size, count: usize, at: usize, bytes: usize) -> ListTest
     requires { ⌜ (at + bytes ≤ length (now file)) × (size .rows ≤ 16384) × (size .columns ≤ 16384) × (count ≤ 32) ⌝ }
-    ensures { λ r. ⌜ testedOut r ≡ countedOn none (run (now (file .entry)) (listFrom size count 0 at bytes)) ⌝ }
+    ensures { λ r. ⌜ listOut r ≡ countedOn none (run (now (file .entry)) (listFrom size count 0 at bytes)) ⌝ }
 {
     let mut counts = Counts {
         kept: 0,
@@ -321,7 +322,7 @@ fn test_opcodes(file: &[u8], size: Size, count: usize, at: usize, bytes: usize) 
     let mut rest = bytes;
     while i < count {
         if rest < 16 {
-            return Tested::Refused {
+            return ListTest::Refused {
                 number: 10,
                 detail: i,
             };
@@ -329,23 +330,23 @@ fn test_opcodes(file: &[u8], size: Size, count: usize, at: usize, bytes: usize) 
         let h = header_at(file, p);
         let whole = 16 + h.length;
         if rest < whole {
-            return Tested::Refused {
+            return ListTest::Refused {
                 number: 10,
                 detail: i,
             };
         }
         counts = match judge(file, size, i, p, h, counts) {
-            Tested::Refused { number, detail } => return Tested::Refused { number, detail },
-            Tested::Is(c) => c,
+            ListTest::Refused { number, detail } => return ListTest::Refused { number, detail },
+            ListTest::Is(c) => c,
         };
         p += whole;
         rest -= whole;
         i += 1;
     }
     if rest == 0 {
-        Tested::Is(counts)
+        ListTest::Is(counts)
     } else {
-        Tested::Refused {
+        ListTest::Refused {
             number: 10,
             detail: i,
         }
@@ -353,19 +354,19 @@ fn test_opcodes(file: &[u8], size: Size, count: usize, at: usize, bytes: usize) 
 }
 
 // The value of 51009: so many bytes from a place on; none of an absent tag.
-pub fn test_list(file: &[u8], size: Size, at: usize, bytes: usize) -> Tested
+pub fn test_list(file: &[u8], size: Size, at: usize, bytes: usize) -> ListTest
     requires { ⌜ (at + bytes ≤ length (now file)) × (size .rows ≤ 16384) × (size .columns ≤ 16384) × (0 < bytes → 4 ≤ bytes) ⌝ }
-    ensures { λ r. ⌜ testedOut r ≡ countedOn none (run (now (file .entry)) (listReading size at bytes)) ⌝ }
+    ensures { λ r. ⌜ listOut r ≡ countedOn none (run (now (file .entry)) (listReading size at bytes)) ⌝ }
 {
     if bytes == 0 {
-        return Tested::Is(Counts {
+        return ListTest::Is(Counts {
             kept: 0,
             skipped: 0,
         });
     }
     let count = grid::field(file, at);
     if 32 < count {
-        return Tested::Refused {
+        return ListTest::Refused {
             number: 11,
             detail: 32,
         };

@@ -2,7 +2,7 @@
 ghost use mathlib.Core.Path.{_≡_};
 ghost use Prim.Native.Nat.{_+_, _*_, _≤_};
 ghost use lib.ListN.{length};
-ghost use Rattle.opcodes.specs.StepAt.{plainId, floatAt, FloatIn, stepOf, StepAt-in};
+ghost use Rattle.opcodes.specs.Facts.StepAt.{plainId, floatAt, FloatIn, stepOf, StepAt-in};
 ghost use mathlib.Core.Bool.{true};
 use crate::grid;
 use crate::step;

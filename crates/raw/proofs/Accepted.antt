@@ -1,5 +1,6 @@
 -- What holds of whatever the raw directory's tests accept, by the definitions alone: its strips and its list lie in the file.
 -- Assumes nothing.
+use Rattle.directory.specs.Names.{columnInterleaveFactor, compression, opcodeList1, opcodeList3, planarConfiguration, rowInterleaveFactor}
 use mathlib.Core.Path.{_≡_, sym, ap, subst, _∙_}
 use mathlib.Core.List.{List}
 use Prim.Native.Nat.{ℕ, _≤_}
@@ -8,8 +9,9 @@ use Rattle.reading.specs.Reading.{run, runWhole}
 use Rattle.reading.specs.declared.number.Order.{Order}
 use Rattle.reading.proofs.Reading.{run-answer}
 use Rattle.directory.specs.Out.{Out.is}
-use Rattle.directory.specs.Shape.{Tested}
-use Rattle.directory.specs.Tag.{valuesReading, notCarried, Placed-values}
+use Rattle.directory.specs.Facts.Shape.{Tested}
+use Rattle.directory.specs.Tag.{valuesReading, notCarried}
+use Rattle.directory.specs.Facts.Tag.{Placed-values}
 use Rattle.directory.specs.Tree.{treeReading}
 use Rattle.directory.specs.declared.Ifd.{Ifd}
 use Rattle.directory.specs.declared.tag.Kinds.the-variants as kinds
@@ -18,10 +20,11 @@ use Rattle.directory.proofs.Outs.{bind-inverse, same-value}
 use Rattle.directory.proofs.Accepted.{tree-rooted, values-placed, one-in}
 use Rattle.raw.specs.Frame.{frameReading}
 use Rattle.raw.specs.Layout.{depthReading, onlyOne, formatReading, stripRowsReading, layoutReading}
-use Rattle.raw.specs.Strips.{stripCount, rowBytes, stripFrom, offsetsRule, countsRule, stripsReading, Strips-in}
+use Rattle.raw.specs.Strips.{stripCount, rowBytes, stripFrom, offsetsRule, countsRule, stripsReading}
+use Rattle.raw.specs.Facts.Strips.{Strips-in}
 use Rattle.raw.specs.Area.{areaReading}
 use Rattle.raw.specs.LevelTags.{levelTagsReading}
-use Rattle.raw.specs.Lists.{listRule, listReading}
+use Rattle.raw.specs.Lists.{listRule, listTagReading}
 use Rattle.raw.specs.Raw.{activeRows, activeColumns, tagsReading}
 use Rattle.raw.specs.Front.{rawReading, frontReading}
 use Rattle.raw.specs.declared.frame.Frame.{Frame}
@@ -37,11 +40,11 @@ module _ (f : List ℕ) (d : Ifd) where
   unfolding layoutReading stripRowsReading
   layout-rows s l e =
       let a = bind-inverse f (depthReading d s) _ l e in
-      let b = bind-inverse f (onlyOne d 259 kinds.Short 0) _ l (a .2) in
-      let c = bind-inverse f (onlyOne d 284 kinds.Short 0) _ l (b .2) in
+      let b = bind-inverse f (onlyOne d compression kinds.Short 0) _ l (a .2) in
+      let c = bind-inverse f (onlyOne d planarConfiguration kinds.Short 0) _ l (b .2) in
       let g = bind-inverse f (formatReading d s) _ l (c .2) in
-      let h = bind-inverse f (onlyOne d 50975 kinds.ShortOrLong 1) _ l (g .2) in
-      let i = bind-inverse f (onlyOne d 52547 kinds.ShortOrLong 1) _ l (h .2) in
+      let h = bind-inverse f (onlyOne d rowInterleaveFactor kinds.ShortOrLong 1) _ l (g .2) in
+      let i = bind-inverse f (onlyOne d columnInterleaveFactor kinds.ShortOrLong 1) _ l (h .2) in
       let r = bind-inverse f (stripRowsReading d) _ l (i .2) in
       let q : l .rows ≡ r .0 = ap (λ (x : Layout). x .rows) (same-value l _ (r .2 ∙ run-answer f _)) in
       rw q (one-in f d _ _ _ (r .0) (r .1) .legal)
@@ -66,11 +69,11 @@ module _ (f : List ℕ) (d : Ifd) where
               n i (os .place) (cs .place) (fr .length) (s .1) h;
         })
 
-    pub list-accepted : (v : Values) → is v ≡ run f (listReading d) → Placed-values (length f) listRule v
-    unfolding listReading
+    pub list-accepted : (v : Values) → is v ≡ run f (listTagReading d) → Placed-values (length f) listRule v
+    unfolding listTagReading
     list-accepted v e =
-        let a = bind-inverse f (notCarried d 51008) _ v e in
-        let b = bind-inverse f (notCarried d 51022) _ v (a .2) in
+        let a = bind-inverse f (notCarried d opcodeList1) _ v e in
+        let b = bind-inverse f (notCarried d opcodeList3) _ v (a .2) in
         values-placed f listRule v d t (b .2)
 
 -- the strips and the list lie in the file
@@ -88,7 +91,7 @@ tags-accepted f d h t e =
     let c = bind-inverse f (stripsReading (length f) d fr (b .0)) _ t (b .2) in
     let i = bind-inverse f (areaReading d fr) _ t (c .2) in
     let j = bind-inverse f (levelTagsReading d (fr .samples) (activeRows (i .0)) (activeColumns (i .0))) _ t (i .2) in
-    let k = bind-inverse f (listReading d) _ t (j .2) in
+    let k = bind-inverse f (listTagReading d) _ t (j .2) in
     subst (Inside f (d .order)) (sym (same-value t _ (k .2 ∙ run-answer f _)))
     (record {
       rows = layout-rows f d (fr .samples) (b .0) (b .1);

@@ -1,5 +1,6 @@
 -- The tests of the black levels and the white levels.
 -- Assumes nothing.
+use Rattle.directory.specs.Names.{whiteLevel}
 use mathlib.Core.Path.{_≡_, sym, ap, subst, _∙_}
 use mathlib.Core.List.{List}
 use mathlib.Core.Bool.{true}
@@ -21,19 +22,21 @@ use Rattle.directory.specs.Out.{Out.is}
 use Rattle.directory.specs.Entry.{sizeOf}
 use Rattle.directory.specs.declared.entry.Kind.{Kind}
 use Rattle.directory.proofs.Tags.{number-or-fraction}
-use Rattle.directory.specs.Tag.{allowsOf, valuesOut, ValuesIn, range, allReading}
+use Rattle.directory.specs.Tag.{allowsOf, range, allReading}
+use Rattle.directory.specs.Facts.Tag.{valuesOut, ValuesIn}
 use Rattle.directory.specs.declared.Ifd.{Ifd}
 use Rattle.directory.specs.declared.tag.Kinds.the-variants as kinds
 use Rattle.directory.specs.declared.tag.Values.{Values}
-use Rattle.directory.specs.declared.tag.Given.{Given}
-use Rattle.directory.specs.declared.tag.Given.the-variants as given
+use Rattle.directory.specs.declared.tag.ValuesTest.{ValuesTest}
+use Rattle.directory.specs.declared.tag.ValuesTest.the-variants as given
 use Rattle.directory.proofs.Outs.{bind-inverse}
 use Rattle.levels.specs.Run.{runOf}
 use Rattle.levels.specs.Black.{blackOf, widthOf, valueOf, blackAt, firstRefused}
 use Rattle.levels.specs.declared.black.Black.{Black}
 use Rattle.levels.proofs.Runs.{run-same}
 use Rattle.raw.specs.Black.{kindFor, blackOut, blacksTest}
-use Rattle.raw.specs.White.{whiteReading, whiteRule, WhitesIn}
+use Rattle.raw.specs.White.{whiteReading, whiteRule}
+use Rattle.raw.specs.Facts.White.{WhitesIn}
 use Rattle.raw.proofs.Ranges.{each-to}
 
 -- the bytes of the type
@@ -78,7 +81,7 @@ same-value v u e = cc
 abbrev Most : List ℕ → Order → Values → Type 0
 Most f o v = (i : ℕ) → i < v .count → numberOf o (part f (v .place + v .size * i) (v .size)) ≤ 65535
 
-pub whites-in : (f : List ℕ) (d : Ifd) (s : ℕ) (r : Given) →
+pub whites-in : (f : List ℕ) (d : Ifd) (s : ℕ) (r : ValuesTest) →
     valuesOut r ≡ run f (whiteReading d s) → ValuesIn (length f) (whiteRule s) r → WhitesIn f (d .order) (whiteRule s) r
 unfolding whiteReading allReading
 whites-in f d s (given.Refused n t) e q = tt
@@ -90,5 +93,5 @@ whites-in f d s (given.Is v) e q =
     record {
       placed = q;
       most = subst (Most f (d .order)) (sym same)
-          (λ i l. each-to f (d .order) (u .size) 50717 (range 0 0 65535) (b .0) (u .count) i (u .place) (b .1) l);
+          (λ i l. each-to f (d .order) (u .size) whiteLevel (range 0 0 65535) (b .0) (u .count) i (u .place) (b .1) l);
     }

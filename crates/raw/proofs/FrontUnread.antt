@@ -1,6 +1,7 @@
 -- What is read for the tests up to 9, and for what every sample needs: nothing but the tree, the raw directory's entries and the values
 -- of its tags.
 -- Assumes nothing.
+use Rattle.directory.specs.Names.{blackLevel, blackLevelDeltaH, blackLevelDeltaV, linearizationTable, opcodeList2, stripOffsets, whiteLevel}
 use mathlib.Core.Path.{_≡_, refl, sym, subst, _∙_}
 use mathlib.Core.Bool.{true, false}
 use mathlib.Core.List.{List}
@@ -33,7 +34,7 @@ use Rattle.raw.specs.Repeat.{repeatReading}
 use Rattle.raw.specs.Black.{kindFor, blacksTest, blackRule, blackReading, deltaRule, deltaReading}
 use Rattle.raw.specs.White.{tableRule, tableReading, whiteRule, whiteReading}
 use Rattle.raw.specs.LevelTags.{levelTagsReading}
-use Rattle.raw.specs.Lists.{listReading}
+use Rattle.raw.specs.Lists.{listTagReading}
 use Rattle.raw.specs.Raw.{activeRows, activeColumns, tagsReading}
 use Rattle.raw.specs.Stored.{numbersReading, blacksReading, whitesReading, levelsReading, storedReading}
 use Rattle.raw.specs.Spans.{spannedOf}
@@ -58,7 +59,7 @@ module _ (f : List ℕ) (d : Ifd) (v : Values) where
   unfolding blackReading
   black-given r s e =
       let a = bind-inverse f (valuesReading d (blackRule r s)) _ v e in
-      let b = bind-inverse f (blacksTest (d .order) 50714 (kindFor (a .0 .kind)) (a .0 .size) (a .0 .count) (a .0 .place)) _ v (a .2) in
+      let b = bind-inverse f (blacksTest (d .order) blackLevel (kindFor (a .0 .kind)) (a .0 .size) (a .0 .count) (a .0 .place)) _ v (a .2) in
       subst (λ (x : Values). is x ≡ run f (valuesReading d (blackRule r s))) (sym (same-value v (a .0) (b .2 ∙ run-answer f _))) (a .1)
 
   delta-given : (tag n : ℕ) → is v ≡ run f (deltaReading d tag n) → is v ≡ run f (valuesReading d (deltaRule tag n))
@@ -75,7 +76,7 @@ module _ (f : List ℕ) (d : Ifd) (v : Values) where
       let a = bind-inverse f (valuesReading d (offsetsRule w l)) _ v e in
       let b = bind-inverse f (valuesReading d (countsRule w l)) _ v (a .2) in
       let c = bind-inverse f (stripFrom size (d .order) (a .0 .size) (b .0 .size) (l .rows) (rowBytes w l) (stripCount w l) (a .0 .place)
-          (b .0 .place) (w .length)) _ v (b .2) in
+      (b .0 .place) (w .length)) _ v (b .2) in
       subst (λ (x : Values). is x ≡ run f (valuesReading d (offsetsRule w l))) (sym (same-value v (a .0) (c .2 ∙ run-answer f _))) (a .1)
 
 -- ---- byte j is in no value of accepted tags
@@ -97,7 +98,7 @@ record Tags-off (j : ℕ) (t : Tags) : Type 0 where
 pub record Raw-clear (f : List ℕ) (j : ℕ) (d : Ifd) : Type 0 where
   pub heads : reads (headsOf d) j ≡ false
   pub values : (tag : ℕ) → hasKey rawTags tag ≡ true → reads (valueIn f d tag) j ≡ false
-  pub list : reads (offsetIn f d 51009) j ≡ false
+  pub list : reads (offsetIn f d opcodeList2) j ≡ false
 
 module _ (f : List ℕ) (j : ℕ) (d : Ifd) (c : Raw-clear f j d) where
   levels-off : (s rows columns : ℕ) (v : LevelTags) → is v ≡ run f (levelTagsReading d s rows columns) → Levels-off j v
@@ -106,19 +107,19 @@ module _ (f : List ℕ) (j : ℕ) (d : Ifd) (c : Raw-clear f j d) where
       let t = bind-inverse f (tableReading d) _ v e in
       let r = bind-inverse f (repeatReading d) _ v (t .2) in
       let b = bind-inverse f (blackReading d (r .0) s) _ v (r .2) in
-      let cs = bind-inverse f (deltaReading d 50715 columns) _ v (b .2) in
-      let rs = bind-inverse f (deltaReading d 50716 rows) _ v (cs .2) in
+      let cs = bind-inverse f (deltaReading d blackLevelDeltaH columns) _ v (b .2) in
+      let rs = bind-inverse f (deltaReading d blackLevelDeltaV rows) _ v (cs .2) in
       let w = bind-inverse f (whiteReading d s) _ v (rs .2) in
       subst (Levels-off j) (sym (same-value v _ (w .2 ∙ run-answer f _)))
       (record {
-        table = values-off f d j tableRule (t .0) (t .1) (c .values 50712 refl) .off;
-        black = values-off f d j (blackRule (r .0) s) (b .0) (black-given f d (b .0) (r .0) s (b .1)) (c .values 50714 refl) .off;
+        table = values-off f d j tableRule (t .0) (t .1) (c .values linearizationTable refl) .off;
+        black = values-off f d j (blackRule (r .0) s) (b .0) (black-given f d (b .0) (r .0) s (b .1)) (c .values blackLevel refl) .off;
         column-deltas =
-            values-off f d j (deltaRule 50715 columns) (cs .0) (delta-given f d (cs .0) 50715 columns (cs .1)) (c .values 50715 refl) .off;
+            values-off f d j (deltaRule blackLevelDeltaH columns) (cs .0) (delta-given f d (cs .0) blackLevelDeltaH columns (cs .1)) (c .values blackLevelDeltaH refl) .off;
         row-deltas =
-            values-off f d j (deltaRule 50716 rows) (rs .0) (delta-given f d (rs .0) 50716 rows (rs .1)) (c .values 50716 refl) .off;
+            values-off f d j (deltaRule blackLevelDeltaV rows) (rs .0) (delta-given f d (rs .0) blackLevelDeltaV rows (rs .1)) (c .values blackLevelDeltaV refl) .off;
         white =
-            values-off f d j (whiteRule s) (w .0) (all-given f d (w .0) (whiteRule s) (range 0 0 65535) (w .1)) (c .values 50717 refl) .off;
+            values-off f d j (whiteRule s) (w .0) (all-given f d (w .0) (whiteRule s) (range 0 0 65535) (w .1)) (c .values whiteLevel refl) .off;
       })
 
   tags-off : (size : ℕ) (t : Tags) → is t ≡ run f (tagsReading size d) → Tags-off j t
@@ -129,12 +130,12 @@ module _ (f : List ℕ) (j : ℕ) (d : Ifd) (c : Raw-clear f j d) where
       let s = bind-inverse f (stripsReading size d (w .0) (l .0)) _ t (l .2) in
       let a = bind-inverse f (areaReading d (w .0)) _ t (s .2) in
       let v = bind-inverse f (levelTagsReading d (w .0 .samples) (activeRows (a .0)) (activeColumns (a .0))) _ t (a .2) in
-      let o = bind-inverse f (listReading d) _ t (v .2) in
+      let o = bind-inverse f (listTagReading d) _ t (v .2) in
       subst (Tags-off j) (sym (same-value t _ (o .2 ∙ run-answer f _)))
       (record {
         strips =
             values-off f d j (offsetsRule (w .0) (l .0)) (s .0) (strips-given f d (s .0) size (w .0) (l .0) (s .1))
-            (c .values 273 refl) .off;
+            (c .values stripOffsets refl) .off;
         levels = levels-off (w .0 .samples) (activeRows (a .0)) (activeColumns (a .0)) (v .0) (v .1);
       })
 
@@ -159,7 +160,7 @@ module _ (f : List ℕ) (j : ℕ) (d : Ifd) (c : Raw-clear f j d) where
       (blacks-unread o kind.SignedRational (t .levels .«row_deltas») (h .row-deltas))
       (unread-then f j (whitesReading o t) _
       (unread-pick f j (eqb (t .levels .white .count) 0) _ (numbersReading o (t .levels .white)) (λ _. unread-answer f j _)
-          (λ _. numbers-unread o (t .levels .white) (h .white)))
+      (λ _. numbers-unread o (t .levels .white) (h .white)))
       (unread-answer f j _)))))
 
   pub stored-unread : (size : ℕ) (o : Order) (t : Tags) → is t ≡ run f (tagsReading size d) → Unread f j (storedReading o t)
@@ -176,7 +177,7 @@ module _ (f : List ℕ) (j : ℕ) (d : Ifd) (c : Raw-clear f j d) where
       unread-bind f j (tagsReading size d) _ (tags-unread f d j (c .heads) size (c .values) (c .list)) (λ t e.
       unread-bind f j _ _
       (unread-then f j (levelsReading (d .order) t) (λ (l : Levels). answer (spannedOf l))
-          (levels-unread (d .order) t (tags-off size t e .levels)) (unread-answer f j _))
+      (levels-unread (d .order) t (tags-off size t e .levels)) (unread-answer f j _))
       (λ s _. unread-answer f j (is (rawWith t s))))
 
 -- all tests up to 9

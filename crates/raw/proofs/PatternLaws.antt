@@ -1,5 +1,6 @@
 -- The mosaic's pattern, case by case.
 -- Assumes nothing.
+use Rattle.directory.specs.Names.{cfaPattern, cfaPlaneColor}
 use mathlib.Core.Path.{_≡_, refl, sym, _∙_, subst}
 use mathlib.Core.Bool.{Bool, true, false, _&&_}
 use mathlib.Core.List.{List}
@@ -22,7 +23,8 @@ use Rattle.directory.proofs.Outs.{bind-refused, bind-is, bind-inverse, same-val
 use Rattle.raw.specs.Pattern.{oneOf, timesOf, firstOf, lastOf, placesOf, fourColoursReading, planeColorOf, threeColoursReading}
 use Rattle.raw.specs.Pattern.{repeatDimReading}
 use Rattle.raw.specs.Pattern.{cfaPatternReading}
-use Rattle.raw.specs.Pattern.{planeColorReading, cfaLayoutReading, patternReading, Pattern-in}
+use Rattle.raw.specs.Pattern.{planeColorReading, cfaLayoutReading, patternReading}
+use Rattle.raw.specs.Facts.Pattern.{Pattern-in}
 use Rattle.raw.specs.declared.pattern.Pattern.{Pattern}
 
 pub one-same : (v x : ℕ) → v ≡ x → 1 ≡ oneOf v x
@@ -49,15 +51,15 @@ module _ (a b c d : ℕ) where
   unfolding placesOf
   places-are x y z r s t u er es et eu = simp (eq-eqb _ _ x, eq-eqb _ _ y, eq-eqb _ _ z, er, es, et, eu, pick-yes)
 
-  pub places-reds : (timesOf 0 a b c d ≡ 1 → ⊥) → refused 8 33422 ≡ placesOf a b c d
+  pub places-reds : (timesOf 0 a b c d ≡ 1 → ⊥) → refused 8 cfaPattern ≡ placesOf a b c d
   unfolding placesOf
   places-reds x = simp (ne-eqb _ _ x, pick-no)
 
-  pub places-greens : timesOf 0 a b c d ≡ 1 → (timesOf 1 a b c d ≡ 2 → ⊥) → refused 8 33422 ≡ placesOf a b c d
+  pub places-greens : timesOf 0 a b c d ≡ 1 → (timesOf 1 a b c d ≡ 2 → ⊥) → refused 8 cfaPattern ≡ placesOf a b c d
   unfolding placesOf
   places-greens x y = simp (eq-eqb _ _ x, ne-eqb _ _ y, pick-no)
 
-  pub places-blues : timesOf 0 a b c d ≡ 1 → timesOf 1 a b c d ≡ 2 → (timesOf 2 a b c d ≡ 1 → ⊥) → refused 8 33422 ≡ placesOf a b c d
+  pub places-blues : timesOf 0 a b c d ≡ 1 → timesOf 1 a b c d ≡ 2 → (timesOf 2 a b c d ≡ 1 → ⊥) → refused 8 cfaPattern ≡ placesOf a b c d
   unfolding placesOf
   places-blues x y z = simp (eq-eqb _ _ x, eq-eqb _ _ y, ne-eqb _ _ z, pick-no)
 
@@ -77,26 +79,26 @@ module _ (a b c d : ℕ) where
       v : Pattern
       v = record { red = firstOf 0 a b c; green1 = firstOf 1 a b c; green2 = lastOf 1 b c d; blue = firstOf 2 a b c }
 
-      go : (t : Bool) → is p ≡ pick t (is v) (refused 8 33422) → Pattern-in p
+      go : (t : Bool) → is p ≡ pick t (is v) (refused 8 cfaPattern) → Pattern-in p
       go true e =
           subst Pattern-in (sym (same-value p v e))
           (record { red = first-below 0; green1 = first-below 1; green2 = last-below 1; blue = first-below 2 })
-      go false e = absurd (not-refused p 8 33422 e)
+      go false e = absurd (not-refused p 8 cfaPattern e)
 
 module _ (a b c : ℕ) where
   pub planes-are : a ≡ 0 → b ≡ 1 → c ≡ 2 → is 0 ≡ planeColorOf a b c
   unfolding planeColorOf
   planes-are x y z = simp (eq-eqb _ _ x, eq-eqb _ _ y, eq-eqb _ _ z, pick-yes)
 
-  pub planes-first : (a ≡ 0 → ⊥) → refused 8 50710 ≡ planeColorOf a b c
+  pub planes-first : (a ≡ 0 → ⊥) → refused 8 cfaPlaneColor ≡ planeColorOf a b c
   unfolding planeColorOf
   planes-first x = simp (ne-eqb _ _ x, pick-no)
 
-  pub planes-second : a ≡ 0 → (b ≡ 1 → ⊥) → refused 8 50710 ≡ planeColorOf a b c
+  pub planes-second : a ≡ 0 → (b ≡ 1 → ⊥) → refused 8 cfaPlaneColor ≡ planeColorOf a b c
   unfolding planeColorOf
   planes-second x y = simp (eq-eqb _ _ x, ne-eqb _ _ y, pick-no)
 
-  pub planes-third : a ≡ 0 → b ≡ 1 → (c ≡ 2 → ⊥) → refused 8 50710 ≡ planeColorOf a b c
+  pub planes-third : a ≡ 0 → b ≡ 1 → (c ≡ 2 → ⊥) → refused 8 cfaPlaneColor ≡ planeColorOf a b c
   unfolding planeColorOf
   planes-third x y z = simp (eq-eqb _ _ x, eq-eqb _ _ y, ne-eqb _ _ z, pick-no)
 
@@ -152,5 +154,5 @@ pattern-below f d p e =
     let a = bind-inverse f (planeColorReading d) _ p (c .2) in
     let b = bind-inverse f (cfaLayoutReading d) _ p (a .2) in
     let q : p ≡ c .0 = same-value p (c .0) (b .2 ∙ run-answer f _) in
-    let g = bind-inverse f (valuesReading d (required 33422 kinds.Byte 4)) (fourColoursReading (d .order)) (c .0) (c .1) in
+    let g = bind-inverse f (valuesReading d (required cfaPattern kinds.Byte 4)) (fourColoursReading (d .order)) (c .0) (c .1) in
     subst Pattern-in (sym q) (places-below _ _ _ _ (c .0) (g .2 ∙ sym (four-bytes f (d .order) (g .0) _ _ _ refl refl refl _ refl)))

@@ -10,7 +10,7 @@ use Rattle.levels.specs.declared.black.BlackKind.{BlackKind}
 use Rattle.directory.specs.declared.Ifd.{Ifd}
 use Rattle.directory.specs.declared.tag.Kinds.{Kinds}
 use Rattle.directory.specs.declared.tag.Values.{Values}
-use Rattle.directory.proofs.Refusals.{Small, Small-detail, Smalls, smalls, small-then, small-pick, small-bind}
+use Rattle.directory.proofs.Refusals.{Small-refusal, Small-detail, Small-refusals, smalls, small-then, small-pick, small-bind}
 use Rattle.directory.proofs.Refusals.{values-small, not-carried-small, judged-small, one-small, each-small, all-small, tree-small}
 use Rattle.raw.specs.Frame.{dimensionReading, planesReading, frameReading}
 use Rattle.raw.specs.Layout.{depthFrom, depthReading, onlyOne, formatReading, stripRowsReading, layoutReading}
@@ -20,7 +20,7 @@ use Rattle.raw.specs.Repeat.{sideReading, pairReading, repeatReading}
 use Rattle.raw.specs.Black.{blackOut, blacksTest, blackReading, deltaReading}
 use Rattle.raw.specs.White.{tableReading, whiteReading}
 use Rattle.raw.specs.LevelTags.{levelTagsReading}
-use Rattle.raw.specs.Lists.{listReading}
+use Rattle.raw.specs.Lists.{listTagReading}
 use Rattle.raw.specs.Raw.{tagsReading}
 use Rattle.raw.specs.Spans.{spannedOf}
 use Rattle.raw.specs.Front.{rawReading, frontReading}
@@ -36,29 +36,29 @@ ruleset tags = (smalls, values-small, not-carried-small, judged-small, one-small
 
 -- ---- frame and layout
 
-planes-small : (d : Ifd) → Smalls (planesReading d)
+planes-small : (d : Ifd) → Small-refusals (planesReading d)
 unfolding planesReading
 planes-small d = search tags depth 8
 
-frame-small : (d : Ifd) → Smalls (frameReading d)
+frame-small : (d : Ifd) → Small-refusals (frameReading d)
 unfolding frameReading dimensionReading
 frame-small d = search (tags, planes-small) depth 10
 
-depth-small : (d : Ifd) (s : ℕ) → Smalls (depthReading d s)
+depth-small : (d : Ifd) (s : ℕ) → Small-refusals (depthReading d s)
 unfolding depthReading depthFrom
 depth-small d s = search tags depth 10
 
-only-one-small : (d : Ifd) (tag : ℕ) (k : Kinds) (legal : ℕ) → Small-detail tag → Smalls (onlyOne d tag k legal)
+only-one-small : (d : Ifd) (tag : ℕ) (k : Kinds) (legal : ℕ) → Small-detail tag → Small-refusals (onlyOne d tag k legal)
 unfolding onlyOne
 only-one-small d tag k legal small = search tags
 
-layout-small : (d : Ifd) (s : ℕ) → Smalls (layoutReading d s)
+layout-small : (d : Ifd) (s : ℕ) → Small-refusals (layoutReading d s)
 unfolding layoutReading formatReading stripRowsReading
 layout-small d s = search (tags, depth-small, only-one-small) depth 14
 
 -- ---- strips and area
 
-strip-small : (size : ℕ) (o : Order) (wide broad rows row n p q rest : ℕ) → Smalls (stripFrom size o wide broad rows row n p q rest)
+strip-small : (size : ℕ) (o : Order) (wide broad rows row n p q rest : ℕ) → Small-refusals (stripFrom size o wide broad rows row n p q rest)
 unfolding stripFrom
 strip-small size o wide broad rows row zero p q rest = search smalls
 strip-small size o wide broad rows row (suc n) p q rest =
@@ -66,78 +66,78 @@ strip-small size o wide broad rows row (suc n) p q rest =
     (small-then _ _ (λ a. small-pick _ _ _
     (strip-small size o wide broad rows row n (p + wide) (q + broad) (rest - min rows rest)) (search smalls))) (search smalls))
 
-strips-small : (size : ℕ) (d : Ifd) (f : Frame) (l : Layout) → Smalls (stripsReading size d f l)
+strips-small : (size : ℕ) (d : Ifd) (f : Frame) (l : Layout) → Small-refusals (stripsReading size d f l)
 unfolding stripsReading
 strips-small size d f l = search (tags, strip-small) depth 10
 
-cropped-small : (f : Frame) (a : Area) → Small (croppedOf f a)
+cropped-small : (f : Frame) (a : Area) → Small-refusal (croppedOf f a)
 unfolding croppedOf
 cropped-small f a = search smalls depth 8
 
-area-small : (d : Ifd) (f : Frame) → Smalls (areaReading d f)
+area-small : (d : Ifd) (f : Frame) → Small-refusals (areaReading d f)
 unfolding areaReading fourReading
 area-small d f = search (tags, cropped-small) depth 10
 
 -- ---- levels
 
-repeat-small : (d : Ifd) → Smalls (repeatReading d)
+repeat-small : (d : Ifd) → Small-refusals (repeatReading d)
 unfolding repeatReading pairReading sideReading
 repeat-small d = search tags depth 10
 
 module _ (tag : ℕ) (small : Small-detail tag) where
-  black-out : (b : Black) → Small (blackOut tag b)
+  black-out : (b : Black) → Small-refusal (blackOut tag b)
   black-out (black.Parts b) = tt
   black-out black.Illegal = (lit< tt, small)
   black-out black.NotCarried = (lit< tt, small)
 
-  blacks-small : (o : Order) (k : BlackKind) (size n p : ℕ) → Smalls (blacksTest o tag k size n p)
+  blacks-small : (o : Order) (k : BlackKind) (size n p : ℕ) → Small-refusals (blacksTest o tag k size n p)
   unfolding blacksTest
   blacks-small o k size n p = search (smalls, black-out)
 
-black-small : (d : Ifd) (r : Repeat) (s : ℕ) → Smalls (blackReading d r s)
+black-small : (d : Ifd) (r : Repeat) (s : ℕ) → Small-refusals (blackReading d r s)
 unfolding blackReading
 black-small d r s = search (tags, blacks-small) depth 8
 
-delta-small : (d : Ifd) (tag n : ℕ) → Small-detail tag → Smalls (deltaReading d tag n)
+delta-small : (d : Ifd) (tag n : ℕ) → Small-detail tag → Small-refusals (deltaReading d tag n)
 unfolding deltaReading
 delta-small d tag n small = search (tags, blacks-small) depth 8
 
-level-tags-small : (d : Ifd) (s rows columns : ℕ) → Smalls (levelTagsReading d s rows columns)
+level-tags-small : (d : Ifd) (s rows columns : ℕ) → Small-refusals (levelTagsReading d s rows columns)
 unfolding levelTagsReading tableReading whiteReading
 level-tags-small d s rows columns = search (tags, repeat-small, black-small, delta-small) depth 14
 
 -- ---- all of them
 
-list-small : (d : Ifd) → Smalls (listReading d)
-unfolding listReading
+list-small : (d : Ifd) → Small-refusals (listTagReading d)
+unfolding listTagReading
 list-small d = search tags depth 8
 
-tags-small : (size : ℕ) (d : Ifd) → Smalls (tagsReading size d)
+tags-small : (size : ℕ) (d : Ifd) → Small-refusals (tagsReading size d)
 unfolding tagsReading
 tags-small size d = search (smalls, frame-small, layout-small, strips-small, area-small, level-tags-small, list-small) depth 14
 
-spanned-small : (l : Levels) → Small (spannedOf l)
+spanned-small : (l : Levels) → Small-refusal (spannedOf l)
 unfolding spannedOf
 spanned-small l = search smalls depth 8
 
-raw-small : (size : ℕ) (d : Ifd) → Smalls (rawReading size d)
+raw-small : (size : ℕ) (d : Ifd) → Small-refusals (rawReading size d)
 unfolding rawReading
 raw-small size d = search (smalls, tags-small, spanned-small) depth 8
 
-pub front-small : (size : ℕ) → Smalls (frontReading size)
+pub front-small : (size : ℕ) → Small-refusals (frontReading size)
 unfolding frontReading
 front-small size = search (smalls, tree-small, raw-small) depth 8
 
 -- ---- the pattern
 
-colours-small : (d : Ifd) → Smalls (cfaPatternReading d)
+colours-small : (d : Ifd) → Small-refusals (cfaPatternReading d)
 unfolding cfaPatternReading fourColoursReading placesOf
 colours-small d = search tags depth 10
 
-plane-color-small : (d : Ifd) → Smalls (planeColorReading d)
+plane-color-small : (d : Ifd) → Small-refusals (planeColorReading d)
 unfolding planeColorReading threeColoursReading planeColorOf
 plane-color-small d = search tags depth 10
 
-pub pattern-small : (d : Ifd) → Smalls (patternReading d)
+pub pattern-small : (d : Ifd) → Small-refusals (patternReading d)
 unfolding patternReading
 pattern-small d = search (tags, colours-small, plane-color-small) depth 10

@@ -13,7 +13,7 @@ use lib.ListN.{getD}
 use borrow.Author.Tests.{ltb-true, ltb-false, eqb-true, eqb-false}
 use Rattle.reading.specs.Reading.{covers}
 use Rattle.reading.proofs.Unread.{Off, off-below, off-behind}
-use Rattle.raw.specs.Area.{Cropped-in}
+use Rattle.raw.specs.Facts.Area.{Area-in}
 use Rattle.raw.specs.Strips.{stripCount, rowBytes}
 use Rattle.raw.specs.Sample.{stripOf, withinStrip, placeOf, cellOf, ActiveIn}
 use Rattle.raw.specs.declared.Tags.{Tags}
@@ -115,7 +115,7 @@ module _ (t : Tags) where
             (apart (stripOf t r) (stripOf t r₀) (strip-below r n (t .frame .length) (h .row) some-rows)
             (strip-below r₀ n (t .frame .length) (k .row) some-rows) (eqb-false _ _ e))
 
-    module _ (area : Cropped-in (t .frame) (t .area)) where
+    module _ (area : Area-in (t .frame) (t .area)) where
       -- an active sample is a stored one
       active-stored : (r c p : ℕ) → ActiveIn t r c p → Stored-in (t .area .top + r) (t .area .left + c) p
       active-stored r c p a =

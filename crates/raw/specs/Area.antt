@@ -1,5 +1,6 @@
 -- The active area: 50829.
-use Prim.Native.Nat.{ℕ, _+_, _*_, _≤_, _<_}
+use Prim.Native.Nat.{ℕ, _+_, _*_}
+use Rattle.directory.specs.Names.{activeArea}
 use lib.Dec.{eqb, leb, ltb}
 use Rattle.reading.specs.Reading.{Reading, Reading.answer, andThen, pick, numberAt}
 use Rattle.reading.specs.declared.number.Order.{Order}
@@ -10,12 +11,6 @@ use Rattle.directory.specs.declared.tag.Kinds.the-variants as kinds
 use Rattle.directory.specs.declared.tag.Values.{Values}
 use Rattle.raw.specs.declared.frame.Frame.{Frame}
 use Rattle.raw.specs.declared.area.Area.{Area}
-use Rattle.raw.specs.declared.area.Cropped.{Cropped}
-use Rattle.raw.specs.declared.area.Cropped.the-variants as cropped
-
-abbrev pub areaOut : Cropped → Out Area
-areaOut (cropped.Refused n d) = refused n d
-areaOut (cropped.Is a) = is a
 
 abbrev pub area : ℕ → ℕ → ℕ → ℕ → Area
 area t l b r = record { top = t; left = l; bottom = b; right = r }
@@ -26,10 +21,10 @@ croppedOf f a =
     pick (ltb (a .top) (a .bottom))
     (pick (leb (a .bottom) (f .length))
     (pick (ltb (a .left) (a .right))
-    (pick (leb (a .right) (f .width)) (is a) (refused 4 50829))
-    (refused 4 50829))
-    (refused 4 50829))
-    (refused 4 50829)
+    (pick (leb (a .right) (f .width)) (is a) (refused 4 activeArea))
+    (refused 4 activeArea))
+    (refused 4 activeArea))
+    (refused 4 activeArea)
 
 -- "(top, left, bottom, right) .. default the whole frame"
 unfoldable pub fourReading : Order → Frame → Values → Reading (Out Area)
@@ -43,14 +38,4 @@ fourReading o f v =
 
 -- 50829: SHORT or LONG 4
 unfoldable pub areaReading : Ifd → Frame → Reading (Out Area)
-areaReading d f = bind (valuesReading d (optional 50829 kinds.ShortOrLong 4)) (fourReading (d .order) f)
-
-pub record Cropped-in (f : Frame) (a : Area) : Type 0 where
-  pub rows : a .top < a .bottom
-  pub columns : a .left < a .right
-  pub bottom : a .bottom ≤ f .length
-  pub right : a .right ≤ f .width
-
-abbrev pub AreaIn : Frame → Cropped → Type 0
-AreaIn f (cropped.Refused n d) = Unit {0}
-AreaIn f (cropped.Is a) = Cropped-in f a
+areaReading d f = bind (valuesReading d (optional activeArea kinds.ShortOrLong 4)) (fourReading (d .order) f)

@@ -1,5 +1,6 @@
 -- The black levels: 50714, and the deltas 50715 and 50716.
 use Prim.Native.Nat.{ℕ, _*_}
+use Rattle.directory.specs.Names.{blackLevel}
 use lib.Dec.{eqb}
 use Rattle.reading.specs.Reading.{Reading, Reading.answer, Reading.ask, pick}
 use Rattle.reading.specs.declared.number.Order.{Order}
@@ -34,13 +35,13 @@ unfoldable pub blacksTest : Order → ℕ → BlackKind → ℕ → ℕ → ℕ 
 blacksTest o tag k size n p = ask p (size * n) (λ bs. answer (blackOut tag (firstRefused (runOf (blackAt k o bs) size 0 n))))
 
 abbrev pub blackRule : Repeat → ℕ → Rule
-blackRule r s = optional 50714 kinds.ShortLongOrRational (r .rows * r .columns * s)
+blackRule r s = optional blackLevel kinds.ShortLongOrRational (r .rows * r .columns * s)
 
 -- 50714: "SHORT, LONG or RATIONAL, count rows x columns x samples of the repeat"
 unfoldable pub blackReading : Ifd → Repeat → ℕ → Reading (Out Values)
 blackReading d r s =
     bind (valuesReading d (blackRule r s)) (λ v.
-    bind (blacksTest (d .order) 50714 (kindFor (v .kind)) (v .size) (v .count) (v .place)) (λ _. answer (is v)))
+    bind (blacksTest (d .order) blackLevel (kindFor (v .kind)) (v .size) (v .count) (v .place)) (λ _. answer (is v)))
 
 abbrev pub deltaRule : ℕ → ℕ → Rule
 deltaRule tag n = optional tag kinds.SignedRational n

@@ -1,4 +1,5 @@
 -- The opcode lists: 51008, 51022, 51009.
+use Rattle.directory.specs.Names.{opcodeList1, opcodeList2, opcodeList3}
 use mathlib.Core.Bool.{false}
 use Rattle.reading.specs.Reading.{Reading}
 use Rattle.directory.specs.Out.{Out, bind}
@@ -9,8 +10,8 @@ use Rattle.directory.specs.declared.tag.Rule.{Rule}
 use Rattle.directory.specs.declared.tag.Values.{Values}
 
 abbrev pub listRule : Rule
-listRule = rule false 51009 kinds.Undefined 4 0xFFFF_FFFF_FFFF_FFFF
+listRule = rule false opcodeList2 kinds.Undefined 4 0xFFFF_FFFF_FFFF_FFFF
 
 -- "51008, 51022: if present with any type, not carried. 51009: UNDEFINED, 4 bytes or more"
-unfoldable pub listReading : Ifd → Reading (Out Values)
-listReading d = bind (notCarried d 51008) (λ _. bind (notCarried d 51022) (λ _. valuesReading d listRule))
+unfoldable pub listTagReading : Ifd → Reading (Out Values)
+listTagReading d = bind (notCarried d opcodeList1) (λ _. bind (notCarried d opcodeList3) (λ _. valuesReading d listRule))

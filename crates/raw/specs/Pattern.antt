@@ -1,6 +1,7 @@
 -- The mosaic's pattern: 33421, 33422, 50710, 50711. Only half windows ask for it.
+use Rattle.directory.specs.Names.{cfaLayout, cfaPattern, cfaPlaneColor, cfaRepeatPatternDim}
 use mathlib.Core.Bool.{_&&_}
-use Prim.Native.Nat.{ℕ, _+_, _<_}
+use Prim.Native.Nat.{ℕ, _+_}
 use lib.Dec.{eqb}
 use Rattle.reading.specs.Reading.{Reading, Reading.answer, andThen, pick, numberAt}
 use Rattle.reading.specs.declared.number.Order.{Order}
@@ -10,12 +11,6 @@ use Rattle.directory.specs.declared.Ifd.{Ifd}
 use Rattle.directory.specs.declared.tag.Kinds.the-variants as kinds
 use Rattle.directory.specs.declared.tag.Values.{Values}
 use Rattle.raw.specs.declared.pattern.Pattern.{Pattern}
-use Rattle.raw.specs.declared.pattern.Patterned.{Patterned}
-use Rattle.raw.specs.declared.pattern.Patterned.the-variants as patterned
-
-abbrev pub patternOut : Patterned → Out Pattern
-patternOut (patterned.Refused n d) = refused n d
-patternOut (patterned.Is v) = is v
 
 -- 1 where two numbers are the same
 unfoldable pub oneOf : ℕ → ℕ → ℕ
@@ -37,7 +32,7 @@ unfoldable pub placesOf : ℕ → ℕ → ℕ → ℕ → Out Pattern
 placesOf a b c d =
     pick (eqb (timesOf 0 a b c d) 1 && (eqb (timesOf 1 a b c d) 2 && eqb (timesOf 2 a b c d) 1))
     (is (record { red = firstOf 0 a b c; green1 = firstOf 1 a b c; green2 = lastOf 1 b c d; blue = firstOf 2 a b c }))
-    (refused 8 33422)
+    (refused 8 cfaPattern)
 
 -- four BYTEs, the colours of a block row by row
 unfoldable pub fourColoursReading : Order → Values → Reading (Out Pattern)
@@ -50,7 +45,7 @@ fourColoursReading o v =
 
 -- "default 0, 1, 2, only that carried"
 unfoldable pub planeColorOf : ℕ → ℕ → ℕ → Out ℕ
-planeColorOf a b c = pick (eqb a 0 && (eqb b 1 && eqb c 2)) (is 0) (refused 8 50710)
+planeColorOf a b c = pick (eqb a 0 && (eqb b 1 && eqb c 2)) (is 0) (refused 8 cfaPlaneColor)
 
 unfoldable pub threeColoursReading : Order → Values → Reading (Out ℕ)
 threeColoursReading o v =
@@ -62,19 +57,19 @@ threeColoursReading o v =
 
 -- CFARepeatPatternDim: "33421, SHORT 2, only 2, 2 carried"
 abbrev pub repeatDimReading : Ifd → Reading (Out Values)
-repeatDimReading d = allReading d (required 33421 kinds.Short 2) (range 0 2 2)
+repeatDimReading d = allReading d (required cfaRepeatPatternDim kinds.Short 2) (range 0 2 2)
 
 -- CFAPattern: "33422, BYTE 4"
 unfoldable pub cfaPatternReading : Ifd → Reading (Out Pattern)
-cfaPatternReading d = bind (valuesReading d (required 33422 kinds.Byte 4)) (fourColoursReading (d .order))
+cfaPatternReading d = bind (valuesReading d (required cfaPattern kinds.Byte 4)) (fourColoursReading (d .order))
 
 -- CFAPlaneColor: "50710, BYTE 3"
 unfoldable pub planeColorReading : Ifd → Reading (Out ℕ)
-planeColorReading d = bind (valuesReading d (optional 50710 kinds.Byte 3)) (threeColoursReading (d .order))
+planeColorReading d = bind (valuesReading d (optional cfaPlaneColor kinds.Byte 3)) (threeColoursReading (d .order))
 
 -- CFALayout: "50711, SHORT 1, default 1, only 1 carried"
 abbrev pub cfaLayoutReading : Ifd → Reading (Out ℕ)
-cfaLayoutReading d = oneReading d (optional 50711 kinds.Short 1) 1 (range 0 1 1)
+cfaLayoutReading d = oneReading d (optional cfaLayout kinds.Short 1) 1 (range 0 1 1)
 
 -- "on each tag in turn"
 unfoldable pub patternReading : Ifd → Reading (Out Pattern)
@@ -84,10 +79,3 @@ patternReading d =
     bind (planeColorReading d) (λ _.
     bind (cfaLayoutReading d) (λ _.
     answer (is p)))))
-
--- places of a block
-pub record Pattern-in (p : Pattern) : Type 0 where
-  pub red : p .red < 4
-  pub green1 : p .green1 < 4
-  pub green2 : p .green2 < 4
-  pub blue : p .blue < 4

@@ -1,20 +1,16 @@
 -- The strips: 273, 279.
-use mathlib.Core.List.{List}
-use Prim.Native.Nat.{ℕ, zero, suc, _+_, _*_, _-_, _/_, _≤_, _<_, min}
+use Prim.Native.Nat.{ℕ, zero, suc, _+_, _*_, _-_, _/_, min}
+use Rattle.directory.specs.Names.{stripByteCounts, stripOffsets}
 use lib.Dec.{eqb, leb}
 use lib.ListN.{length}
-use Rattle.reading.specs.Bytes.{part}
-use Rattle.reading.specs.Number.{numberOf}
 use Rattle.reading.specs.Reading.{Reading, Reading.answer, andThen, pick, numberAt}
 use Rattle.reading.specs.declared.number.Order.{Order}
 use Rattle.directory.specs.Out.{Out, Out.refused, Out.is, bind}
-use Rattle.directory.specs.Tag.{valuesReading, required, Placed-values}
+use Rattle.directory.specs.Tag.{valuesReading, required}
 use Rattle.directory.specs.declared.Ifd.{Ifd}
 use Rattle.directory.specs.declared.tag.Kinds.the-variants as kinds
 use Rattle.directory.specs.declared.tag.Rule.{Rule}
 use Rattle.directory.specs.declared.tag.Values.{Values}
-use Rattle.directory.specs.declared.tag.Given.{Given}
-use Rattle.directory.specs.declared.tag.Given.the-variants as given
 use Rattle.raw.specs.declared.frame.Frame.{Frame}
 use Rattle.raw.specs.declared.layout.Layout.{Layout}
 
@@ -33,14 +29,14 @@ stripFrom size o wide broad rows row (suc n) p q rest =
     andThen (numberAt o q broad) (λ b.
     pick (eqb b (min rows rest * row))
     (andThen (numberAt o p wide) (λ a.
-    pick (leb (a + b) size) (stripFrom size o wide broad rows row n (p + wide) (q + broad) (rest - min rows rest)) (answer (refused 4 273))))
-    (answer (refused 4 279)))
+    pick (leb (a + b) size) (stripFrom size o wide broad rows row n (p + wide) (q + broad) (rest - min rows rest)) (answer (refused 4 stripOffsets))))
+    (answer (refused 4 stripByteCounts)))
 
 abbrev pub offsetsRule : Frame → Layout → Rule
-offsetsRule f l = required 273 kinds.ShortOrLong (stripCount f l)
+offsetsRule f l = required stripOffsets kinds.ShortOrLong (stripCount f l)
 
 abbrev pub countsRule : Frame → Layout → Rule
-countsRule f l = required 279 kinds.ShortOrLong (stripCount f l)
+countsRule f l = required stripByteCounts kinds.ShortOrLong (stripCount f l)
 
 -- 273, 279: "SHORT or LONG, required, count = length / rows per strip, rounded up. Then strip by strip"
 unfoldable pub stripsReading : ℕ → Ifd → Frame → Layout → Reading (Out Values)
@@ -49,14 +45,3 @@ stripsReading size d f l =
     bind (valuesReading d (countsRule f l)) (λ cs.
     bind (stripFrom size (d .order) (os .size) (cs .size) (l .rows) (rowBytes f l) (stripCount f l) (os .place) (cs .place) (f .length)) (λ _.
     answer (is os))))
-
--- the offsets, and that each strip lies in the file
-pub record Strips-in (f : List ℕ) (o : Order) (fr : Frame) (l : Layout) (v : Values) : Type 0 where
-  pub placed : Placed-values (length f) (offsetsRule fr l) v
-  pub inside :
-      (i : ℕ) → i < stripCount fr l
-      → numberOf o (part f (v .place + v .size * i) (v .size)) + min (l .rows) (fr .length - l .rows * i) * rowBytes fr l ≤ length f
-
-abbrev pub StripsIn : List ℕ → Order → Frame → Layout → Given → Type 0
-StripsIn f o fr l (given.Refused n d) = Unit {0}
-StripsIn f o fr l (given.Is v) = Strips-in f o fr l v

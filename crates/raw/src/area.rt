@@ -2,15 +2,17 @@
 ghost use mathlib.Core.Path.{_≡_};
 ghost use Prim.Native.Nat.{_+_, _≤_};
 ghost use Rattle.reading.specs.Reading.{run};
-ghost use Rattle.directory.specs.Shape.{Tested};
-ghost use Rattle.raw.specs.Frame.{Framed-in};
-ghost use Rattle.raw.specs.Area.{areaOut, AreaIn, croppedOf, areaReading};
+ghost use Rattle.directory.specs.Facts.Shape.{Tested};
+ghost use Rattle.raw.specs.Facts.Frame.{Dimensions-in};
+ghost use Rattle.raw.specs.Area.{croppedOf, areaReading};
+ghost use Rattle.raw.specs.Facts.Area.{areaOut, AreaIn};
 use crate::frame::Frame;
 use directory::Ifd;
+use directory::names;
 use directory::tag;
-use directory::tag::Given;
 use directory::tag::Kinds;
 use directory::tag::Rule;
+use directory::tag::ValuesTest;
 use levels::active::ActiveColumn;
 use levels::active::ActiveRow;
 use reading::number;
@@ -27,7 +29,7 @@ pub struct Area {
     pub right: usize,
 }
 
-pub enum Cropped {
+pub enum AreaTest {
     Refused { number: usize, detail: usize },
     Is(Area),
 }
@@ -49,43 +51,43 @@ impl Area {
     }
 }
 
-fn crop(frame: Frame, area: Area) -> Cropped
+fn crop(frame: Frame, area: Area) -> AreaTest
     ensures { λ r. ⌜ (areaOut r ≡ croppedOf frame area) × AreaIn frame r ⌝ }
 {
     if area.top < area.bottom {
         if area.bottom <= frame.length {
             if area.left < area.right {
                 if area.right <= frame.width {
-                    return Cropped::Is(area);
+                    return AreaTest::Is(area);
                 }
             }
         }
     }
-    Cropped::Refused {
+    AreaTest::Refused {
         number: 4,
-        detail: 50829,
+        detail: names::ACTIVE_AREA,
     }
 }
 
-pub fn area_of(file: &[u8], ifd: Ifd, frame: Frame) -> Cropped
+pub fn area_of(file: &[u8], ifd: Ifd, frame: Frame) -> AreaTest
     requires { ⌜ Tested (now file) ifd ⌝ }
-    requires { ⌜ Framed-in frame ⌝ }
+    requires { ⌜ Dimensions-in frame ⌝ }
     ensures { λ r. ⌜ (areaOut r ≡ run (now (file .entry)) (areaReading ifd frame)) × AreaIn frame r ⌝ }
 {
     let rule = Rule {
-        tag: 50829,
+        tag: names::ACTIVE_AREA,
         kinds: Kinds::ShortOrLong,
         required: false,
         least: 4,
         most: 4,
     };
     let v = match tag::look_up(file, ifd, rule) {
-        Given::Refused { number, detail } => return Cropped::Refused { number, detail },
-        Given::Is(v) => v,
+        ValuesTest::Refused { number, detail } => return AreaTest::Refused { number, detail },
+        ValuesTest::Is(v) => v,
     };
     let count = v.count;
     if count == 0 {
-        return Cropped::Is(Area {
+        return AreaTest::Is(Area {
             top: 0,
             left: 0,
             bottom: frame.length,

@@ -4,20 +4,21 @@ ghost use Prim.Native.Nat.{_+_, _*_, _≤_, _<_};
 ghost use lib.ListN.{length};
 ghost use Rattle.reading.specs.Reading.{run};
 ghost use Rattle.levels.specs.Black.{widthOf};
-ghost use Rattle.directory.specs.Out.{numberOut};
-ghost use Rattle.directory.specs.Shape.{Tested};
-ghost use Rattle.directory.specs.Tag.{valuesOut, ValuesIn};
-ghost use Rattle.raw.specs.Repeat.{Repeated-in};
+ghost use Rattle.directory.specs.Facts.Out.{numberOut};
+ghost use Rattle.directory.specs.Facts.Shape.{Tested};
+ghost use Rattle.directory.specs.Facts.Tag.{valuesOut, ValuesIn};
+ghost use Rattle.raw.specs.Facts.Repeat.{Repeat-in};
 ghost use Rattle.raw.specs.Black.{kindFor, blacksTest, blackRule, blackReading, deltaRule, deltaReading};
 use crate::repeat::Repeat;
 use directory::Ifd;
 use directory::Number;
 use directory::entry;
+use directory::names;
 use directory::tag;
-use directory::tag::Given;
 use directory::tag::Kinds;
 use directory::tag::Rule;
 use directory::tag::Values;
+use directory::tag::ValuesTest;
 use levels::black;
 use levels::black::Black;
 use levels::black::BlackKind;
@@ -69,37 +70,37 @@ fn check_blacks(
 }
 
 // 50714.
-pub fn black_of(file: &[u8], ifd: Ifd, repeat: Repeat, samples: usize) -> Given
+pub fn black_of(file: &[u8], ifd: Ifd, repeat: Repeat, samples: usize) -> ValuesTest
     requires { ⌜ Tested (now file) ifd ⌝ }
-    requires { ⌜ Repeated-in repeat × (samples ≤ 3) ⌝ }
+    requires { ⌜ Repeat-in repeat × (samples ≤ 3) ⌝ }
     ensures { λ r. ⌜ valuesOut r ≡ run (now (file .entry)) (blackReading ifd repeat samples) ⌝ }
     ensures { λ r. ⌜ ValuesIn (length (now (file .entry))) (blackRule repeat samples) r ⌝ }
 {
     let cells = repeat.rows * repeat.columns * samples;
     let rule = Rule {
-        tag: 50714,
+        tag: names::BLACK_LEVEL,
         kinds: Kinds::ShortLongOrRational,
         required: false,
         least: cells,
         most: cells,
     };
     let v = match tag::look_up(file, ifd, rule) {
-        Given::Refused { number, detail } => return Given::Refused { number, detail },
-        Given::Is(v) => v,
+        ValuesTest::Refused { number, detail } => return ValuesTest::Refused { number, detail },
+        ValuesTest::Is(v) => v,
     };
     let size = v.size;
     let place = v.place;
     let count = v.count;
     let order = ifd.order;
     let kind = kind_for(v);
-    match check_blacks(file, order, 50714, kind, size, count, place) {
-        Number::Refused { number, detail } => Given::Refused { number, detail },
-        Number::Is(_) => Given::Is(v),
+    match check_blacks(file, order, names::BLACK_LEVEL, kind, size, count, place) {
+        Number::Refused { number, detail } => ValuesTest::Refused { number, detail },
+        Number::Is(_) => ValuesTest::Is(v),
     }
 }
 
 // 50715 or 50716.
-pub fn delta_of(file: &[u8], ifd: Ifd, tag: usize, many: usize) -> Given
+pub fn delta_of(file: &[u8], ifd: Ifd, tag: usize, many: usize) -> ValuesTest
     requires { ⌜ Tested (now file) ifd ⌝ }
     ensures { λ r. ⌜ valuesOut r ≡ run (now (file .entry)) (deltaReading ifd tag many) ⌝ }
     ensures { λ r. ⌜ ValuesIn (length (now (file .entry))) (deltaRule tag many) r ⌝ }
@@ -112,8 +113,8 @@ pub fn delta_of(file: &[u8], ifd: Ifd, tag: usize, many: usize) -> Given
         most: many,
     };
     let v = match tag::look_up(file, ifd, rule) {
-        Given::Refused { number, detail } => return Given::Refused { number, detail },
-        Given::Is(v) => v,
+        ValuesTest::Refused { number, detail } => return ValuesTest::Refused { number, detail },
+        ValuesTest::Is(v) => v,
     };
     let size = v.size;
     let place = v.place;
@@ -128,7 +129,7 @@ pub fn delta_of(file: &[u8], ifd: Ifd, tag: usize, many: usize) -> Given
         count,
         place,
     ) {
-        Number::Refused { number, detail } => Given::Refused { number, detail },
-        Number::Is(_) => Given::Is(v),
+        Number::Refused { number, detail } => ValuesTest::Refused { number, detail },
+        Number::Is(_) => ValuesTest::Is(v),
     }
 }

@@ -2,12 +2,14 @@
 ghost use mathlib.Core.Path.{_≡_};
 ghost use mathlib.Core.Logic.{_⊎_};
 ghost use Rattle.reading.specs.Reading.{run};
-ghost use Rattle.directory.specs.Out.{numberOut};
-ghost use Rattle.directory.specs.Shape.{Tested};
-ghost use Rattle.directory.specs.Tag.{NumberIn};
-ghost use Rattle.raw.specs.Frame.{frameOut, FrameIn, samplesOf, planesReading, PlanesIn, dimensionReading, dimensionRange, frameReading};
+ghost use Rattle.directory.specs.Facts.Out.{numberOut};
+ghost use Rattle.directory.specs.Facts.Shape.{Tested};
+ghost use Rattle.directory.specs.Facts.Tag.{NumberIn};
+ghost use Rattle.raw.specs.Frame.{samplesOf, planesReading, dimensionReading, dimensionRange, frameReading};
+ghost use Rattle.raw.specs.Facts.Frame.{dimensionsOut, DimensionsIn, PlanesIn};
 use directory::Ifd;
 use directory::Number;
+use directory::names;
 use directory::tag;
 use directory::tag::Kinds;
 use directory::tag::Range;
@@ -20,7 +22,7 @@ pub struct Frame {
     pub samples: usize,
 }
 
-pub enum Framed {
+pub enum DimensionsTest {
     Refused { number: usize, detail: usize },
     Is(Frame),
 }
@@ -41,7 +43,7 @@ fn planes(file: &[u8], ifd: Ifd) -> Number
     ensures { λ r. ⌜ (numberOut r ≡ run (now (file .entry)) (planesReading ifd)) × PlanesIn r ⌝ }
 {
     let photometric = Rule {
-        tag: 262,
+        tag: names::PHOTOMETRIC_INTERPRETATION,
         kinds: Kinds::Short,
         required: true,
         least: 1,
@@ -60,11 +62,11 @@ fn planes(file: &[u8], ifd: Ifd) -> Number
     if samples == 0 {
         return Number::Refused {
             number: 8,
-            detail: 262,
+            detail: names::PHOTOMETRIC_INTERPRETATION,
         };
     }
     let per_pixel = Rule {
-        tag: 277,
+        tag: names::SAMPLES_PER_PIXEL,
         kinds: Kinds::Short,
         required: false,
         least: 1,
@@ -98,23 +100,23 @@ fn dimension(file: &[u8], ifd: Ifd, tag: usize) -> Number
     tag::one(file, ifd, rule, 0, range)
 }
 
-pub fn frame_of(file: &[u8], ifd: Ifd) -> Framed
+pub fn frame_of(file: &[u8], ifd: Ifd) -> DimensionsTest
     requires { ⌜ Tested (now file) ifd ⌝ }
-    ensures { λ r. ⌜ (frameOut r ≡ run (now (file .entry)) (frameReading ifd)) × FrameIn r ⌝ }
+    ensures { λ r. ⌜ (dimensionsOut r ≡ run (now (file .entry)) (frameReading ifd)) × DimensionsIn r ⌝ }
 {
-    let width = match dimension(file, ifd, 256) {
-        Number::Refused { number, detail } => return Framed::Refused { number, detail },
+    let width = match dimension(file, ifd, names::IMAGE_WIDTH) {
+        Number::Refused { number, detail } => return DimensionsTest::Refused { number, detail },
         Number::Is(v) => v,
     };
-    let length = match dimension(file, ifd, 257) {
-        Number::Refused { number, detail } => return Framed::Refused { number, detail },
+    let length = match dimension(file, ifd, names::IMAGE_LENGTH) {
+        Number::Refused { number, detail } => return DimensionsTest::Refused { number, detail },
         Number::Is(v) => v,
     };
     let samples = match planes(file, ifd) {
-        Number::Refused { number, detail } => return Framed::Refused { number, detail },
+        Number::Refused { number, detail } => return DimensionsTest::Refused { number, detail },
         Number::Is(v) => v,
     };
-    Framed::Is(Frame {
+    DimensionsTest::Is(Frame {
         width,
         length,
         samples,

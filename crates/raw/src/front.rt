@@ -2,13 +2,14 @@
 ghost use mathlib.Core.Path.{_≡_};
 ghost use lib.ListN.{length};
 ghost use Rattle.reading.specs.Reading.{run, runWhole};
-ghost use Rattle.directory.specs.Shape.{Tested};
-ghost use Rattle.raw.specs.Front.{rawOut, RawIn, rawReading, frontOut, FrontIn, frontReading};
-use crate::Tagged;
+ghost use Rattle.directory.specs.Facts.Shape.{Tested};
+ghost use Rattle.raw.specs.Front.{rawReading, frontReading};
+ghost use Rattle.raw.specs.Facts.Front.{rawOut, RawIn, frontOut, FrontIn};
 use crate::Tags;
+use crate::TagsTest;
 use crate::spans;
-use crate::spans::Spanned;
 use crate::spans::Spans;
+use crate::spans::SpansTest;
 use directory::Ifd;
 use directory::tree;
 use directory::tree::Tree;
@@ -20,7 +21,7 @@ pub struct Raw {
     pub spans: Spans,
 }
 
-pub enum Read {
+pub enum RawTest {
     Refused { number: usize, detail: usize },
     Is(Raw),
 }
@@ -39,18 +40,18 @@ pub enum Front {
 }
 
 // The raw tags, then refusal 9.
-fn raw_of(file: &[u8], ifd: Ifd) -> Read
+fn raw_of(file: &[u8], ifd: Ifd) -> RawTest
     requires { ⌜ Tested (now file) ifd ⌝ }
     ensures { λ r. ⌜ (rawOut r ≡ run (now (file .entry)) (rawReading (length (now (file .entry))) ifd)) × RawIn (now (file .entry)) (ifd .order) r ⌝ }
 {
     let order = ifd.order;
     let tags = match crate::tags_of(file, ifd) {
-        Tagged::Refused { number, detail } => return Read::Refused { number, detail },
-        Tagged::Is(v) => v,
+        TagsTest::Refused { number, detail } => return RawTest::Refused { number, detail },
+        TagsTest::Is(v) => v,
     };
     match spans::spans_of(file, order, tags) {
-        Spanned::Refused { number, detail } => Read::Refused { number, detail },
-        Spanned::Is(spans) => Read::Is(Raw { tags, spans }),
+        SpansTest::Refused { number, detail } => RawTest::Refused { number, detail },
+        SpansTest::Is(spans) => RawTest::Is(Raw { tags, spans }),
     }
 }
 
@@ -65,8 +66,8 @@ pub fn open(file: &[u8]) -> Front
     let ifd = roots.raw;
     let order = ifd.order;
     match raw_of(file, ifd) {
-        Read::Refused { number, detail } => Front::Refused { number, detail },
-        Read::Is(raw) => Front::Is(Picture {
+        RawTest::Refused { number, detail } => Front::Refused { number, detail },
+        RawTest::Is(raw) => Front::Is(Picture {
             first,
             directory: ifd,
             order,

@@ -2,17 +2,20 @@
 ghost use mathlib.Core.Path.{_≡_};
 ghost use Prim.Native.Nat.{_≤_};
 ghost use Rattle.reading.specs.Reading.{run};
-ghost use Rattle.directory.specs.Out.{numberOut};
-ghost use Rattle.directory.specs.Shape.{Tested};
-ghost use Rattle.directory.specs.Tag.{Numeric, NumberIn, valuesOut, range};
-ghost use Rattle.raw.specs.Layout.{layoutOut, LayoutIn, bytesPer, depthReading, onlyOne, formatReading, stripRowsReading, layoutReading};
+ghost use Rattle.directory.specs.Facts.Out.{numberOut};
+ghost use Rattle.directory.specs.Facts.Shape.{Tested};
+ghost use Rattle.directory.specs.Tag.{range};
+ghost use Rattle.directory.specs.Facts.Tag.{Numeric, NumberIn, valuesOut};
+ghost use Rattle.raw.specs.Layout.{bytesPer, depthReading, onlyOne, formatReading, stripRowsReading, layoutReading};
+ghost use Rattle.raw.specs.Facts.Layout.{layoutOut, LayoutIn};
 use directory::Ifd;
 use directory::Number;
+use directory::names;
 use directory::tag;
-use directory::tag::Given;
 use directory::tag::Kinds;
 use directory::tag::Range;
 use directory::tag::Rule;
+use directory::tag::ValuesTest;
 use reading::number;
 
 // Bytes per sample, and rows per strip.
@@ -21,7 +24,7 @@ pub struct Layout {
     pub rows: usize,
 }
 
-pub enum Laid {
+pub enum LayoutTest {
     Refused { number: usize, detail: usize },
     Is(Layout),
 }
@@ -43,15 +46,15 @@ fn depth(file: &[u8], ifd: Ifd, samples: usize) -> Number
     ensures { λ r. ⌜ (numberOut r ≡ run (now (file .entry)) (depthReading ifd samples)) × NumberIn (range 1 1 2) r ⌝ }
 {
     let rule = Rule {
-        tag: 258,
+        tag: names::BITS_PER_SAMPLE,
         kinds: Kinds::Short,
         required: true,
         least: samples,
         most: samples,
     };
     let v = match tag::look_up(file, ifd, rule) {
-        Given::Refused { number, detail } => return Number::Refused { number, detail },
-        Given::Is(v) => v,
+        ValuesTest::Refused { number, detail } => return Number::Refused { number, detail },
+        ValuesTest::Is(v) => v,
     };
     let size = v.size;
     let place = v.place;
@@ -62,7 +65,7 @@ fn depth(file: &[u8], ifd: Ifd, samples: usize) -> Number
     if bytes == 0 {
         return Number::Refused {
             number: 8,
-            detail: 258,
+            detail: names::BITS_PER_SAMPLE,
         };
     }
     let same = Range {
@@ -70,7 +73,15 @@ fn depth(file: &[u8], ifd: Ifd, samples: usize) -> Number
         from: bits,
         to: bits,
     };
-    match tag::each(file, order, size, 258, same, count, place) {
+    match tag::each(
+        file,
+        order,
+        size,
+        names::BITS_PER_SAMPLE,
+        same,
+        count,
+        place,
+    ) {
         Number::Refused { number, detail } => Number::Refused { number, detail },
         Number::Is(_) => Number::Is(bytes),
     }
@@ -98,12 +109,12 @@ fn only_one(file: &[u8], ifd: Ifd, tag: usize, kinds: Kinds, legal: usize) -> Nu
 }
 
 // 339.
-fn format(file: &[u8], ifd: Ifd, samples: usize) -> Given
+fn format(file: &[u8], ifd: Ifd, samples: usize) -> ValuesTest
     requires { ⌜ Tested (now file) ifd ⌝ }
     ensures { λ r. ⌜ valuesOut r ≡ run (now (file .entry)) (formatReading ifd samples) ⌝ }
 {
     let rule = Rule {
-        tag: 339,
+        tag: names::SAMPLE_FORMAT,
         kinds: Kinds::Short,
         required: false,
         least: samples,
@@ -123,7 +134,7 @@ fn strip_rows(file: &[u8], ifd: Ifd) -> Number
     ensures { λ r. ⌜ (numberOut r ≡ run (now (file .entry)) (stripRowsReading ifd)) × NumberIn (range 1 1 0xFFFF_FFFF_FFFF_FFFF) r ⌝ }
 {
     let rule = Rule {
-        tag: 278,
+        tag: names::ROWS_PER_STRIP,
         kinds: Kinds::ShortOrLong,
         required: false,
         least: 1,
@@ -137,38 +148,50 @@ fn strip_rows(file: &[u8], ifd: Ifd) -> Number
     tag::one(file, ifd, rule, 4294967295, some)
 }
 
-pub fn layout_of(file: &[u8], ifd: Ifd, samples: usize) -> Laid
+pub fn layout_of(file: &[u8], ifd: Ifd, samples: usize) -> LayoutTest
     requires { ⌜ Tested (now file) ifd ⌝ }
     requires { ⌜ 1 ≤ samples ⌝ }
     ensures { λ r. ⌜ (layoutOut r ≡ run (now (file .entry)) (layoutReading ifd samples)) × LayoutIn r ⌝ }
 {
     let bytes = match depth(file, ifd, samples) {
-        Number::Refused { number, detail } => return Laid::Refused { number, detail },
+        Number::Refused { number, detail } => return LayoutTest::Refused { number, detail },
         Number::Is(v) => v,
     };
-    match only_one(file, ifd, 259, Kinds::Short, 0) {
-        Number::Refused { number, detail } => return Laid::Refused { number, detail },
+    match only_one(file, ifd, names::COMPRESSION, Kinds::Short, 0) {
+        Number::Refused { number, detail } => return LayoutTest::Refused { number, detail },
         Number::Is(_) => {}
     }
-    match only_one(file, ifd, 284, Kinds::Short, 0) {
-        Number::Refused { number, detail } => return Laid::Refused { number, detail },
+    match only_one(file, ifd, names::PLANAR_CONFIGURATION, Kinds::Short, 0) {
+        Number::Refused { number, detail } => return LayoutTest::Refused { number, detail },
         Number::Is(_) => {}
     }
     match format(file, ifd, samples) {
-        Given::Refused { number, detail } => return Laid::Refused { number, detail },
-        Given::Is(_) => {}
+        ValuesTest::Refused { number, detail } => return LayoutTest::Refused { number, detail },
+        ValuesTest::Is(_) => {}
     }
-    match only_one(file, ifd, 50975, Kinds::ShortOrLong, 1) {
-        Number::Refused { number, detail } => return Laid::Refused { number, detail },
+    match only_one(
+        file,
+        ifd,
+        names::ROW_INTERLEAVE_FACTOR,
+        Kinds::ShortOrLong,
+        1,
+    ) {
+        Number::Refused { number, detail } => return LayoutTest::Refused { number, detail },
         Number::Is(_) => {}
     }
-    match only_one(file, ifd, 52547, Kinds::ShortOrLong, 1) {
-        Number::Refused { number, detail } => return Laid::Refused { number, detail },
+    match only_one(
+        file,
+        ifd,
+        names::COLUMN_INTERLEAVE_FACTOR,
+        Kinds::ShortOrLong,
+        1,
+    ) {
+        Number::Refused { number, detail } => return LayoutTest::Refused { number, detail },
         Number::Is(_) => {}
     }
     let rows = match strip_rows(file, ifd) {
-        Number::Refused { number, detail } => return Laid::Refused { number, detail },
+        Number::Refused { number, detail } => return LayoutTest::Refused { number, detail },
         Number::Is(v) => v,
     };
-    Laid::Is(Layout { bytes, rows })
+    LayoutTest::Is(Layout { bytes, rows })
 }

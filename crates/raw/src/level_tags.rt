@@ -2,16 +2,18 @@
 ghost use mathlib.Core.Path.{_≡_};
 ghost use Prim.Native.Nat.{_≤_};
 ghost use Rattle.reading.specs.Reading.{run};
-ghost use Rattle.directory.specs.Shape.{Tested};
-ghost use Rattle.raw.specs.LevelTags.{levelTagsOut, LevelTagsIn, levelTagsReading};
+ghost use Rattle.directory.specs.Facts.Shape.{Tested};
+ghost use Rattle.raw.specs.LevelTags.{levelTagsReading};
+ghost use Rattle.raw.specs.Facts.LevelTags.{levelTagsOut, LevelTagsIn};
 use crate::black;
 use crate::repeat;
 use crate::repeat::Repeat;
-use crate::repeat::Repeated;
+use crate::repeat::RepeatTest;
 use crate::white;
 use directory::Ifd;
-use directory::tag::Given;
+use directory::names;
 use directory::tag::Values;
+use directory::tag::ValuesTest;
 
 pub struct LevelTags {
     pub table: Values,
@@ -22,42 +24,48 @@ pub struct LevelTags {
     pub white: Values,
 }
 
-pub enum Leveled {
+pub enum LevelTagsTest {
     Refused { number: usize, detail: usize },
     Is(LevelTags),
 }
 
-pub fn level_tags_of(file: &[u8], ifd: Ifd, samples: usize, rows: usize, columns: usize) -> Leveled
+pub fn level_tags_of(
+    file: &[u8],
+    ifd: Ifd,
+    samples: usize,
+    rows: usize,
+    columns: usize,
+) -> LevelTagsTest
     requires { ⌜ Tested (now file) ifd ⌝ }
     requires { ⌜ samples ≤ 3 ⌝ }
     ensures { λ r. ⌜ levelTagsOut r ≡ run (now (file .entry)) (levelTagsReading ifd samples rows columns) ⌝ }
     ensures { λ r. ⌜ LevelTagsIn (now (file .entry)) (ifd .order) samples rows columns r ⌝ }
 {
     let table = match white::table_of(file, ifd) {
-        Given::Refused { number, detail } => return Leveled::Refused { number, detail },
-        Given::Is(v) => v,
+        ValuesTest::Refused { number, detail } => return LevelTagsTest::Refused { number, detail },
+        ValuesTest::Is(v) => v,
     };
     let repeat = match repeat::repeat_of(file, ifd) {
-        Repeated::Refused { number, detail } => return Leveled::Refused { number, detail },
-        Repeated::Is(v) => v,
+        RepeatTest::Refused { number, detail } => return LevelTagsTest::Refused { number, detail },
+        RepeatTest::Is(v) => v,
     };
     let black = match black::black_of(file, ifd, repeat, samples) {
-        Given::Refused { number, detail } => return Leveled::Refused { number, detail },
-        Given::Is(v) => v,
+        ValuesTest::Refused { number, detail } => return LevelTagsTest::Refused { number, detail },
+        ValuesTest::Is(v) => v,
     };
-    let column_deltas = match black::delta_of(file, ifd, 50715, columns) {
-        Given::Refused { number, detail } => return Leveled::Refused { number, detail },
-        Given::Is(v) => v,
+    let column_deltas = match black::delta_of(file, ifd, names::BLACK_LEVEL_DELTA_H, columns) {
+        ValuesTest::Refused { number, detail } => return LevelTagsTest::Refused { number, detail },
+        ValuesTest::Is(v) => v,
     };
-    let row_deltas = match black::delta_of(file, ifd, 50716, rows) {
-        Given::Refused { number, detail } => return Leveled::Refused { number, detail },
-        Given::Is(v) => v,
+    let row_deltas = match black::delta_of(file, ifd, names::BLACK_LEVEL_DELTA_V, rows) {
+        ValuesTest::Refused { number, detail } => return LevelTagsTest::Refused { number, detail },
+        ValuesTest::Is(v) => v,
     };
     let white = match white::white_of(file, ifd, samples) {
-        Given::Refused { number, detail } => return Leveled::Refused { number, detail },
-        Given::Is(v) => v,
+        ValuesTest::Refused { number, detail } => return LevelTagsTest::Refused { number, detail },
+        ValuesTest::Is(v) => v,
     };
-    Leveled::Is(LevelTags {
+    LevelTagsTest::Is(LevelTags {
         table,
         repeat,
         black,

@@ -2,19 +2,20 @@
 ghost use mathlib.Core.Path.{_≡_};
 ghost use lib.ListN.{length};
 ghost use Rattle.reading.specs.Reading.{run};
-ghost use Rattle.directory.specs.Shape.{Tested};
-ghost use Rattle.raw.specs.Raw.{tagsOut, TagsIn, tagsReading};
+ghost use Rattle.directory.specs.Facts.Shape.{Tested};
+ghost use Rattle.raw.specs.Raw.{tagsReading};
+ghost use Rattle.raw.specs.Facts.Raw.{tagsOut, TagsIn};
 use area::Area;
-use area::Cropped;
+use area::AreaTest;
 use directory::Ifd;
-use directory::tag::Given;
 use directory::tag::Values;
+use directory::tag::ValuesTest;
+use frame::DimensionsTest;
 use frame::Frame;
-use frame::Framed;
-use layout::Laid;
 use layout::Layout;
+use layout::LayoutTest;
 use level_tags::LevelTags;
-use level_tags::Leveled;
+use level_tags::LevelTagsTest;
 
 pub mod area;
 pub mod black;
@@ -41,43 +42,43 @@ pub struct Tags {
     pub list: Values,
 }
 
-pub enum Tagged {
+pub enum TagsTest {
     Refused { number: usize, detail: usize },
     Is(Tags),
 }
 
 // The tags, in order of test.
-pub fn tags_of(file: &[u8], ifd: Ifd) -> Tagged
+pub fn tags_of(file: &[u8], ifd: Ifd) -> TagsTest
     requires { ⌜ Tested (now file) ifd ⌝ }
     ensures { λ r. ⌜ (tagsOut r ≡ run (now (file .entry)) (tagsReading (length (now (file .entry))) ifd)) × TagsIn (now (file .entry)) (ifd .order) r ⌝ }
 {
     let frame = match frame::frame_of(file, ifd) {
-        Framed::Refused { number, detail } => return Tagged::Refused { number, detail },
-        Framed::Is(v) => v,
+        DimensionsTest::Refused { number, detail } => return TagsTest::Refused { number, detail },
+        DimensionsTest::Is(v) => v,
     };
     let layout = match layout::layout_of(file, ifd, frame.samples) {
-        Laid::Refused { number, detail } => return Tagged::Refused { number, detail },
-        Laid::Is(v) => v,
+        LayoutTest::Refused { number, detail } => return TagsTest::Refused { number, detail },
+        LayoutTest::Is(v) => v,
     };
     let strips = match strips::strips_of(file, ifd, frame, layout) {
-        Given::Refused { number, detail } => return Tagged::Refused { number, detail },
-        Given::Is(v) => v,
+        ValuesTest::Refused { number, detail } => return TagsTest::Refused { number, detail },
+        ValuesTest::Is(v) => v,
     };
     let area = match area::area_of(file, ifd, frame) {
-        Cropped::Refused { number, detail } => return Tagged::Refused { number, detail },
-        Cropped::Is(v) => v,
+        AreaTest::Refused { number, detail } => return TagsTest::Refused { number, detail },
+        AreaTest::Is(v) => v,
     };
     let rows = area.bottom - area.top;
     let columns = area.right - area.left;
     let levels = match level_tags::level_tags_of(file, ifd, frame.samples, rows, columns) {
-        Leveled::Refused { number, detail } => return Tagged::Refused { number, detail },
-        Leveled::Is(v) => v,
+        LevelTagsTest::Refused { number, detail } => return TagsTest::Refused { number, detail },
+        LevelTagsTest::Is(v) => v,
     };
     let list = match lists::list_of(file, ifd) {
-        Given::Refused { number, detail } => return Tagged::Refused { number, detail },
-        Given::Is(v) => v,
+        ValuesTest::Refused { number, detail } => return TagsTest::Refused { number, detail },
+        ValuesTest::Is(v) => v,
     };
-    Tagged::Is(Tags {
+    TagsTest::Is(Tags {
         frame,
         layout,
         strips,

@@ -2,17 +2,19 @@
 ghost use mathlib.Core.Path.{_≡_};
 ghost use Prim.Native.Nat.{_≤_};
 ghost use Rattle.reading.specs.Reading.{run};
-ghost use Rattle.directory.specs.Out.{numberOut};
-ghost use Rattle.directory.specs.Shape.{Tested};
-ghost use Rattle.directory.specs.Tag.{valuesOut};
-ghost use Rattle.raw.specs.Pattern.{oneOf, timesOf, firstOf, lastOf, patternOut, placesOf, repeatDimReading, cfaPatternReading, planeColorOf, planeColorReading, cfaLayoutReading, patternReading};
+ghost use Rattle.directory.specs.Facts.Out.{numberOut};
+ghost use Rattle.directory.specs.Facts.Shape.{Tested};
+ghost use Rattle.directory.specs.Facts.Tag.{valuesOut};
+ghost use Rattle.raw.specs.Pattern.{oneOf, timesOf, firstOf, lastOf, placesOf, repeatDimReading, cfaPatternReading, planeColorOf, planeColorReading, cfaLayoutReading, patternReading};
+ghost use Rattle.raw.specs.Facts.Pattern.{patternOut};
 use directory::Ifd;
 use directory::Number;
+use directory::names;
 use directory::tag;
-use directory::tag::Given;
 use directory::tag::Kinds;
 use directory::tag::Range;
 use directory::tag::Rule;
+use directory::tag::ValuesTest;
 use reading::number;
 
 // The places of a block's red, its two greens and its blue: 0 to 3, row by row.
@@ -23,7 +25,7 @@ pub struct Pattern {
     pub blue: usize,
 }
 
-pub enum Patterned {
+pub enum PatternTest {
     Refused { number: usize, detail: usize },
     Is(Pattern),
 }
@@ -69,13 +71,13 @@ fn last(x: usize, b: usize, c: usize, d: usize) -> usize
 }
 
 // The places of four colours.
-fn places(a: usize, b: usize, c: usize, d: usize) -> Patterned
+fn places(a: usize, b: usize, c: usize, d: usize) -> PatternTest
     ensures { λ r. ⌜ patternOut r ≡ placesOf a b c d ⌝ }
 {
     if times(0, a, b, c, d) == 1 {
         if times(1, a, b, c, d) == 2 {
             if times(2, a, b, c, d) == 1 {
-                return Patterned::Is(Pattern {
+                return PatternTest::Is(Pattern {
                     red: first(0, a, b, c),
                     green1: first(1, a, b, c),
                     green2: last(1, b, c, d),
@@ -84,19 +86,19 @@ fn places(a: usize, b: usize, c: usize, d: usize) -> Patterned
             }
         }
     }
-    Patterned::Refused {
+    PatternTest::Refused {
         number: 8,
-        detail: 33422,
+        detail: names::CFA_PATTERN,
     }
 }
 
 // 33421.
-fn repeat_dim_of(file: &[u8], ifd: Ifd) -> Given
+fn repeat_dim_of(file: &[u8], ifd: Ifd) -> ValuesTest
     requires { ⌜ Tested (now file) ifd ⌝ }
     ensures { λ r. ⌜ valuesOut r ≡ run (now (file .entry)) (repeatDimReading ifd) ⌝ }
 {
     let rule = Rule {
-        tag: 33421,
+        tag: names::CFA_REPEAT_PATTERN_DIM,
         kinds: Kinds::Short,
         required: true,
         least: 2,
@@ -111,20 +113,20 @@ fn repeat_dim_of(file: &[u8], ifd: Ifd) -> Given
 }
 
 // 33422.
-fn cfa_pattern_of(file: &[u8], ifd: Ifd) -> Patterned
+fn cfa_pattern_of(file: &[u8], ifd: Ifd) -> PatternTest
     requires { ⌜ Tested (now file) ifd ⌝ }
     ensures { λ r. ⌜ patternOut r ≡ run (now (file .entry)) (cfaPatternReading ifd) ⌝ }
 {
     let rule = Rule {
-        tag: 33422,
+        tag: names::CFA_PATTERN,
         kinds: Kinds::Byte,
         required: true,
         least: 4,
         most: 4,
     };
     let v = match tag::look_up(file, ifd, rule) {
-        Given::Refused { number, detail } => return Patterned::Refused { number, detail },
-        Given::Is(v) => v,
+        ValuesTest::Refused { number, detail } => return PatternTest::Refused { number, detail },
+        ValuesTest::Is(v) => v,
     };
     let place = v.place;
     let order = ifd.order;
@@ -148,7 +150,7 @@ fn plane_color(a: usize, b: usize, c: usize) -> Number
     }
     Number::Refused {
         number: 8,
-        detail: 50710,
+        detail: names::CFA_PLANE_COLOR,
     }
 }
 
@@ -158,15 +160,15 @@ fn plane_color_of(file: &[u8], ifd: Ifd) -> Number
     ensures { λ r. ⌜ numberOut r ≡ run (now (file .entry)) (planeColorReading ifd) ⌝ }
 {
     let rule = Rule {
-        tag: 50710,
+        tag: names::CFA_PLANE_COLOR,
         kinds: Kinds::Byte,
         required: false,
         least: 3,
         most: 3,
     };
     let v = match tag::look_up(file, ifd, rule) {
-        Given::Refused { number, detail } => return Number::Refused { number, detail },
-        Given::Is(v) => v,
+        ValuesTest::Refused { number, detail } => return Number::Refused { number, detail },
+        ValuesTest::Is(v) => v,
     };
     let count = v.count;
     if count == 0 {
@@ -186,7 +188,7 @@ fn cfa_layout_of(file: &[u8], ifd: Ifd) -> Number
     ensures { λ r. ⌜ numberOut r ≡ run (now (file .entry)) (cfaLayoutReading ifd) ⌝ }
 {
     let rule = Rule {
-        tag: 50711,
+        tag: names::CFA_LAYOUT,
         kinds: Kinds::Short,
         required: false,
         least: 1,
@@ -201,25 +203,25 @@ fn cfa_layout_of(file: &[u8], ifd: Ifd) -> Number
 }
 
 // The four tags of the raw IFD, in order of test.
-pub fn pattern_of(file: &[u8], ifd: Ifd) -> Patterned
+pub fn pattern_of(file: &[u8], ifd: Ifd) -> PatternTest
     requires { ⌜ Tested (now file) ifd ⌝ }
     ensures { λ r. ⌜ patternOut r ≡ run (now (file .entry)) (patternReading ifd) ⌝ }
 {
     match repeat_dim_of(file, ifd) {
-        Given::Refused { number, detail } => return Patterned::Refused { number, detail },
-        Given::Is(_) => {}
+        ValuesTest::Refused { number, detail } => return PatternTest::Refused { number, detail },
+        ValuesTest::Is(_) => {}
     }
     let pattern = match cfa_pattern_of(file, ifd) {
-        Patterned::Refused { number, detail } => return Patterned::Refused { number, detail },
-        Patterned::Is(p) => p,
+        PatternTest::Refused { number, detail } => return PatternTest::Refused { number, detail },
+        PatternTest::Is(p) => p,
     };
     match plane_color_of(file, ifd) {
-        Number::Refused { number, detail } => return Patterned::Refused { number, detail },
+        Number::Refused { number, detail } => return PatternTest::Refused { number, detail },
         Number::Is(_) => {}
     }
     match cfa_layout_of(file, ifd) {
-        Number::Refused { number, detail } => return Patterned::Refused { number, detail },
+        Number::Refused { number, detail } => return PatternTest::Refused { number, detail },
         Number::Is(_) => {}
     }
-    Patterned::Is(pattern)
+    PatternTest::Is(pattern)
 }

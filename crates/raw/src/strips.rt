@@ -3,21 +3,23 @@ ghost use mathlib.Core.Path.{_≡_};
 ghost use Prim.Native.Nat.{_+_, _*_, _≤_, _<_};
 ghost use lib.ListN.{length};
 ghost use Rattle.reading.specs.Reading.{run};
-ghost use Rattle.directory.specs.Out.{numberOut};
-ghost use Rattle.directory.specs.Shape.{Tested};
-ghost use Rattle.reading.specs.Number.{Wide};
-ghost use Rattle.directory.specs.Tag.{valuesOut};
-ghost use Rattle.raw.specs.Frame.{Framed-in};
-ghost use Rattle.raw.specs.Layout.{Laid-in};
-ghost use Rattle.raw.specs.Strips.{stripFrom, stripsReading, StripsIn};
+ghost use Rattle.directory.specs.Facts.Out.{numberOut};
+ghost use Rattle.directory.specs.Facts.Shape.{Tested};
+ghost use Rattle.reading.specs.Facts.Number.{Wide};
+ghost use Rattle.directory.specs.Facts.Tag.{valuesOut};
+ghost use Rattle.raw.specs.Facts.Frame.{Dimensions-in};
+ghost use Rattle.raw.specs.Facts.Layout.{Layout-in};
+ghost use Rattle.raw.specs.Strips.{stripFrom, stripsReading};
+ghost use Rattle.raw.specs.Facts.Strips.{StripsIn};
 use crate::frame::Frame;
 use crate::layout::Layout;
 use directory::Ifd;
 use directory::Number;
+use directory::names;
 use directory::tag;
-use directory::tag::Given;
 use directory::tag::Kinds;
 use directory::tag::Rule;
+use directory::tag::ValuesTest;
 use reading::number;
 use reading::number::Order;
 
@@ -55,14 +57,14 @@ fn check_strips(
         if bytes != here * row {
             return Number::Refused {
                 number: 4,
-                detail: 279,
+                detail: names::STRIP_BYTE_COUNTS,
             };
         }
         let place = number::value(file, order, width, p);
         if !number::inside(place, bytes, file.len()) {
             return Number::Refused {
                 number: 4,
-                detail: 273,
+                detail: names::STRIP_OFFSETS,
             };
         }
         p += width;
@@ -74,9 +76,9 @@ fn check_strips(
 }
 
 // 273 and 279: where the strips' offsets stand.
-pub fn strips_of(file: &[u8], ifd: Ifd, frame: Frame, layout: Layout) -> Given
+pub fn strips_of(file: &[u8], ifd: Ifd, frame: Frame, layout: Layout) -> ValuesTest
     requires { ⌜ Tested (now file) ifd ⌝ }
-    requires { ⌜ Framed-in frame × Laid-in layout ⌝ }
+    requires { ⌜ Dimensions-in frame × Layout-in layout ⌝ }
     ensures { λ r. ⌜ valuesOut r ≡ run (now (file .entry)) (stripsReading (length (now (file .entry))) ifd frame layout) ⌝ }
     ensures { λ r. ⌜ StripsIn (now (file .entry)) (ifd .order) frame layout r ⌝ }
 {
@@ -84,26 +86,26 @@ pub fn strips_of(file: &[u8], ifd: Ifd, frame: Frame, layout: Layout) -> Given
     let count = (frame.length - 1) / rows + 1;
     let row = frame.width * frame.samples * layout.bytes;
     let offsets_rule = Rule {
-        tag: 273,
+        tag: names::STRIP_OFFSETS,
         kinds: Kinds::ShortOrLong,
         required: true,
         least: count,
         most: count,
     };
     let offsets = match tag::look_up(file, ifd, offsets_rule) {
-        Given::Refused { number, detail } => return Given::Refused { number, detail },
-        Given::Is(v) => v,
+        ValuesTest::Refused { number, detail } => return ValuesTest::Refused { number, detail },
+        ValuesTest::Is(v) => v,
     };
     let counts_rule = Rule {
-        tag: 279,
+        tag: names::STRIP_BYTE_COUNTS,
         kinds: Kinds::ShortOrLong,
         required: true,
         least: count,
         most: count,
     };
     let counts = match tag::look_up(file, ifd, counts_rule) {
-        Given::Refused { number, detail } => return Given::Refused { number, detail },
-        Given::Is(v) => v,
+        ValuesTest::Refused { number, detail } => return ValuesTest::Refused { number, detail },
+        ValuesTest::Is(v) => v,
     };
     let order = ifd.order;
     let at = Run {
@@ -115,7 +117,7 @@ pub fn strips_of(file: &[u8], ifd: Ifd, frame: Frame, layout: Layout) -> Given
         size: counts.size,
     };
     match check_strips(file, order, at, long, count, rows, frame.length, row) {
-        Number::Refused { number, detail } => Given::Refused { number, detail },
-        Number::Is(_) => Given::Is(offsets),
+        Number::Refused { number, detail } => ValuesTest::Refused { number, detail },
+        Number::Is(_) => ValuesTest::Is(offsets),
     }
 }

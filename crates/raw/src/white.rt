@@ -2,23 +2,25 @@
 ghost use mathlib.Core.Path.{_≡_};
 ghost use lib.ListN.{length};
 ghost use Rattle.reading.specs.Reading.{run};
-ghost use Rattle.directory.specs.Shape.{Tested};
-ghost use Rattle.directory.specs.Tag.{valuesOut, ValuesIn};
-ghost use Rattle.raw.specs.White.{whiteRule, whiteReading, tableRule, tableReading, WhitesIn};
+ghost use Rattle.directory.specs.Facts.Shape.{Tested};
+ghost use Rattle.directory.specs.Facts.Tag.{valuesOut, ValuesIn};
+ghost use Rattle.raw.specs.White.{whiteRule, whiteReading, tableRule, tableReading};
+ghost use Rattle.raw.specs.Facts.White.{WhitesIn};
 use directory::Ifd;
+use directory::names;
 use directory::tag;
-use directory::tag::Given;
 use directory::tag::Kinds;
 use directory::tag::Range;
 use directory::tag::Rule;
+use directory::tag::ValuesTest;
 
 // 50717.
-pub fn white_of(file: &[u8], ifd: Ifd, samples: usize) -> Given
+pub fn white_of(file: &[u8], ifd: Ifd, samples: usize) -> ValuesTest
     requires { ⌜ Tested (now file) ifd ⌝ }
     ensures { λ r. ⌜ (valuesOut r ≡ run (now (file .entry)) (whiteReading ifd samples)) × WhitesIn (now (file .entry)) (ifd .order) (whiteRule samples) r ⌝ }
 {
     let rule = Rule {
-        tag: 50717,
+        tag: names::WHITE_LEVEL,
         kinds: Kinds::ShortOrLong,
         required: false,
         least: samples,
@@ -33,12 +35,12 @@ pub fn white_of(file: &[u8], ifd: Ifd, samples: usize) -> Given
 }
 
 // 50712.
-pub fn table_of(file: &[u8], ifd: Ifd) -> Given
+pub fn table_of(file: &[u8], ifd: Ifd) -> ValuesTest
     requires { ⌜ Tested (now file) ifd ⌝ }
     ensures { λ r. ⌜ (valuesOut r ≡ run (now (file .entry)) (tableReading ifd)) × ValuesIn (length (now (file .entry))) tableRule r ⌝ }
 {
     let rule = Rule {
-        tag: 50712,
+        tag: names::LINEARIZATION_TABLE,
         kinds: Kinds::Short,
         required: false,
         least: 1,

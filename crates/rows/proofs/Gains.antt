@@ -13,9 +13,10 @@ use Rattle.reading.specs.Bytes.{part}
 use Rattle.reading.specs.Reading.{pick}
 use Rattle.reading.proofs.Reading.{pick-yes, pick-no}
 use Rattle.levels.specs.Clip.{clipOf}
-use Rattle.opcodes.specs.Grid.{everyOf, linesOf, onOf, gridOf, Fits-in}
+use Rattle.opcodes.specs.Grid.{everyOf, linesOf, onOf, gridOf}
+use Rattle.opcodes.specs.Facts.Grid.{Fits-in}
 use Rattle.opcodes.specs.GainMap.{downOf, planesIn, gainMapOf, gainOf}
-use Rattle.opcodes.specs.Bracket.{GainMap-in, Bracket-of, gainIn}
+use Rattle.opcodes.specs.Facts.Bracket.{GainMap-in, Bracket-of, gainIn}
 use Rattle.opcodes.specs.Opcode.{opcodeAt, actOf}
 use Rattle.opcodes.specs.Step.{resultOf, appliedOf}
 use Rattle.opcodes.specs.OpcodeList.{gainMapFault, kindOf}
@@ -29,9 +30,9 @@ use Rattle.opcodes.proofs.OpcodeLists.{own-grid}
 use Rattle.opcodes.proofs.StepLaws.{on-in, plain-listed}
 use Rattle.opcodes.proofs.BracketLaws.{gain-in}
 use Rattle.opcodes.proofs.GainMaps.{map-accepted, fault-map, fault-plain}
-use Rattle.rows.specs.Sweep.{planesOf, overPart}
-use Rattle.rows.specs.GainMap.{columnAt, gainLine}
-use Rattle.rows.specs.Part.{Kept-in, Plain-in, keptOf, gainedOf}
+use Rattle.rows.specs.Facts.Sweep.{planesOf, overPart}
+use Rattle.rows.specs.Facts.GainMap.{columnAt, gainLine}
+use Rattle.rows.specs.Facts.Part.{Kept-in, Plain-in, keptOf, gainedOf}
 use Rattle.samples.proofs.Eaches.{each-same, each-none}
 use Rattle.rows.proofs.Hits.{whole}
 use Rattle.rows.proofs.Sweeps.{every-told, line-first, line-more}

@@ -10,24 +10,24 @@ use Rattle.reading.specs.declared.number.Order.{Order}
 use Rattle.levels.proofs.Unit.{unit}
 use Rattle.levels.proofs.UnitRange.{scaled-unit}
 use Rattle.levels.proofs.Rounding.{level-most}
-use Rattle.raw.specs.Sample.{scaledOf}
+use Rattle.raw.specs.Sample.{scaledSample}
 use Rattle.raw.specs.declared.Tags.{Tags}
 use Rattle.opcodes.specs.Opcode.{Opcode}
-use Rattle.samples.specs.Line.{scaledIn, scaledPart}
+use Rattle.samples.specs.Facts.Line.{scaledFrom, scaledPart}
 use Rattle.samples.proofs.Eaches.{each-length, each-at, each-each}
-use Rattle.rows.specs.Part.{Units}
-use Rattle.rows.specs.Walk.{alonePart, developedPart}
+use Rattle.rows.specs.Facts.Part.{All-in-unit}
+use Rattle.rows.specs.Facts.Walk.{alonePart, developedPart}
 
-pub scaled-in-unit : (f : List ℕ) (o : Order) (t : Tags) (r c p : ℕ) → unit (scaledIn f o t r c p)
-unfolding scaledOf Rattle.levels.specs.Levels.levelAt
+pub scaled-in-unit : (f : List ℕ) (o : Order) (t : Tags) (r c p : ℕ) → unit (scaledFrom f o t r c p)
+unfolding scaledSample Rattle.levels.specs.Levels.levelAt
 scaled-in-unit f o t r c p = scaled-unit _ (level-most _ _)
 
-pub part-units : (f : List ℕ) (o : Order) (t : Tags) (r l : ℕ) (xs : List Float) → Units (scaledPart f o t r l xs)
+pub part-units : (f : List ℕ) (o : Order) (t : Tags) (r l : ℕ) (xs : List Float) → All-in-unit (scaledPart f o t r l xs)
 unfolding scaledPart
 part-units f o t r l xs k b =
-    let q = each-length (λ (j : ℕ) (x : Float). scaledIn f o t r (l + j / t .frame .samples) (j % t .frame .samples)) 0 xs in
+    let q = each-length (λ (j : ℕ) (x : Float). scaledFrom f o t r (l + j / t .frame .samples) (j % t .frame .samples)) 0 xs in
     let b′ : k < length xs = omega arith in
-    let e : getD (scaledPart f o t r l xs) k nan ≡ scaledIn f o t r (l + (0 + k) / t .frame .samples) ((0 + k) % t .frame .samples) =
+    let e : getD (scaledPart f o t r l xs) k nan ≡ scaledFrom f o t r (l + (0 + k) / t .frame .samples) ((0 + k) % t .frame .samples) =
     each-at _ 0 xs k nan b′ in
     rw e (scaled-in-unit f o t r (l + (0 + k) / t .frame .samples) ((0 + k) % t .frame .samples))
 

@@ -19,7 +19,7 @@ use Rattle.reading.proofs.Wholes.{le-or-lt}
 use Rattle.directory.specs.declared.tag.Values.{Values}
 use Rattle.levels.specs.Black.{blackOf, blackAt, valueOf, widthOf, partsOf}
 use Rattle.levels.specs.Levels.{Levels, cellFor, spanOf}
-use Rattle.levels.specs.Reciprocal.{ofParts, inverseOf, SpanIn}
+use Rattle.levels.specs.Facts.Reciprocal.{ofParts, inverseOf, SpanIn}
 use Rattle.levels.specs.Run.{runOf}
 use Rattle.levels.specs.declared.black.Black.{Black}
 use Rattle.levels.specs.declared.black.Black.the-variants.{Parts, Illegal, NotCarried}
@@ -28,14 +28,14 @@ use Rattle.levels.proofs.Carried.{black-carried}
 use Rattle.levels.proofs.Residues.{cell-same}
 use Rattle.levels.proofs.Runs.{length-run}
 use Rattle.raw.specs.Black.{kindFor}
-use Rattle.raw.specs.Raw.{Tags-in}
+use Rattle.raw.specs.Facts.Raw.{Tags-in}
 use Rattle.raw.specs.Stored.{blacksReading, levelsReading}
 use Rattle.raw.specs.declared.Tags.{Tags}
 use Rattle.raw.proofs.BlackLaws.{width-for}
 use Rattle.raw.proofs.StoredLaws.{blacks-run, black-in}
 use Rattle.raw.proofs.TagFacts.{cellIndex, cell-for}
-use Rattle.samples.specs.Along.{cellAlong, spanAlong, pieceOf, Along-in}
-use Rattle.samples.specs.Line.{PartIs, Celled, Repeating}
+use Rattle.samples.specs.Facts.Along.{cellAlong, spanAlong, pieceOf, Along-in}
+use Rattle.samples.specs.Facts.Line.{PartIs, Celled, Repeating}
 use Rattle.samples.proofs.Lines.{part-at}
 
 module _ (v : Levels) (n : ℕ) (some : 1 ≤ n) where

@@ -18,13 +18,13 @@ use Rattle.reading.specs.Number.{numberOf}
 use Rattle.reading.specs.declared.number.Order.{Order}
 use Rattle.reading.proofs.Magnitude.{mag-le, natAbs-add, sfits64}
 use Rattle.reading.proofs.Wholes.{le-or-lt}
-use Rattle.levels.specs.Black.{Small}
+use Rattle.levels.specs.Facts.Black.{Small}
 use Rattle.levels.specs.Level.{differenceOf, levelOf, scaledOf}
-use Rattle.levels.specs.Reciprocal.{ofParts}
+use Rattle.levels.specs.Facts.Reciprocal.{ofParts}
 use Rattle.levels.proofs.Fills.{zeros-at}
 use Rattle.levels.proofs.Runs.{through-none}
 use Rattle.levels.proofs.Values.{add-parts}
-use Rattle.samples.specs.Line.{Filled, numberAt, lineValue, Line-in, Levelled, Celled, Repeating}
+use Rattle.samples.specs.Facts.Line.{Filled, numberAt, lineValue, Line-in, Levelled, Celled, Repeating}
 use Rattle.samples.specs.declared.line.Line.{Line}
 
 -- ---- what signed locals hold

@@ -13,19 +13,20 @@ use Rattle.reading.specs.Number.{numberOf}
 use Rattle.reading.specs.Reading.{run}
 use Rattle.reading.specs.declared.number.Order.{Order}
 use Rattle.levels.specs.Levels.{Levels, cellFor, blackFor, spanOf}
-use Rattle.levels.specs.Reciprocal.{SpanIn}
+use Rattle.levels.specs.Facts.Reciprocal.{SpanIn}
 use Rattle.levels.proofs.SignedOrder.{sum-same}
 use Rattle.levels.proofs.Residues.{cell-same}
-use Rattle.raw.specs.Front.{Raw-in}
-use Rattle.raw.specs.Raw.{Tags-in, activeRows, activeColumns}
+use Rattle.raw.specs.Facts.Front.{Raw-in}
+use Rattle.raw.specs.Raw.{activeRows, activeColumns}
+use Rattle.raw.specs.Facts.Raw.{Tags-in}
 use Rattle.raw.specs.Sample.{placeOf}
 use Rattle.raw.specs.Stored.{numbersReading, levelsReading, storedReading}
 use Rattle.raw.specs.declared.Tags.{Tags}
 use Rattle.raw.specs.declared.front.Raw.{Raw}
 use Rattle.raw.proofs.StoredLaws.{repeat-rows-are}
 use Rattle.raw.proofs.TagFacts.{scaled-is, stored-is, stored-run, place-inside, table-inside, span-in}
-use Rattle.samples.specs.Along.{cellAlong, spanAlong, Along-in, Deltas-in}
-use Rattle.samples.specs.Line.{Filled, lineValue, Line-in, Celled, Repeating, LineOf, Wide-in, scaledIn, scaledPart}
+use Rattle.samples.specs.Facts.Along.{cellAlong, spanAlong, Along-in, Deltas-in}
+use Rattle.samples.specs.Facts.Line.{Filled, lineValue, Line-in, Celled, Repeating, LineOf, Wide-in, scaledFrom, scaledPart}
 use Rattle.samples.specs.declared.line.Line.{Line}
 use Rattle.samples.proofs.Eaches.{is-each}
 use Rattle.samples.proofs.Alongs.{cell-small, celled, repeating}
@@ -71,7 +72,7 @@ module _ (t : Tags) (some : 1 ≤ t .frame .samples) where
 
         -- its value is its scaled value
         pub value-scaled : (black span : ℕ → ℤ) → black k ≡ blackFor levels r (l + k / n) (k % n) → span k ≡ spanOf levels (k % n)
-            → lineValue f x black span k ≡ scaledIn f o t r (l + k / n) (k % n)
+            → lineValue f x black span k ≡ scaledFrom f o t r (l + k / n) (k % n)
         unfolding lineValue
         value-scaled black span b s =
             let b′ : ℕ = t .layout .bytes in

@@ -7,7 +7,7 @@ ghost use lib.ListN.{length, getD};
 ghost use Rattle.reading.specs.Bytes.{part};
 ghost use Rattle.reading.specs.Number.{numberOf};
 ghost use Rattle.levels.specs.Level.{differenceOf, levelOf, scaledOf};
-ghost use Rattle.samples.specs.Line.{Filled, numberAt, lineValue, Line-in, Levelled};
+ghost use Rattle.samples.specs.Facts.Line.{Filled, numberAt, lineValue, Line-in, Levelled};
 use levels::reciprocal;
 use levels::table;
 use reading::number;

@@ -4,7 +4,7 @@ use native.Mathlib.Omega.{arith}
 use Prim.Native.Nat.{ℕ}
 use lib.Ieee.{Float, ofBits}
 use Rattle.opcodes.specs.GainMap.{gainMapOf, gainOf}
-use Rattle.opcodes.specs.Bracket.{cornersOf}
+use Rattle.opcodes.specs.Facts.Bracket.{cornersOf}
 use Rattle.opcodes.specs.Step.{appliedOf}
 use Rattle.opcodes.specs.declared.gain_map.Corners.{Corners}
 use Rattle.opcodes.specs.declared.gain_map.Bracket.the-variants.{At}

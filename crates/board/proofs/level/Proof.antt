@@ -9,7 +9,7 @@ use lib.Ieee.Back.{unsigned-back}
 use mir.Facts.{toZ-ofZ}
 use Rattle.reading.proofs.Wholes.{in-float}
 use Rattle.levels.specs.Level.{levelOf}
-use Rattle.levels.specs.Reciprocal.{ofParts, inverseOf}
+use Rattle.levels.specs.Facts.Reciprocal.{ofParts, inverseOf}
 use Rattle.levels.proofs.Rounding.{level-most}
 use Rattle.board.proofs.level.Statement.{statement}
 use Rattle.board.proofs.level.Tie as tie

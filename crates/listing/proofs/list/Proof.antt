@@ -8,8 +8,8 @@ use lib.Seq.{length-take-le}
 use denote.Ref.{now}
 use borrow.Author.Needs.{needs}
 use borrow.Author.Tests.{not-true, not-false}
-use Rattle.listing.specs.Body.{OpenedIs, rowsFrom}
-use Rattle.listing.specs.Pieces.{Remains, Ends}
+use Rattle.listing.specs.Facts.Body.{OpenedIs, rowsFrom}
+use Rattle.listing.specs.Facts.Pieces.{Remains, Ends}
 use Rattle.listing.proofs.Pieces.{all-remains, piece-stands, written-rest, ends-early, ends-whole}
 use Rattle.listing.proofs.list.Statement.{statement}
 use Rattle.listing.proofs.list.Tie as tie

@@ -1,6 +1,6 @@
 use mathlib.Core.Path.{refl, _∙_, subst}
 use denote.Ref.{now}
-use Rattle.develop.specs.View.{OpeningIs}
+use Rattle.develop.specs.Facts.View.{OpeningIs}
 use Rattle.listing.proofs.Bodies.{headed-refused, headed-frame, listed-over, listed-in, viewed-listed}
 use borrow.Author.Needs.{needs}
 use Rattle.listing.proofs.put_first.Statement.{statement}

@@ -4,7 +4,7 @@ use Prim.Native.Nat.{ℕ, _≤_}
 use native.Mathlib.Omega.{arith}
 use denote.Ref.{now}
 use Rattle.listing.specs.Text.{decimalOf}
-use Rattle.listing.specs.Body.{Puts}
+use Rattle.listing.specs.Facts.Body.{Puts}
 use Rattle.listing.proofs.Numerals.{at-most-20, decimal-is, decimal-length}
 use Rattle.listing.proofs.Lines.{puts-two}
 use borrow.Author.Needs.{needs}

@@ -6,8 +6,8 @@ use lib.Ieee.{Float}
 use lib.ListN.{length, take, drop}
 use lib.Seq.{length-take-le, take-at}
 use denote.Ref.{now}
-use Rattle.rows.specs.Part.{Units}
-use Rattle.listing.specs.Body.{linesText}
+use Rattle.rows.specs.Facts.Part.{All-in-unit}
+use Rattle.listing.specs.Facts.Body.{linesText}
 use Rattle.listing.specs.Text.{listedOf, bodyText}
 use Rattle.listing.proofs.Bodies.{width-some, width-most, block-units, block-body}
 use borrow.Author.Needs.{needs}
@@ -69,7 +69,7 @@ put-lines-requires c κs =
     let j : length (take (count s) (values g ++ drop (count s) (now (a .values)))) ≡ count s = ap length (in-place g) ∙ came g in
     let u = block-units (now (a .file)) (a .view .size) q (a .top) (a .height) _ (p .0) (p .1) (lent s) _ (values g)
     (g .opened-window .ensures) in
-    (width-some (a .view .size) (q .sized) (q .some-columns), j, omega (arith, j, p .2, s .pre .0 .0), subst Units (sym (in-place g)) u)
+    (width-some (a .view .size) (q .sized) (q .some-columns), j, omega (arith, j, p .2, s .pre .0 .0), subst All-in-unit (sym (in-place g)) u)
 
 same-length : tie.Need-same-length
 same-length c = search needs

@@ -6,7 +6,7 @@ use native.Mathlib.Omega.{arith}
 use lib.Ieee.{binary64, toBits}
 use lib.Ieee.Bits.{toBits-lt}
 use denote.Ref.{now}
-use Rattle.listing.specs.Body.{Puts}
+use Rattle.listing.specs.Facts.Body.{Puts}
 use Rattle.listing.proofs.Numerals.{at-most-16, hex-is}
 use borrow.Author.Needs.{needs}
 use Rattle.listing.proofs.put_value.Statement.{statement}

@@ -9,10 +9,10 @@ use lib.ListN.{length, take, drop}
 use mathlib.Core.List.{List}
 use Rattle.reading.specs.Reading.{run}
 use Rattle.raw.specs.Stored.{levelsReading}
-use Rattle.samples.specs.Along.{Along-in, Deltas-in}
+use Rattle.samples.specs.Facts.Along.{Along-in, Deltas-in}
 use Rattle.develop.specs.Demand.{aloneIn}
-use Rattle.develop.specs.Fill.{Upto}
-use Rattle.develop.specs.View.{Viewed}
+use Rattle.develop.specs.Facts.Fill.{Upto}
+use Rattle.develop.specs.Facts.View.{Viewed}
 use Rattle.develop.specs.declared.View.{View}
 use Rattle.develop.proofs.Windows.{Partly, partly-start, partly-next, partly-end, from-column, part-length, viewed-sized}
 use Rattle.develop.proofs.Windows.{viewed-wide}

@@ -1,9 +1,9 @@
 use mathlib.Core.Path.{sym, subst, _∙_}
 use denote.Ref.{now}
-use Rattle.colour.specs.Bounds.{All, Finite}
+use Rattle.colour.specs.Facts.Bounds.{All, Finite}
 use Rattle.colour.specs.declared.pixel.Xyz.{Xyz}
 use Rattle.develop.proofs.BlockLaws.{block-is, block-finite}
-use Rattle.develop.specs.Fill.{pairOf}
+use Rattle.develop.specs.Facts.Fill.{pairOf}
 use borrow.Author.Needs.{needs}
 use Rattle.develop.proofs.half_window.block_at.Statement.{statement}
 use Rattle.develop.proofs.half_window.block_at.Tie as tie

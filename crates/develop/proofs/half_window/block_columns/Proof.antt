@@ -9,8 +9,8 @@ use lib.Ieee.{Float, nan}
 use lib.ListN.{length, getD, take, drop}
 use Rattle.develop.specs.Calls.{blockIn}
 use Rattle.develop.specs.Demand.{aloneIn}
-use Rattle.develop.specs.Fill.{Upto}
-use Rattle.develop.specs.View.{Viewed}
+use Rattle.develop.specs.Facts.Fill.{Upto}
+use Rattle.develop.specs.Facts.View.{Viewed}
 use Rattle.develop.specs.declared.View.{View}
 use Rattle.develop.specs.declared.half_window.Half.{Half}
 use Rattle.develop.proofs.Windows.{Partly, partly-start, partly-next, partly-end, from-column, part-length, viewed-sized}

@@ -8,12 +8,12 @@ use lib.ListN.{length, take, drop, length-append}
 use denote.Ref.{now}
 use Rattle.develop.specs.Calls.{valuesOf}
 use Rattle.develop.specs.Demand.{aloneIn}
-use Rattle.develop.specs.Fill.{Fill-in, numberOf, Upto}
+use Rattle.develop.specs.Facts.Fill.{Fill-in, numberOf, Upto}
 use Rattle.develop.specs.declared.fill.Rectangle.{Rectangle}
 use Rattle.reading.specs.Reading.{run}
 use Rattle.raw.specs.Stored.{levelsReading}
-use Rattle.samples.specs.Along.{Along-in, Deltas-in}
-use Rattle.develop.specs.View.{Viewed}
+use Rattle.samples.specs.Facts.Along.{Along-in, Deltas-in}
+use Rattle.develop.specs.Facts.View.{Viewed}
 use Rattle.develop.proofs.Windows.{part-length, window-length, upto-values, viewed-sized}
 use Rattle.develop.proofs.BlockLaws.{pair-blocks}
 use borrow.Author.Needs.{needs}

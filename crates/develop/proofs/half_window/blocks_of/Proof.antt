@@ -5,7 +5,7 @@ use lib.ListN.{length, length-set}
 use denote.Ref.{now}
 use Rattle.levels.specs.Run.{runOf}
 use Rattle.develop.specs.Calls.{blockIn}
-use Rattle.develop.specs.Fill.{pairOf}
+use Rattle.develop.specs.Facts.Fill.{pairOf}
 use Rattle.develop.proofs.Windows.{Rows, rows-start, rows-end}
 use Rattle.develop.proofs.BlockLaws.{block-length, block-stored}
 use borrow.Author.Needs.{scaled-fits}

@@ -6,8 +6,8 @@ use denote.Ref.{now}
 use lib.ListN.{length}
 use Rattle.develop.specs.Calls.{blockIn}
 use Rattle.develop.specs.Demand.{aloneIn}
-use Rattle.develop.specs.Fill.{numberOf, Upto}
-use Rattle.develop.specs.View.{Viewed}
+use Rattle.develop.specs.Facts.Fill.{numberOf, Upto}
+use Rattle.develop.specs.Facts.View.{Viewed}
 use Rattle.develop.proofs.Windows.{upto-values, viewed-sized}
 use Rattle.develop.proofs.half_window.fill_blocks.Statement.{statement}
 use Rattle.develop.proofs.half_window.fill_blocks.Tie as tie

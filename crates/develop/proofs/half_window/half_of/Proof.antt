@@ -2,8 +2,9 @@ use mathlib.Core.Path.{_≡_, sym, ap, _∙_}
 use denote.Ref.{now}
 use Rattle.reading.specs.Reading.{run}
 use Rattle.directory.specs.Out.{Out.is}
-use Rattle.raw.specs.Pattern.{patternOut}
-use Rattle.colour.specs.Tags.{colourOut, colourReading}
+use Rattle.raw.specs.Facts.Pattern.{patternOut}
+use Rattle.colour.specs.Tags.{colourReading}
+use Rattle.colour.specs.Facts.Tags.{colourOut}
 use Rattle.develop.proofs.BlockLaws.{half-not, half-uncoloured, half-unpatterned, half-is}
 use borrow.Author.Needs.{needs}
 use Rattle.develop.proofs.half_window.half_of.Statement.{statement}

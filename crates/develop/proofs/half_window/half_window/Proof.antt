@@ -1,7 +1,7 @@
 use mathlib.Core.Path.{ap, subst}
 use denote.Ref.{now}
 use Rattle.develop.specs.Calls.{halfWindowOf}
-use Rattle.develop.specs.View.{OpeningIs}
+use Rattle.develop.specs.Facts.View.{OpeningIs}
 use borrow.Author.Needs.{needs}
 use Rattle.develop.proofs.half_window.half_window.Statement.{statement}
 use Rattle.develop.proofs.half_window.half_window.Tie as tie

@@ -4,7 +4,7 @@ use Rattle.reading.specs.Reading.{run}
 use Rattle.directory.specs.Out.{Out.is}
 use Rattle.opcodes.specs.declared.grid.Size.{Size}
 use Rattle.develop.specs.Calls.{halfFor}
-use Rattle.develop.specs.Fill.{halfOut}
+use Rattle.develop.specs.Facts.Fill.{halfOut}
 use Rattle.develop.proofs.BlockLaws.{half-inverse, half-called}
 use borrow.Author.Needs.{needs}
 use Rattle.develop.proofs.half_window.half_window_in.Statement.{statement}

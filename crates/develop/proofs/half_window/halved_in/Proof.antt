@@ -3,9 +3,9 @@ use native.Mathlib.Omega.{arith}
 use lib.ListN.{length}
 use denote.Ref.{now}
 use Rattle.opcodes.specs.declared.grid.Size.{Size}
-use Rattle.rows.specs.Part.{Sized-in}
+use Rattle.rows.specs.Facts.Part.{Sized-in}
 use Rattle.develop.specs.Calls.{blocksOf}
-use Rattle.develop.specs.Fill.{windowFault}
+use Rattle.develop.specs.Facts.Fill.{windowFault}
 use Rattle.develop.proofs.BlockLaws.{blocks-sized, blocks-in, halved-none, halved-fault}
 use borrow.Author.Needs.{needs}
 use Rattle.develop.proofs.half_window.halved_in.Statement.{statement}

@@ -4,9 +4,11 @@ use native.Mathlib.Omega.{arith}
 use denote.Ref.{now}
 use lib.ListN.{length}
 use Rattle.reading.specs.Reading.{run}
-use Rattle.directory.specs.Out.{numberOut, Out.is}
+use Rattle.directory.specs.Out.{Out.is}
+use Rattle.directory.specs.Facts.Out.{numberOut}
 use Rattle.directory.specs.Widths.{entryWidth}
-use Rattle.directory.specs.Shape.{entryReading, shapeFrom, TagIn}
+use Rattle.directory.specs.Shape.{entryReading, shapeFrom}
+use Rattle.directory.specs.Facts.Shape.{TagIn}
 use Rattle.directory.proofs.Entries.{entry-most, OneMore, one-more}
 use Rattle.directory.proofs.Shapes.{shape-none, shape-refused, shape-order, shape-next}
 use borrow.Author.Needs.{needs}

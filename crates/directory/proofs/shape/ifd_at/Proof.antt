@@ -4,7 +4,7 @@ use native.Mathlib.Omega.{arith}
 use denote.Ref.{now}
 use lib.ListN.{length}
 use borrow.Author.Tests.{leb-true, leb-false}
-use Rattle.directory.specs.Out.{numberOut}
+use Rattle.directory.specs.Facts.Out.{numberOut}
 use Rattle.directory.specs.Widths.{entryWidth}
 use Rattle.directory.proofs.Entries.{wide-most, entry-most}
 use Rattle.directory.proofs.Shapes.{ifd-outside, ifd-empty, ifd-cut, ifd-refused, ifd-is}

@@ -4,7 +4,7 @@ use native.Mathlib.Omega.{arith}
 use denote.Ref.{now}
 use Rattle.reading.specs.Bytes.{part}
 use Rattle.directory.specs.Widths.{headWidth}
-use Rattle.directory.specs.Entry.{kindOf, headerOf}
+use Rattle.directory.specs.Entry.{kindOf, entryOf}
 use Rattle.directory.specs.declared.entry.Entry.{Entry}
 use Rattle.directory.proofs.Entries.{wide-most, fit, unfit, header-at}
 use Rattle.directory.proofs.Shapes.{entry-within, entry-inside, entry-outside}
@@ -58,7 +58,7 @@ entry c =
     }
 
 head : (c : tie.After-value) → let a = c .before .before .before .before .before .args in
-    entry c ≡ headerOf (a .widths) (a .order) (part (now (a .file)) (a .at) (headWidth (a .widths)))
+    entry c ≡ entryOf (a .widths) (a .order) (part (now (a .file)) (a .at) (headWidth (a .widths)))
 head c =
     let s = c .before .before in
     let a = s .before .before .before .args in

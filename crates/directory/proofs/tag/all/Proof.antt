@@ -2,8 +2,10 @@ use mathlib.Core.Path.{_≡_, sym, ap, _∙_}
 use denote.Ref.{now}
 use lib.ListN.{length}
 use Rattle.reading.specs.Reading.{run}
-use Rattle.directory.specs.Out.{numberOut, Out.is}
-use Rattle.directory.specs.Tag.{valuesOut, Placed-values, valuesReading, allReading}
+use Rattle.directory.specs.Out.{Out.is}
+use Rattle.directory.specs.Facts.Out.{numberOut}
+use Rattle.directory.specs.Tag.{valuesReading, allReading}
+use Rattle.directory.specs.Facts.Tag.{valuesOut, Placed-values}
 use Rattle.directory.proofs.Outs.{bind-refused, bind-is}
 use Rattle.directory.proofs.Tags.{looked-up, wide}
 use Rattle.reading.proofs.Reading.{run-answer}

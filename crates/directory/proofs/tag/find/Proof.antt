@@ -6,7 +6,7 @@ use lib.ListN.{length}
 use Rattle.reading.specs.Bytes.{part}
 use Rattle.reading.specs.Reading.{run}
 use Rattle.directory.specs.Widths.{headWidth, entryWidth}
-use Rattle.directory.specs.Entry.{headerOf}
+use Rattle.directory.specs.Entry.{entryOf}
 use Rattle.directory.specs.Tag.{findFrom}
 use Rattle.directory.proofs.Entries.{entry-most, OneMore, one-more, head-tag}
 use Rattle.directory.proofs.Tags.{find-none, find-here, find-later}
@@ -53,7 +53,7 @@ header-requires c κs =
 
 -- the tag of the entry at p
 tag-is : (c : tie.After-short Inv-loop μ-loop) → let a = c .before .before .before .before .args in let l = c .before .before .loop in
-    headerOf (a .widths) (a .order) (part (now (a .file)) (l .p) (headWidth (a .widths))) .tag ≡ c .short .result
+    entryOf (a .widths) (a .order) (part (now (a .file)) (l .p) (headWidth (a .widths))) .tag ≡ c .short .result
 tag-is c =
     let l = c .before .before in
     let a = l .before .before .args in

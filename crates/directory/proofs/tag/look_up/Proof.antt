@@ -2,7 +2,7 @@ use mathlib.Core.Path.{sym, subst, _∙_}
 use denote.Ref.{now}
 use lib.ListN.{length}
 use Rattle.reading.proofs.Reading.{run-answer}
-use Rattle.directory.specs.Tag.{FoundIn}
+use Rattle.directory.specs.Facts.Tag.{FoundIn}
 use Rattle.directory.specs.declared.tag.Found.the-variants.{At, Absent}
 use Rattle.directory.proofs.Tags.{PlacedIn, found-placed, values-found}
 use borrow.Author.Needs.{needs}

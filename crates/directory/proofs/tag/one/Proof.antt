@@ -5,7 +5,8 @@ use denote.Ref.{now}
 use lib.ListN.{length}
 use Rattle.reading.specs.Reading.{run}
 use Rattle.directory.specs.Out.{Out.is}
-use Rattle.directory.specs.Tag.{valuesOut, Placed-values, valuesReading, oneReading}
+use Rattle.directory.specs.Tag.{valuesReading, oneReading}
+use Rattle.directory.specs.Facts.Tag.{valuesOut, Placed-values}
 use Rattle.directory.proofs.Outs.{bind-refused, bind-is}
 use Rattle.directory.proofs.Entries.{one-more}
 use Rattle.directory.proofs.Tags.{looked-up, wide, first-default, first-is}

@@ -3,7 +3,8 @@ use denote.Ref.{now}
 use lib.ListN.{length}
 use Rattle.reading.specs.Reading.{run}
 use Rattle.directory.specs.Out.{Out.is}
-use Rattle.directory.specs.Tag.{valuesOut, ValuesIn, valuesReading}
+use Rattle.directory.specs.Tag.{valuesReading}
+use Rattle.directory.specs.Facts.Tag.{valuesOut, ValuesIn}
 use Rattle.directory.specs.Tree.{versionRule, backwardRule}
 use Rattle.directory.proofs.Trees.{version-refused, backward-refused, version-above, version-is}
 use borrow.Author.Needs.{needs}

@@ -3,8 +3,9 @@ use mathlib.Core.Logic.{inr}
 use denote.Ref.{now}
 use lib.ListN.{length}
 use Rattle.reading.specs.Reading.{run}
-use Rattle.directory.specs.Out.{numberOut, Out.is}
-use Rattle.directory.specs.Tag.{valuesOut, ValuesIn}
+use Rattle.directory.specs.Out.{Out.is}
+use Rattle.directory.specs.Facts.Out.{numberOut}
+use Rattle.directory.specs.Facts.Tag.{valuesOut, ValuesIn}
 use Rattle.directory.specs.Tree.{childrenRule, subfileReading}
 use Rattle.directory.proofs.Trees.{look-refused, look-raw, children-refused, look-into}
 use borrow.Author.Needs.{needs}

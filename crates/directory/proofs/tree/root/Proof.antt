@@ -3,9 +3,12 @@ use denote.Ref.{now}
 use lib.ListN.{length}
 use Rattle.reading.specs.Reading.{run}
 use Rattle.reading.proofs.Reading.{run-answer}
-use Rattle.directory.specs.Out.{Out.is, bind, numberOut}
-use Rattle.directory.specs.Shape.{ifdReading, ifdOut, IfdIn, Tested}
-use Rattle.directory.specs.Tree.{raw, left, walkOut, WalkIn, afterWalk, walkReading, rootReading}
+use Rattle.directory.specs.Out.{Out.is, bind}
+use Rattle.directory.specs.Facts.Out.{numberOut}
+use Rattle.directory.specs.Shape.{ifdReading}
+use Rattle.directory.specs.Facts.Shape.{ifdOut, IfdIn, Tested}
+use Rattle.directory.specs.Tree.{raw, left, afterWalk, walkReading, rootReading}
+use Rattle.directory.specs.Facts.Tree.{walkOut, WalkIn}
 use Rattle.directory.proofs.Outs.{bind-refused, bind-is}
 use borrow.Author.Needs.{needs}
 use Rattle.directory.proofs.tree.root.Statement.{statement}

@@ -2,7 +2,7 @@ use mathlib.Core.Path.{ap, _∙_}
 use borrow.Author.Needs.{needs}
 use lib.Ieee.{Float, binary64, div, ofBits}
 use mir.Facts.{toZ-ofZ}
-use Rattle.levels.specs.Reciprocal.{mostRaised, inverseOf}
+use Rattle.levels.specs.Facts.Reciprocal.{mostRaised, inverseOf}
 use Rattle.levels.proofs.reciprocal.inverse.Statement.{statement}
 use Rattle.levels.proofs.reciprocal.inverse.Tie as tie
 

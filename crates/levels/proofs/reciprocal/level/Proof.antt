@@ -1,7 +1,7 @@
 use mathlib.Core.Path.{_≡_, ap, _∙_}
 use borrow.Author.Needs.{needs}
 use lib.Ieee.{Float, binary64, mul}
-use Rattle.levels.specs.Reciprocal.{cappedOf, wholeOf, levelBy}
+use Rattle.levels.specs.Facts.Reciprocal.{cappedOf, wholeOf, levelBy}
 use Rattle.levels.proofs.Clamps.{level-is-by}
 use Rattle.levels.proofs.reciprocal.level.Statement.{statement}
 use Rattle.levels.proofs.reciprocal.level.Tie as tie

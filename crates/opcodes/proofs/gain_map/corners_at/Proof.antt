@@ -3,7 +3,7 @@ use native.Mathlib.Omega.{arith}
 use Prim.Native.Nat.{ℕ}
 use denote.Ref.{now}
 use Rattle.opcodes.specs.GainMap.{gainMapOf}
-use Rattle.opcodes.specs.Bracket.{nextOf}
+use Rattle.opcodes.specs.Facts.Bracket.{nextOf}
 use Rattle.opcodes.proofs.Places.{float-exact}
 use Rattle.opcodes.proofs.BracketLaws.{point-below, corners-read}
 use borrow.Author.Needs.{needs}

@@ -1,6 +1,6 @@
 use mathlib.Core.Path.{ap, _∙_}
 use lib.Ieee.{Float}
-use Rattle.opcodes.specs.Bracket.{takenOf}
+use Rattle.opcodes.specs.Facts.Bracket.{takenOf}
 use borrow.Author.Needs.{needs}
 use Rattle.opcodes.proofs.gain_map.corners_gain.Statement.{statement}
 use Rattle.opcodes.proofs.gain_map.corners_gain.Tie as tie

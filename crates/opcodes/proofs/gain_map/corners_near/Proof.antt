@@ -1,7 +1,7 @@
 use mathlib.Core.Path.{ap, _∙_}
 use denote.Ref.{now}
 use Rattle.opcodes.specs.GainMap.{gainMapOf}
-use Rattle.opcodes.specs.Bracket.{cornersOf}
+use Rattle.opcodes.specs.Facts.Bracket.{cornersOf}
 use Rattle.opcodes.proofs.gain_map.corners_near.Statement.{statement}
 use Rattle.opcodes.proofs.gain_map.corners_near.Tie as tie
 

@@ -3,7 +3,7 @@ use native.Mathlib.Omega.{arith}
 use denote.Ref.{now}
 use Rattle.opcodes.specs.Grid.{longOf}
 use Rattle.opcodes.specs.GainMap.{gainMapOf}
-use Rattle.opcodes.specs.Bracket.{Axis-in, Bracket-of, Bracket-in}
+use Rattle.opcodes.specs.Facts.Bracket.{Axis-in, Bracket-of, Bracket-in}
 use Rattle.opcodes.specs.declared.gain_map.Axis.{Axis}
 use Rattle.opcodes.proofs.BracketLaws.{point-below, corners-found, gain-in}
 use borrow.Author.Needs.{needs}

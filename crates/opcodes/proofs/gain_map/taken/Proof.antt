@@ -1,5 +1,5 @@
 use mathlib.Core.Path.{sym, ap, _∙_}
-use Rattle.opcodes.specs.Bracket.{takenOf}
+use Rattle.opcodes.specs.Facts.Bracket.{takenOf}
 use Rattle.opcodes.specs.declared.gain_map.Bracket.{Bracket}
 use borrow.Author.Needs.{needs}
 use Rattle.opcodes.proofs.gain_map.taken.Statement.{statement}

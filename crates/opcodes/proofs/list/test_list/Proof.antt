@@ -2,7 +2,7 @@ use mathlib.Core.Path.{_∙_}
 use Prim.Native.Nat.{_<_}
 use native.Mathlib.Omega.{arith}
 use denote.Ref.{now}
-use Rattle.opcodes.specs.OpcodeList.{none}
+use Rattle.opcodes.specs.Facts.OpcodeList.{none}
 use Rattle.opcodes.proofs.Listing.{list-absent, list-many, list-some}
 use Rattle.opcodes.proofs.list.test_list.Statement.{statement}
 use Rattle.opcodes.proofs.list.test_list.Tie as tie

@@ -7,7 +7,8 @@ use lib.ListN.{length}
 use Rattle.reading.specs.Bytes.{part}
 use Rattle.reading.specs.Reading.{run}
 use Rattle.directory.specs.Out.{Out.is}
-use Rattle.opcodes.specs.OpcodeList.{headerOf, classOf, opcodeReading, listFrom, none, countedOne, countedOn, testedOut}
+use Rattle.opcodes.specs.OpcodeList.{headerOf, classOf, opcodeReading, listFrom}
+use Rattle.opcodes.specs.Facts.OpcodeList.{none, countedOne, countedOn, listOut}
 use Rattle.opcodes.proofs.Listing.{list-short, list-over, list-refused, list-next, list-end, list-left, counted-bound}
 use borrow.Author.Needs.{needs}
 use Rattle.opcodes.proofs.list.test_opcodes.Statement.{statement}
@@ -93,7 +94,7 @@ returns-3 c =
     let e : header-at .result ≡ headerOf (part f p 16) = header-at .ensures .0 in
     let l : 16 + headerOf (part f p 16) .length ≤ n = rw (← e) (if2 .left) in
     list-refused f z i p n (loop .counts) h l (a .count - i) some _ _
-    (rw (← e) (ap testedOut (sym (c .before .number .given .1)) ∙ judge .ensures)) ∙ sym (loop .inv .0)
+    (rw (← e) (ap listOut (sym (c .before .number .given .1)) ∙ judge .ensures)) ∙ sym (loop .inv .0)
 
 enum-known-c : tie.Need-enum-known-c Inv-loop μ-loop
 enum-known-c c = search needs
@@ -136,7 +137,7 @@ loop-again c =
     let l : 16 + headerOf (part f p 16) .length ≤ n = rw (← e) (if2 .left) in
     let hd = headerOf (part f p 16) in
     let g : is (c-call .given .0 .0) ≡ countedOne (loop .counts) (run f (opcodeReading (classOf hd) z i p hd)) =
-    (rw (← e) (ap testedOut (sym (c-call .given .1)) ∙ judge .ensures)) in
+    (rw (← e) (ap listOut (sym (c-call .given .1)) ∙ judge .ensures)) in
     let k = counted-bound (loop .counts) (c-call .given .0 .0) (run f (opcodeReading (classOf hd) z i p hd)) g in
     let j : a .count - i - 1 ≡ a .count - (i + 1) = omega arith in
     let t = list-next f z i p n (loop .counts) h l (a .count - i) some (c-call .given .0 .0) g in (

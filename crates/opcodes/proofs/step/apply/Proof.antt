@@ -2,7 +2,8 @@ use mathlib.Core.Path.{ap, subst, _∙_}
 use native.Mathlib.Omega.{arith}
 use denote.Ref.{now}
 use Rattle.levels.specs.Clip.{clipOf}
-use Rattle.opcodes.specs.Step.{hornerOf, resultOf, appliedOf, TableIn, StepIn}
+use Rattle.opcodes.specs.Step.{hornerOf, resultOf, appliedOf}
+use Rattle.opcodes.specs.Facts.Step.{TableIn, StepIn}
 use borrow.Author.Needs.{needs}
 use Rattle.opcodes.proofs.step.apply.Statement.{statement}
 use Rattle.opcodes.proofs.step.apply.Tie as tie

@@ -9,7 +9,8 @@ use Rattle.reading.specs.Number.{numberOf}
 use Rattle.reading.specs.declared.number.Order.the-variants.{Big}
 use Rattle.levels.specs.Level.{scaledOf}
 use Rattle.levels.specs.Table.{tableOf, throughOf}
-use Rattle.opcodes.specs.Step.{indexOf, sizeAt, tableAt, TableIn}
+use Rattle.opcodes.specs.Step.{indexOf, sizeAt, tableAt}
+use Rattle.opcodes.specs.Facts.Step.{TableIn}
 use Rattle.opcodes.proofs.Tables.{through-capped}
 use borrow.Author.Needs.{needs}
 use Rattle.opcodes.proofs.step.mapped.Statement.{statement}

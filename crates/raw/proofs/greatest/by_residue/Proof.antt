@@ -8,7 +8,7 @@ use mir.Val.{SFits}
 use mir.Facts.{toZ-ofZ}
 use Rattle.reading.specs.Reading.{run}
 use Rattle.levels.specs.declared.black.BlackKind.the-variants as kind
-use Rattle.levels.specs.Residues.{greatestDelta}
+use Rattle.levels.specs.Facts.Residues.{greatestDelta}
 use Rattle.levels.proofs.Fills.{Filled, fill-start, fill-step, fill-end, zeros-small}
 use Rattle.raw.specs.Stored.{blacksReading}
 use borrow.Author.Needs.{needs}

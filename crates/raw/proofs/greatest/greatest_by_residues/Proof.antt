@@ -9,7 +9,7 @@ use mir.Syntax.{w64}
 use mir.Val.{toZ, SFits}
 use mir.Facts.{toZ-ofZ}
 use Rattle.reading.specs.Reading.{run}
-use Rattle.levels.specs.Residues.{residueBlack}
+use Rattle.levels.specs.Facts.Residues.{residueBlack}
 use Rattle.levels.proofs.Maxima.{Folded, fold-start, fold-step, fold-end}
 use Rattle.raw.specs.Stored.{levelsReading}
 use borrow.Author.Needs.{needs}

@@ -11,7 +11,7 @@ use mir.Val.{toZ, SFits}
 use mir.Facts.{toZ-ofZ}
 use Rattle.reading.specs.Reading.{run}
 use Rattle.levels.specs.declared.black.BlackKind.the-variants as kind
-use Rattle.levels.specs.Residues.{timesOf}
+use Rattle.levels.specs.Facts.Residues.{timesOf}
 use Rattle.levels.proofs.Maxima.{Folded, fold-start, fold-step, fold-end}
 use Rattle.raw.specs.Stored.{blacksReading}
 use Rattle.raw.proofs.StoredLaws.{greatest-delta-none, delta-inside}

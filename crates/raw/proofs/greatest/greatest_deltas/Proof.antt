@@ -1,3 +1,4 @@
+use Rattle.directory.specs.Names.{blackLevelDeltaH, blackLevelDeltaV}
 use native.Mathlib.Omega.{arith}
 use denote.Ref.{now}
 use Rattle.raw.proofs.StoredLaws.{column-deltas-are, row-deltas-are, rows-are, columns-are, repeat-rows-are, repeat-columns-are}
@@ -13,7 +14,7 @@ by-residue-requires : tie.Need-by-residue-requires
 by-residue-requires c κs =
     let s = c .before .before .before .before .before .before in
     let h = s .pre in (
-      deltas-of (now (s .args .file)) 50715 _ _ (h .levels .column-deltas),
+      deltas-of (now (s .args .file)) blackLevelDeltaH _ _ (h .levels .column-deltas),
       (omega (arith, h .area .right, h .frame .columns), h .levels .repeat .some-columns, h .levels .repeat .columns),
     )
 
@@ -24,7 +25,7 @@ by-residue-requires-2 : tie.Need-by-residue-requires-2
 by-residue-requires-2 c κs =
     let s = c .before .before .before .before .before .before .before .before in
     let h = s .pre in (
-      deltas-of (now (s .args .file)) 50716 _ _ (h .levels .row-deltas),
+      deltas-of (now (s .args .file)) blackLevelDeltaV _ _ (h .levels .row-deltas),
       (omega (arith, h .area .bottom, h .frame .rows), h .levels .repeat .some-rows, h .levels .repeat .rows),
     )
 

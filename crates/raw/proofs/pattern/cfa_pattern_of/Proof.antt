@@ -1,3 +1,4 @@
+use Rattle.directory.specs.Names.{cfaPattern}
 use mathlib.Core.Path.{_≡_, sym, ap, _∙_}
 use native.Mathlib.Omega.{arith}
 use denote.Ref.{now}
@@ -5,7 +6,8 @@ use lib.ListN.{length}
 use Prim.Native.Nat.{_+_, _≤_}
 use Rattle.reading.specs.Reading.{run}
 use Rattle.directory.specs.Out.{Out.is}
-use Rattle.directory.specs.Tag.{valuesOut, valuesReading, required}
+use Rattle.directory.specs.Tag.{valuesReading, required}
+use Rattle.directory.specs.Facts.Tag.{valuesOut}
 use Rattle.directory.specs.declared.tag.Kinds.the-variants as kinds
 use Rattle.directory.proofs.Outs.{bind-refused, bind-is}
 use Rattle.directory.proofs.Tags.{looked-up, exactly}
@@ -17,12 +19,12 @@ use Rattle.raw.proofs.pattern.cfa_pattern_of.Tie as tie
 
 -- the tag's values: four bytes in the file
 values : (k : tie.After-v) → let a = k .before .before .before .before .args in
-    (is (k .v .given .0 .0) ≡ run (now (a .file)) (valuesReading (a .ifd) (required 33422 kinds.Byte 4)))
+    (is (k .v .given .0 .0) ≡ run (now (a .file)) (valuesReading (a .ifd) (required cfaPattern kinds.Byte 4)))
     × (k .v .given .0 .0 .place + 4 ≤ length (now (a .file)))
 values k =
     let a = k .before .before .before .before .args in
     let q = looked-up (now (a .file)) (a .ifd) _ (k .v .given .1) (k .before .before .look-up .ensures) in
-    (q .0, bytes-inside _ _ (k .v .given .0 .0) (exactly 33422 kinds.Byte 4 (q .1) (omega arith)))
+    (q .0, bytes-inside _ _ (k .v .given .0 .0) (exactly cfaPattern kinds.Byte 4 (q .1) (omega arith)))
 
 look-up-requires : tie.Need-look-up-requires
 look-up-requires c κs = search needs

@@ -1,9 +1,11 @@
 use mathlib.Core.Path.{_≡_, sym, ap, _∙_}
 use denote.Ref.{now}
 use Rattle.reading.specs.Reading.{run}
-use Rattle.directory.specs.Out.{Out.is, numberOut}
-use Rattle.directory.specs.Tag.{valuesOut}
-use Rattle.raw.specs.Pattern.{patternOut, repeatDimReading, cfaPatternReading, planeColorReading}
+use Rattle.directory.specs.Out.{Out.is}
+use Rattle.directory.specs.Facts.Out.{numberOut}
+use Rattle.directory.specs.Facts.Tag.{valuesOut}
+use Rattle.raw.specs.Pattern.{repeatDimReading, cfaPatternReading, planeColorReading}
+use Rattle.raw.specs.Facts.Pattern.{patternOut}
 use Rattle.raw.proofs.PatternLaws.{pattern-dim, pattern-colours, pattern-planes, pattern-layout, pattern-is}
 use borrow.Author.Needs.{needs}
 use Rattle.raw.proofs.pattern.pattern_of.Statement.{statement}

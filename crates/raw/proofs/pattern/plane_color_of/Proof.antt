@@ -1,3 +1,4 @@
+use Rattle.directory.specs.Names.{cfaPlaneColor}
 use mathlib.Core.Path.{_≡_, sym, ap, _∙_}
 use native.Mathlib.Omega.{arith}
 use Prim.Native.Nat.{_+_, _≤_}
@@ -5,7 +6,8 @@ use denote.Ref.{now}
 use lib.ListN.{length}
 use Rattle.reading.specs.Reading.{run}
 use Rattle.directory.specs.Out.{Out.is}
-use Rattle.directory.specs.Tag.{valuesOut, valuesReading, Placed-values, optional}
+use Rattle.directory.specs.Tag.{valuesReading, optional}
+use Rattle.directory.specs.Facts.Tag.{valuesOut, Placed-values}
 use Rattle.directory.specs.declared.tag.Kinds.the-variants as kinds
 use Rattle.directory.proofs.Outs.{bind-refused, bind-is}
 use Rattle.directory.proofs.Tags.{looked-up, counted}
@@ -17,15 +19,15 @@ use Rattle.raw.proofs.pattern.plane_color_of.Tie as tie
 
 -- the tag's values; where there are any, they are three bytes in the file
 values : (g : tie.After-v) → let a = g .before .before .before .before .args in
-    (is (g .v .given .0 .0) ≡ run (now (a .file)) (valuesReading (a .ifd) (optional 50710 kinds.Byte 3)))
-    × Placed-values (length (now (a .file))) (optional 50710 kinds.Byte 3) (g .v .given .0 .0)
+    (is (g .v .given .0 .0) ≡ run (now (a .file)) (valuesReading (a .ifd) (optional cfaPlaneColor kinds.Byte 3)))
+    × Placed-values (length (now (a .file))) (optional cfaPlaneColor kinds.Byte 3) (g .v .given .0 .0)
 values g =
     let a = g .before .before .before .before .args in
     looked-up (now (a .file)) (a .ifd) _ (g .v .given .1) (g .before .before .look-up .ensures)
 
 inside : (k : tie.Else1) → let g = k .before .before in
     g .v .given .0 .0 .place + 3 ≤ length (now (g .before .before .before .before .args .file))
-inside k = bytes-inside _ _ (k .before .before .v .given .0 .0) (counted 50710 kinds.Byte 3 (values (k .before .before) .1) (k .if1 .left))
+inside k = bytes-inside _ _ (k .before .before .v .given .0 .0) (counted cfaPlaneColor kinds.Byte 3 (values (k .before .before) .1) (k .if1 .left))
 
 look-up-requires : tie.Need-look-up-requires
 look-up-requires c κs = search needs

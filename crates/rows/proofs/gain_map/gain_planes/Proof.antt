@@ -8,8 +8,8 @@ use lib.ListN.{length}
 use denote.Ref.{now}
 use Rattle.opcodes.specs.GainMap.{planesIn}
 use Rattle.opcodes.specs.declared.gain_map.Bracket.{Bracket}
-use Rattle.rows.specs.Sweep.{sweptOf, planesOf}
-use Rattle.rows.specs.GainMap.{timesGain, gainLine}
+use Rattle.rows.specs.Facts.Sweep.{sweptOf, planesOf}
+use Rattle.rows.specs.Facts.GainMap.{timesGain, gainLine}
 use Rattle.rows.proofs.Gains.{column-below}
 use Rattle.rows.proofs.Hits.{planes-start, planes-next, end-short, hits}
 use Rattle.rows.proofs.gain_map.gain_planes.Statement.{statement}

@@ -1,7 +1,7 @@
 use mathlib.Core.Path.{sym, _∙_, subst}
 use native.Mathlib.Omega.{arith}
 use denote.Ref.{now}
-use Rattle.opcodes.specs.Bracket.{Axis-in, Bracket-of, Bracket-in}
+use Rattle.opcodes.specs.Facts.Bracket.{Axis-in, Bracket-of, Bracket-in}
 use Rattle.opcodes.specs.declared.gain_map.Axis.{Axis}
 use Rattle.rows.proofs.Sweeps.{every-told}
 use Rattle.rows.proofs.Gains.{map-grid, row-on, row-off, map-in, enough, grid-in}

@@ -10,10 +10,10 @@ use borrow.Author.Needs.{scaled-fits}
 use Rattle.levels.specs.Clip.{clipOf}
 use Rattle.opcodes.specs.Grid.{longOf}
 use Rattle.opcodes.specs.GainMap.{gainMapOf}
-use Rattle.opcodes.specs.Bracket.{Axis-in, Bracket-of, Bracket-in, cornersOf, Corners-in}
+use Rattle.opcodes.specs.Facts.Bracket.{Axis-in, Bracket-of, Bracket-in, cornersOf, Corners-in}
 use Rattle.opcodes.specs.declared.gain_map.Axis.{Axis}
 use Rattle.opcodes.proofs.BracketLaws.{point-below, corners-found, corners-point, corners-own, corners-sides}
-use Rattle.rows.specs.GainMap.{columnAt, timesGain}
+use Rattle.rows.specs.Facts.GainMap.{columnAt, timesGain}
 use Rattle.rows.specs.declared.gain_map.Columns.{Columns}
 use Rattle.rows.proofs.Gains.{column-first, column-more}
 use Rattle.rows.proofs.Sweeps.{Swept, swept-start, swept-step, swept-end, every-tell}

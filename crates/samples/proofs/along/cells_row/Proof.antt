@@ -6,11 +6,11 @@ use borrow.Author.Needs.{needs}
 use denote.Ref.{now}
 use lib.Ieee.{nan}
 use lib.ListN.{List·getD-append}
-use Rattle.levels.specs.Reciprocal.{ofParts}
+use Rattle.levels.specs.Facts.Reciprocal.{ofParts}
 use Rattle.reading.specs.Reading.{run}
 use Rattle.raw.specs.Stored.{levelsReading}
 use Rattle.raw.proofs.StoredLaws.{repeat-columns-are}
-use Rattle.samples.specs.Along.{cellAlong}
+use Rattle.samples.specs.Facts.Along.{cellAlong}
 use Rattle.samples.proofs.Alongs.{cell-next}
 use Rattle.samples.proofs.along.cells_row.Statement.{statement}
 use Rattle.samples.proofs.along.cells_row.Tie as tie

@@ -6,10 +6,10 @@ use borrow.Author.Needs.{needs}
 use denote.Ref.{now}
 use lib.Ieee.{nan}
 use lib.ListN.{length, getD, drop, length-take}
-use Rattle.levels.specs.Reciprocal.{ofParts}
+use Rattle.levels.specs.Facts.Reciprocal.{ofParts}
 use Rattle.reading.specs.Reading.{run}
 use Rattle.raw.specs.Stored.{levelsReading}
-use Rattle.samples.specs.Along.{cellAlong}
+use Rattle.samples.specs.Facts.Along.{cellAlong}
 use Rattle.samples.proofs.Lines.{rows-more}
 use Rattle.samples.proofs.along.fill_cells.Statement.{statement}
 use Rattle.samples.proofs.along.fill_cells.Tie as tie

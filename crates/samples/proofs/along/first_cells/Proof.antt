@@ -6,11 +6,11 @@ use borrow.Author.Needs.{needs}
 use denote.Ref.{now}
 use lib.Ieee.{nan}
 use lib.ListN.{length}
-use Rattle.levels.specs.Reciprocal.{ofParts}
+use Rattle.levels.specs.Facts.Reciprocal.{ofParts}
 use Rattle.reading.specs.Reading.{run}
 use Rattle.raw.specs.Stored.{levelsReading}
-use Rattle.samples.specs.Along.{cellAlong}
-use Rattle.samples.specs.Line.{Filled}
+use Rattle.samples.specs.Facts.Along.{cellAlong}
+use Rattle.samples.specs.Facts.Line.{Filled}
 use Rattle.samples.proofs.Lines.{back, filled-more}
 use Rattle.samples.proofs.along.first_cells.Statement.{statement}
 use Rattle.samples.proofs.along.first_cells.Tie as tie

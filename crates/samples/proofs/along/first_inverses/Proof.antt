@@ -9,11 +9,11 @@ use lib.IntN.{natAbs}
 use lib.ListN.{length}
 use Rattle.reading.specs.Reading.{run}
 use Rattle.levels.specs.Levels.{spanOf}
-use Rattle.levels.specs.Reciprocal.{inverseOf}
-use Rattle.raw.specs.Spans.{spanAt}
+use Rattle.levels.specs.Facts.Reciprocal.{inverseOf}
+use Rattle.raw.specs.Facts.Spans.{spanAt}
 use Rattle.raw.specs.Stored.{levelsReading}
 use Rattle.raw.proofs.TagFacts.{span-in}
-use Rattle.samples.specs.Line.{Filled}
+use Rattle.samples.specs.Facts.Line.{Filled}
 use Rattle.samples.proofs.Lines.{back, filled-more}
 use Rattle.samples.proofs.along.first_inverses.Statement.{statement}
 use Rattle.samples.proofs.along.first_inverses.Tie as tie

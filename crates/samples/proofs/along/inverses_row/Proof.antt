@@ -6,9 +6,9 @@ use denote.Ref.{now}
 use lib.Ieee.{nan}
 use lib.ListN.{List·getD-append}
 use Rattle.reading.specs.Reading.{run}
-use Rattle.levels.specs.Reciprocal.{inverseOf}
+use Rattle.levels.specs.Facts.Reciprocal.{inverseOf}
 use Rattle.raw.specs.Stored.{levelsReading}
-use Rattle.samples.specs.Along.{spanAlong}
+use Rattle.samples.specs.Facts.Along.{spanAlong}
 use Rattle.samples.proofs.Alongs.{span-next}
 use Rattle.samples.proofs.along.inverses_row.Statement.{statement}
 use Rattle.samples.proofs.along.inverses_row.Tie as tie

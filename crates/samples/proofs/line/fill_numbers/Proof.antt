@@ -6,7 +6,7 @@ use denote.Ref.{now}
 use lib.Ieee.{Float}
 use lib.ListN.{length}
 use Rattle.levels.specs.Table.{tableOf, throughOf}
-use Rattle.samples.specs.Line.{Filled, numberAt}
+use Rattle.samples.specs.Facts.Line.{Filled, numberAt}
 use Rattle.samples.proofs.Lines.{filled-more}
 use Rattle.samples.proofs.line.fill_numbers.Statement.{statement}
 use Rattle.samples.proofs.line.fill_numbers.Tie as tie

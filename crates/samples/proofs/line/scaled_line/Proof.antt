@@ -4,7 +4,7 @@ use Prim.Native.Nat.{ℕ, _≤_}
 use native.Mathlib.Omega.{arith}
 use borrow.Author.Needs.{needs}
 use denote.Ref.{now}
-use Rattle.samples.specs.Line.{Line-in}
+use Rattle.samples.specs.Facts.Line.{Line-in}
 use Rattle.samples.specs.declared.line.Line.{Line}
 use Rattle.samples.proofs.line.scaled_line.Statement.{statement}
 use Rattle.samples.proofs.line.scaled_line.Tie as tie

@@ -7,7 +7,7 @@ use lib.IntN.{ℤ}
 use lib.Ieee.{nan}
 use lib.ListN.{length, getD}
 use Rattle.levels.specs.Level.{differenceOf, levelOf, scaledOf}
-use Rattle.samples.specs.Line.{Filled, Levelled}
+use Rattle.samples.specs.Facts.Line.{Filled, Levelled}
 use Rattle.samples.proofs.Lines.{filled-more}
 use Rattle.samples.proofs.line.scaled_numbers.Statement.{statement}
 use Rattle.samples.proofs.line.scaled_numbers.Tie as tie

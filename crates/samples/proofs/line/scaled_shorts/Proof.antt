@@ -6,7 +6,7 @@ use denote.Ref.{now}
 use lib.IntN.{ℤ}
 use lib.Ieee.{nan}
 use lib.ListN.{length}
-use Rattle.samples.specs.Line.{Filled, Levelled}
+use Rattle.samples.specs.Facts.Line.{Filled, Levelled}
 use Rattle.samples.proofs.Lines.{filled-more, plainValue, plain-is, plain-inside, plain-value}
 use Rattle.samples.proofs.line.scaled_shorts.Statement.{statement}
 use Rattle.samples.proofs.line.scaled_shorts.Tie as tie

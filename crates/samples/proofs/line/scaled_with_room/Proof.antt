@@ -5,7 +5,7 @@ use borrow.Author.Needs.{needs}
 use denote.Ref.{now}
 use lib.ListN.{length, take, List·getD-append}
 use lib.Seq.{length-take-le}
-use Rattle.samples.specs.Line.{Line-in}
+use Rattle.samples.specs.Facts.Line.{Line-in}
 use Rattle.samples.proofs.Lines.{fits, value-is}
 use Rattle.samples.proofs.line.scaled_with_room.Statement.{statement}
 use Rattle.samples.proofs.line.scaled_with_room.Tie as tie

@@ -6,8 +6,8 @@ use denote.Ref.{now}
 use lib.IntN.{ℤ, pos}
 use lib.Ieee.{nan, binary64, add}
 use lib.ListN.{length, getD}
-use Rattle.levels.specs.Reciprocal.{ofParts}
-use Rattle.samples.specs.Line.{Filled}
+use Rattle.levels.specs.Facts.Reciprocal.{ofParts}
+use Rattle.samples.specs.Facts.Line.{Filled}
 use Rattle.samples.proofs.Lines.{sfits64-of32, held-long, filled-more}
 use Rattle.samples.proofs.scaled.add_deltas.Statement.{statement}
 use Rattle.samples.proofs.scaled.add_deltas.Tie as tie

@@ -3,7 +3,7 @@ use native.Mathlib.Omega.{arith}
 use denote.Ref.{now}
 use lib.IntN.{ℤ, pos}
 use lib.ListN.{getD}
-use Rattle.levels.specs.Reciprocal.{ofParts}
+use Rattle.levels.specs.Facts.Reciprocal.{ofParts}
 use mathlib.Core.List.{List}
 use Rattle.reading.specs.Reading.{run}
 use Rattle.raw.specs.Sample.{placeOf}

@@ -6,7 +6,7 @@ use denote.Ref.{now}
 use lib.IntN.{ℤ, pos, _+ℤ_}
 use lib.Ieee.{nan}
 use lib.ListN.{length, getD, take, drop, length-take, length-drop}
-use Rattle.samples.specs.Line.{Filled, lineValue, Celled, Repeating}
+use Rattle.samples.specs.Facts.Line.{Filled, lineValue, Celled, Repeating}
 use Rattle.samples.proofs.Lines.{filled-part, line-from, value-from, Same, same-start, same-next}
 use Rattle.samples.proofs.scaled.scaled_pieces.Statement.{statement}
 use Rattle.samples.proofs.scaled.scaled_pieces.Tie as tie

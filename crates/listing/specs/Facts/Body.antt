@@ -6,9 +6,9 @@ use lib.Ieee.{Float}
 use lib.ListN.{length, take, drop}
 use Rattle.directory.specs.Out.{Out.is}
 use Rattle.opcodes.specs.declared.grid.Size.{Size}
-use Rattle.rows.specs.Part.{Units, Sized-in}
+use Rattle.rows.specs.Facts.Part.{All-in-unit, Sized-in}
 use Rattle.develop.specs.Calls.{Opened, opened, sizeOf}
-use Rattle.develop.specs.View.{Viewed}
+use Rattle.develop.specs.Facts.View.{Viewed}
 use Rattle.develop.specs.declared.View.{View}
 use Rattle.develop.specs.declared.Opening.{Opening}
 use Rattle.develop.specs.declared.Opening.the-variants as opening
@@ -26,7 +26,7 @@ linesText m (suc h) xs = valuesText (take m xs) ++ linesText m h (drop m xs)
 
 -- they fit in a text, 17 bytes to a value
 abbrev pub LinesIn : ℕ → ℕ → List Float → List ℕ → Type 0
-LinesIn m h xs text = (1 ≤ m) × (length xs ≡ h * m) × (17 * length xs ≤ length text) × Units xs
+LinesIn m h xs text = (1 ≤ m) × (length xs ≡ h * m) × (17 * length xs ≤ length text) × All-in-unit xs
 
 -- an accepted file that the program lists, and its frame's size
 pub record Listed (f : List ℕ) (z : Size) : Type 0 where

@@ -9,7 +9,7 @@ use Rattle.reading.specs.Bytes.{part}
 use Rattle.reading.specs.Number.{numberOf}
 use Rattle.reading.specs.declared.number.Order.{Order}
 use Rattle.levels.specs.Level.{differenceOf, levelOf, scaledOf}
-use Rattle.levels.specs.Reciprocal.{ofParts, BlackIs, InverseIs}
+use Rattle.levels.specs.Facts.Reciprocal.{ofParts, BlackIs, InverseIs}
 use Rattle.levels.specs.Table.{tableOf, throughOf}
 use Rattle.reading.specs.Reading.{run}
 use Rattle.raw.specs.Raw.{activeColumns}
@@ -66,12 +66,12 @@ abbrev pub Wide-in : Tags → ℕ → ℕ → Type 0
 Wide-in t l len = (k : ℕ) → k < len → l + k / t .frame .samples < activeColumns (t .area)
 
 -- the scaled value at an active row, an active column and a plane
-abbrev pub scaledIn : List ℕ → Order → Tags → ℕ → ℕ → ℕ → Float
-scaledIn f o t r c p = Sample.scaledOf f o t (run f (storedReading o t)) r c p
+abbrev pub scaledFrom : List ℕ → Order → Tags → ℕ → ℕ → ℕ → Float
+scaledFrom f o t r c p = Sample.scaledSample f o t (run f (storedReading o t)) r c p
 
 -- the scaled values of the part of row r from column l on
 unfoldable pub scaledPart : List ℕ → Order → Tags → ℕ → ℕ → List Float → List Float
-scaledPart f o t r l xs = each (λ (k : ℕ) (x : Float). scaledIn f o t r (l + k / t .frame .samples) (k % t .frame .samples)) 0 xs
+scaledPart f o t r l xs = each (λ (k : ℕ) (x : Float). scaledFrom f o t r (l + k / t .frame .samples) (k % t .frame .samples)) 0 xs
 
 -- the line of a row's samples from column l on, the row's delta with it
 pub record LineOf (f : List ℕ) (o : Order) (t : Tags) (r l : ℕ) (x : Line) : Type 0 where

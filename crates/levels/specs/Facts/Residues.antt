@@ -6,7 +6,7 @@ use mathlib.Core.List.{List}
 use Prim.Native.Nat.{ℕ, _+_, _-_, _*_, _/_, _%_, _<_, min}
 use lib.IntN.{ℤ, pos, _+ℤ_}
 use lib.ListN.{getD}
-use Rattle.levels.specs.Black.{Small}
+use Rattle.levels.specs.Facts.Black.{Small}
 use Rattle.levels.specs.Levels.{Levels, maxBelow, cellFor}
 
 -- how many of the places 0 .. n - 1 are i, i + step ..: i is one of them

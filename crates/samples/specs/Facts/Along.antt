@@ -5,9 +5,9 @@ use mathlib.Core.List.{List}
 use lib.IntN.{ℤ, pos}
 use lib.Ieee.{Float, nan}
 use lib.ListN.{length, getD}
-use Rattle.levels.specs.Black.{Small}
+use Rattle.levels.specs.Facts.Black.{Small}
 use Rattle.levels.specs.Levels.{Levels, cellFor, spanOf}
-use Rattle.levels.specs.Reciprocal.{ofParts, inverseOf}
+use Rattle.levels.specs.Facts.Reciprocal.{ofParts, inverseOf}
 
 -- the numbers of a row stand column by column, n samples to a column; of the k-th from column l on: its cell in row r
 abbrev pub cellAlong : Levels → ℕ → ℕ → ℕ → ℕ → ℤ

@@ -7,7 +7,7 @@ use lib.Ieee.{Float, binary64, mul}
 use Rattle.levels.specs.Clip.{clipOf}
 use Rattle.opcodes.specs.Grid.{everyOf}
 use Rattle.opcodes.specs.GainMap.{planesIn, gainMapOf}
-use Rattle.opcodes.specs.Bracket.{gainIn}
+use Rattle.opcodes.specs.Facts.Bracket.{gainIn}
 use Rattle.opcodes.specs.declared.grid.Size.{Size}
 use Rattle.opcodes.specs.declared.grid.Grid.{Grid}
 use Rattle.opcodes.specs.declared.gain_map.Bracket.{Bracket}

@@ -5,7 +5,7 @@ use Prim.Native.Nat.{ℕ, _+_, _*_, _≤_, _<_}
 use lib.ListN.{length}
 use Rattle.directory.specs.declared.tag.Values.{Values}
 use Rattle.levels.specs.Levels.{Levels}
-use Rattle.levels.specs.Residues.{ByResidue}
+use Rattle.levels.specs.Facts.Residues.{ByResidue}
 use Rattle.raw.specs.declared.greatest.GreatestDeltas.{GreatestDeltas}
 
 -- the deltas of n rows or columns, or of none, lie in the file

@@ -1,0 +1,6 @@
+-- What only carries facts from one function to another: no promise of a call rests on it.
+pub mod Out
+pub mod Widths
+pub mod Shape
+pub mod Tag
+pub mod Tree

@@ -1,0 +1,4 @@
+-- What only carries facts from one function to another: no promise of a call rests on it.
+pub mod Black
+pub mod Reciprocal
+pub mod Residues

@@ -1,0 +1,9 @@
+-- What the functions tell one another.
+use Prim.Native.Nat.{ℕ, _≤_}
+use mathlib.Core.List.{List}
+use lib.IntN.{ℤ, pos, natAbs}
+use lib.ListN.{getD}
+
+-- 256ths, each of a black that is carried: at most 65,535 x 256
+abbrev pub Small : List ℤ → Type 0
+Small xs = (k : ℕ) → natAbs (getD xs k (pos 0)) ≤ 16776960
