@@ -9,24 +9,23 @@ use Rattle.reading.specs.Reading.{Reading, Reading.answer, andThen, pick, run, 
 use Rattle.directory.specs.Out.{Out, Out.refused, Out.is, bind}
 use Rattle.levels.specs.Clip.{plusZero}
 use Rattle.levels.specs.Run.{runOf}
-use Rattle.raw.specs.Raw.{activeRows, activeColumns}
+use Rattle.rawtags.specs.Raw.{activeRows, activeColumns}
 use Rattle.raw.specs.Front.{frontReading}
-use Rattle.raw.specs.Pattern.{patternReading}
 use Rattle.raw.specs.Stored.{Stored, storedReading}
 use Rattle.raw.specs.Sample.{scaledSample}
 use Rattle.raw.specs.declared.front.Picture.{Picture}
 use Rattle.opcodes.specs.Opcode.{Opcode}
-use Rattle.opcodes.specs.OpcodeList.{listReading, keptIn, skippedIn}
+use Rattle.opcodes.specs.OpcodeList.{listReading}
 use Rattle.opcodes.specs.Frame.{Frame, framed, standing, through}
 use Rattle.opcodes.specs.declared.grid.Size.{Size}
 use Rattle.colour.specs.Tags.{colourReading}
-use Rattle.colour.specs.Pixel.{xyzOf, meanOf}
+use Rattle.colour.specs.Pixel.{xyzOf}
 use Rattle.colour.specs.declared.Colour.{Colour}
 use Rattle.colour.specs.declared.pixel.Xyz.{Xyz}
-use Rattle.develop.specs.declared.card.CardAnswer.{CardAnswer}
 use Rattle.develop.specs.declared.spot.SpotAnswer.{SpotAnswer}
 use Rattle.develop.specs.declared.Answer.{Answer}
-use Rattle.develop.specs.declared.half_window.Half.{Half}
+use Rattle.opcodes.specs.Frame.{alone}
+use Rattle.rawtags.specs.declared.Tags.{Tags}
 
 -- ---- what the tests before 13 leave
 
@@ -58,13 +57,6 @@ opened f = runWhole f openReading
 abbrev pub colourFor : Picture → Reading (Out Colour)
 colourFor p = pick (eqb (p .raw .tags .frame .samples) 3) (colourReading (p .first)) (answer (refused 15 0))
 
--- "15 for LinearRaw"; "on each tag in turn, after the colour tags", of the raw directory
-unfoldable pub halfFor : Picture → Reading (Out Half)
-halfFor p =
-    pick (eqb (p .raw .tags .frame .samples) 1)
-    (bind (colourReading (p .first)) (λ m. bind (patternReading (p .directory)) (λ q. answer (is (record { colour = m; pattern = q })))))
-    (answer (refused 15 0))
-
 -- ---- the developed frame
 
 -- the scaled value at an active row, an active column and a plane
@@ -76,6 +68,17 @@ scaledIn f o r c p = scaledSample f (o .picture .order) (o .picture .raw .tags) 
 unfoldable pub frameOf : List ℕ → Opened → Frame
 frameOf f o = through (o .opcodes) (framed (sizeOf (o .picture)) (scaledIn f o))
 
+abbrev pub tagsOf : Opened → Tags
+tagsOf o = o .picture .raw .tags
+
+-- frame by frame: what stands in the developed frame
+abbrev pub developedIn : List ℕ → Opened → ℕ → ℕ → ℕ → Float
+developedIn f o r c p = standing (frameOf f o) r c p
+
+-- sample by sample: the scaled value of one sample, alone, through the whole list
+abbrev pub aloneIn : List ℕ → Opened → ℕ → ℕ → ℕ → Float
+aloneIn f o r c p = alone (o .opcodes) r c p (scaledIn f o r c p)
+
 -- X, Y, Z of a pixel, from its developed values
 abbrev pub channelOf : Xyz → ℕ → Float
 channelOf v k = pick (eqb k 0) (v .x) (pick (eqb k 1) (v .y) (v .z))
@@ -83,43 +86,9 @@ channelOf v k = pick (eqb k 0) (v .x) (pick (eqb k 1) (v .y) (v .z))
 abbrev pub pixelIn : Colour → Frame → ℕ → ℕ → ℕ → Float
 pixelIn m q r c k = channelOf (xyzOf m (standing q r c 0) (standing q r c 1) (standing q r c 2)) k
 
--- ---- a block of a mosaic
-
--- "Each whole 2x2 block from the active corner": so many rows and columns of them, with three values each
-abbrev pub blocksOf : Size → Size
-blocksOf z = record { rows = z .rows / 2; columns = z .columns / 2; samples = 3 }
-
--- the number at a place of the block in row i and column j of blocks; a block's four places count row by row
-abbrev pub blockAt : (ℕ → ℕ → ℕ → Float) → ℕ → ℕ → ℕ → Float
-blockAt x i j k = x (2 * i + k / 2) (2 * j + k % 2) 0
-
--- "developed red, (first green + second green in row order) * 0.5, blue. These three then go through the colour step"
-abbrev pub blockXyz : Half → (ℕ → ℕ → ℕ → Float) → ℕ → ℕ → Xyz
-blockXyz m x i j =
-    let p = m .pattern in
-    xyzOf (m .colour) (blockAt x i j (p .red)) (meanOf (blockAt x i j (p .green1)) (blockAt x i j (p .green2))) (blockAt x i j (p .blue))
-
-abbrev pub blockIn : Half → (ℕ → ℕ → ℕ → Float) → ℕ → ℕ → ℕ → Float
-blockIn m x i j k = channelOf (blockXyz m x i j) k
-
--- ---- card: "active rows, active columns, samples per pixel, corrections kept, corrections skipped"
-
--- "A refused card holds five zeros"
-abbrev pub cardOf : Out Opened → CardAnswer
-cardOf (refused n d) = record { number = n; detail = d; rows = 0; columns = 0; samples = 0; kept = 0; skipped = 0 }
-cardOf (is o) =
-    record {
-      number = 0;
-      detail = 0;
-      rows = sizeOf (o .picture) .rows;
-      columns = sizeOf (o .picture) .columns;
-      samples = sizeOf (o .picture) .samples;
-      kept = keptIn (o .opcodes);
-      skipped = skippedIn (o .opcodes);
-    }
-
-abbrev pub cardCall : List ℕ → CardAnswer
-cardCall f = cardOf (opened f)
+-- X, Y, Z of a pixel, from samples each alone
+abbrev pub pixelAlone : List ℕ → Opened → Colour → ℕ → ℕ → ℕ → Float
+pixelAlone f o m r c k = channelOf (xyzOf m (aloneIn f o r c 0) (aloneIn f o r c 1) (aloneIn f o r c 2)) k
 
 -- ---- spot
 
@@ -147,6 +116,14 @@ joined (x ∷ xs) = x ++ joined xs
 -- h rows of w columns of n values: "filled row by row, planes together"
 abbrev pub valuesOf : (ℕ → ℕ → ℕ → Float) → ℕ → ℕ → ℕ → ℕ → ℕ → List Float
 valuesOf x t l h w n = joined (runOf (λ (r : ℕ). joined (runOf (λ (c : ℕ). runOf (x r c) 1 0 n) 1 l w)) 1 t h)
+
+-- the k-th value of a slice, filled row by row with w pixels (or blocks) of n values from row t and column l on, is one of this row and
+-- this column; among the n it is the value k % n
+abbrev pub slotRow : ℕ → ℕ → ℕ → ℕ → ℕ
+slotRow t w n k = t + k / n / w
+
+abbrev pub slotColumn : ℕ → ℕ → ℕ → ℕ → ℕ
+slotColumn l w n k = l + k / n % w
 
 -- not empty, and inside the active area
 abbrev pub inside : Size → ℕ → ℕ → ℕ → ℕ → Bool
@@ -189,16 +166,3 @@ colourWindowOf f t l h w old (is o) = colouredOf f t l h w old o (run f (colourF
 
 abbrev pub colourWindowCall : List ℕ → ℕ → ℕ → ℕ → ℕ → List Float → Window
 colourWindowCall f t l h w old = colourWindowOf f t l h w old (opened f)
-
--- ---- half window: "Windows of this new call count in blocks"
-
-abbrev pub halvedOf : List ℕ → ℕ → ℕ → ℕ → ℕ → List Float → Opened → Out Half → Window
-halvedOf f t l h w old o (refused n d) = refusedWindow n d old
-halvedOf f t l h w old o (is m) = filledOf (blocksOf (sizeOf (o .picture))) 3 t l h w old (blockIn m (standing (frameOf f o)))
-
-abbrev pub halfWindowOf : List ℕ → ℕ → ℕ → ℕ → ℕ → List Float → Out Opened → Window
-halfWindowOf f t l h w old (refused n d) = refusedWindow n d old
-halfWindowOf f t l h w old (is o) = halvedOf f t l h w old o (run f (halfFor (o .picture)))
-
-abbrev pub halfWindowCall : List ℕ → ℕ → ℕ → ℕ → ℕ → List Float → Window
-halfWindowCall f t l h w old = halfWindowOf f t l h w old (opened f)

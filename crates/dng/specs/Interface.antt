@@ -1,7 +1,7 @@
 -- What an answer shows through the C interface.
 use Prim.Native.Nat.{ℕ, _+_, _*_}
 use mathlib.Core.List.{List, [], _∷_}
-use Rattle.develop.specs.declared.card.CardAnswer.{CardAnswer}
+use Rattle.demand.specs.declared.card.CardAnswer.{CardAnswer}
 
 -- a card: number, detail, active rows, active columns, samples, opcodes kept, opcodes skipped
 unfoldable pub numbersOf : CardAnswer → List ℕ

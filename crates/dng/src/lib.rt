@@ -2,13 +2,15 @@
 // detail in one.
 ghost use mathlib.Core.Path.{_≡_};
 ghost use Prim.Native.Nat.{_<_};
-ghost use Rattle.develop.specs.Calls.{cardCall, spotCall, windowCall, colourWindowCall, halfWindowCall};
+ghost use Rattle.develop.specs.Calls.{spotCall, windowCall, colourWindowCall};
+ghost use Rattle.demand.specs.Card.{cardCall};
+ghost use Rattle.half.specs.Half.{halfWindowCall};
 ghost use Rattle.dng.specs.Interface.{numbersOf, packedOf};
-use develop::card;
+use demand::card;
 use develop::colour_window;
-use develop::half_window;
 use develop::spot;
 use develop::window;
+use half::half_window;
 
 // Number, detail, active rows, active columns, samples, opcodes kept, opcodes skipped.
 #[no_mangle]

@@ -18,21 +18,21 @@ use Rattle.directory.specs.declared.tag.Kinds.the-variants as kinds
 use Rattle.directory.specs.declared.tag.Values.{Values}
 use Rattle.directory.proofs.Outs.{bind-inverse, same-value}
 use Rattle.directory.proofs.Accepted.{tree-rooted, values-placed, one-in}
-use Rattle.raw.specs.Frame.{frameReading}
-use Rattle.raw.specs.Layout.{depthReading, onlyOne, formatReading, stripRowsReading, layoutReading}
-use Rattle.raw.specs.Strips.{stripCount, rowBytes, stripFrom, offsetsRule, countsRule, stripsReading}
-use Rattle.raw.specs.Facts.Strips.{Strips-in}
-use Rattle.raw.specs.Area.{areaReading}
-use Rattle.raw.specs.LevelTags.{levelTagsReading}
-use Rattle.raw.specs.Lists.{listRule, listTagReading}
-use Rattle.raw.specs.Raw.{activeRows, activeColumns, tagsReading}
+use Rattle.rawtags.specs.Frame.{frameReading}
+use Rattle.rawtags.specs.Layout.{depthReading, onlyOne, formatReading, stripRowsReading, layoutReading}
+use Rattle.rawtags.specs.Strips.{stripCount, rowBytes, stripFrom, offsetsRule, countsRule, stripsReading}
+use Rattle.rawtags.specs.Facts.Strips.{Strips-in}
+use Rattle.rawtags.specs.Area.{areaReading}
+use Rattle.rawtags.specs.LevelTags.{levelTagsReading}
+use Rattle.rawtags.specs.Lists.{listRule, listTagReading}
+use Rattle.rawtags.specs.Raw.{activeRows, activeColumns, tagsReading}
 use Rattle.raw.specs.Front.{rawReading, frontReading}
-use Rattle.raw.specs.declared.frame.Frame.{Frame}
-use Rattle.raw.specs.declared.layout.Layout.{Layout}
-use Rattle.raw.specs.declared.Tags.{Tags}
+use Rattle.rawtags.specs.declared.frame.Dimensions.{Dimensions}
+use Rattle.rawtags.specs.declared.layout.Layout.{Layout}
+use Rattle.rawtags.specs.declared.Tags.{Tags}
 use Rattle.raw.specs.declared.front.Raw.{Raw}
 use Rattle.raw.specs.declared.front.Picture.{Picture}
-use Rattle.raw.proofs.Strip.{strip-in}
+use Rattle.rawtags.proofs.Strip.{strip-in}
 
 module _ (f : List ℕ) (d : Ifd) where
   -- a strip has a row
@@ -50,7 +50,7 @@ module _ (f : List ℕ) (d : Ifd) where
       rw q (one-in f d _ _ _ (r .0) (r .1) .legal)
 
   module _ (t : Tested f d) where
-    pub strips-accepted : (fr : Frame) (l : Layout) (v : Values) → is v ≡ run f (stripsReading (length f) d fr l) →
+    pub strips-accepted : (fr : Dimensions) (l : Layout) (v : Values) → is v ≡ run f (stripsReading (length f) d fr l) →
         Strips-in f (d .order) fr l v
     unfolding stripsReading
     strips-accepted fr l v e =
@@ -86,7 +86,7 @@ pub tags-accepted : (f : List ℕ) (d : Ifd) → Tested f d → (t : Tags) → i
 unfolding tagsReading
 tags-accepted f d h t e =
     let a = bind-inverse f (frameReading d) _ t e in
-    let fr : Frame = a .0 in
+    let fr : Dimensions = a .0 in
     let b = bind-inverse f (layoutReading d (fr .samples)) _ t (a .2) in
     let c = bind-inverse f (stripsReading (length f) d fr (b .0)) _ t (b .2) in
     let i = bind-inverse f (areaReading d fr) _ t (c .2) in

@@ -26,25 +26,25 @@ use Rattle.directory.proofs.TagUnread.{headsOf, offsetIn, valueIn, values-off}
 use Rattle.levels.specs.Levels.{Levels}
 use Rattle.levels.specs.declared.black.BlackKind.{BlackKind}
 use Rattle.levels.specs.declared.black.BlackKind.the-variants as kind
-use Rattle.raw.specs.Frame.{frameReading}
-use Rattle.raw.specs.Layout.{layoutReading}
-use Rattle.raw.specs.Strips.{stripCount, rowBytes, stripFrom, offsetsRule, countsRule, stripsReading}
-use Rattle.raw.specs.Area.{areaReading}
-use Rattle.raw.specs.Repeat.{repeatReading}
-use Rattle.raw.specs.Black.{kindFor, blacksTest, blackRule, blackReading, deltaRule, deltaReading}
-use Rattle.raw.specs.White.{tableRule, tableReading, whiteRule, whiteReading}
-use Rattle.raw.specs.LevelTags.{levelTagsReading}
-use Rattle.raw.specs.Lists.{listTagReading}
-use Rattle.raw.specs.Raw.{activeRows, activeColumns, tagsReading}
+use Rattle.rawtags.specs.Frame.{frameReading}
+use Rattle.rawtags.specs.Layout.{layoutReading}
+use Rattle.rawtags.specs.Strips.{stripCount, rowBytes, stripFrom, offsetsRule, countsRule, stripsReading}
+use Rattle.rawtags.specs.Area.{areaReading}
+use Rattle.rawtags.specs.Repeat.{repeatReading}
+use Rattle.rawtags.specs.Black.{kindFor, blacksTest, blackRule, blackReading, deltaRule, deltaReading}
+use Rattle.rawtags.specs.White.{tableRule, tableReading, whiteRule, whiteReading}
+use Rattle.rawtags.specs.LevelTags.{levelTagsReading}
+use Rattle.rawtags.specs.Lists.{listTagReading}
+use Rattle.rawtags.specs.Raw.{activeRows, activeColumns, tagsReading}
 use Rattle.raw.specs.Stored.{numbersReading, blacksReading, whitesReading, levelsReading, storedReading}
 use Rattle.raw.specs.Spans.{spannedOf}
 use Rattle.raw.specs.Front.{rawWith, rawReading, pictureOf, frontReading}
-use Rattle.raw.specs.declared.Tags.{Tags}
-use Rattle.raw.specs.declared.frame.Frame.{Frame}
-use Rattle.raw.specs.declared.layout.Layout.{Layout}
-use Rattle.raw.specs.declared.repeat.Repeat.{Repeat}
-use Rattle.raw.specs.declared.level_tags.LevelTags.{LevelTags}
-use Rattle.raw.proofs.TagsUnread.{rawTags, tags-unread}
+use Rattle.rawtags.specs.declared.Tags.{Tags}
+use Rattle.rawtags.specs.declared.frame.Dimensions.{Dimensions}
+use Rattle.rawtags.specs.declared.layout.Layout.{Layout}
+use Rattle.rawtags.specs.declared.repeat.Repeat.{Repeat}
+use Rattle.rawtags.specs.declared.level_tags.LevelTags.{LevelTags}
+use Rattle.rawtags.proofs.TagsUnread.{rawTags, tags-unread}
 
 -- ---- the values that a test leaves are those of the tag
 module _ (f : List ℕ) (d : Ifd) (v : Values) where
@@ -70,7 +70,7 @@ module _ (f : List ℕ) (d : Ifd) (v : Values) where
       subst (λ (x : Values). is x ≡ run f (valuesReading d (deltaRule tag n))) (sym (same-value v (a .0) (b .2 ∙ run-answer f _))) (a .1)
 
   strips-given :
-      (size : ℕ) (w : Frame) (l : Layout) → is v ≡ run f (stripsReading size d w l) → is v ≡ run f (valuesReading d (offsetsRule w l))
+      (size : ℕ) (w : Dimensions) (l : Layout) → is v ≡ run f (stripsReading size d w l) → is v ≡ run f (valuesReading d (offsetsRule w l))
   unfolding stripsReading
   strips-given size w l e =
       let a = bind-inverse f (valuesReading d (offsetsRule w l)) _ v e in

@@ -12,24 +12,24 @@ use Rattle.directory.specs.declared.tag.Kinds.{Kinds}
 use Rattle.directory.specs.declared.tag.Values.{Values}
 use Rattle.directory.proofs.Refusals.{Small-refusal, Small-detail, Small-refusals, smalls, small-then, small-pick, small-bind}
 use Rattle.directory.proofs.Refusals.{values-small, not-carried-small, judged-small, one-small, each-small, all-small, tree-small}
-use Rattle.raw.specs.Frame.{dimensionReading, planesReading, frameReading}
-use Rattle.raw.specs.Layout.{depthFrom, depthReading, onlyOne, formatReading, stripRowsReading, layoutReading}
-use Rattle.raw.specs.Strips.{stripFrom, stripsReading}
-use Rattle.raw.specs.Area.{croppedOf, fourReading, areaReading}
-use Rattle.raw.specs.Repeat.{sideReading, pairReading, repeatReading}
-use Rattle.raw.specs.Black.{blackOut, blacksTest, blackReading, deltaReading}
-use Rattle.raw.specs.White.{tableReading, whiteReading}
-use Rattle.raw.specs.LevelTags.{levelTagsReading}
-use Rattle.raw.specs.Lists.{listTagReading}
-use Rattle.raw.specs.Raw.{tagsReading}
+use Rattle.rawtags.specs.Frame.{dimensionReading, planesReading, frameReading}
+use Rattle.rawtags.specs.Layout.{depthFrom, depthReading, onlyOne, formatReading, stripRowsReading, layoutReading}
+use Rattle.rawtags.specs.Strips.{stripFrom, stripsReading}
+use Rattle.rawtags.specs.Area.{croppedOf, fourReading, areaReading}
+use Rattle.rawtags.specs.Repeat.{sideReading, pairReading, repeatReading}
+use Rattle.rawtags.specs.Black.{blackOut, blacksTest, blackReading, deltaReading}
+use Rattle.rawtags.specs.White.{tableReading, whiteReading}
+use Rattle.rawtags.specs.LevelTags.{levelTagsReading}
+use Rattle.rawtags.specs.Lists.{listTagReading}
+use Rattle.rawtags.specs.Raw.{tagsReading}
 use Rattle.raw.specs.Spans.{spannedOf}
 use Rattle.raw.specs.Front.{rawReading, frontReading}
-use Rattle.raw.specs.Pattern.{placesOf, fourColoursReading, planeColorOf, threeColoursReading, cfaPatternReading, planeColorReading}
-use Rattle.raw.specs.Pattern.{patternReading}
-use Rattle.raw.specs.declared.area.Area.{Area}
-use Rattle.raw.specs.declared.frame.Frame.{Frame}
-use Rattle.raw.specs.declared.layout.Layout.{Layout}
-use Rattle.raw.specs.declared.repeat.Repeat.{Repeat}
+use Rattle.rawtags.specs.Pattern.{placesOf, fourColoursReading, planeColorOf, threeColoursReading, cfaPatternReading, planeColorReading}
+use Rattle.rawtags.specs.Pattern.{patternReading}
+use Rattle.rawtags.specs.declared.area.Area.{Area}
+use Rattle.rawtags.specs.declared.frame.Dimensions.{Dimensions}
+use Rattle.rawtags.specs.declared.layout.Layout.{Layout}
+use Rattle.rawtags.specs.declared.repeat.Repeat.{Repeat}
 
 -- a tag's rule, by what it is made of
 ruleset tags = (smalls, values-small, not-carried-small, judged-small, one-small, each-small, all-small)
@@ -66,15 +66,15 @@ strip-small size o wide broad rows row (suc n) p q rest =
     (small-then _ _ (λ a. small-pick _ _ _
     (strip-small size o wide broad rows row n (p + wide) (q + broad) (rest - min rows rest)) (search smalls))) (search smalls))
 
-strips-small : (size : ℕ) (d : Ifd) (f : Frame) (l : Layout) → Small-refusals (stripsReading size d f l)
+strips-small : (size : ℕ) (d : Ifd) (f : Dimensions) (l : Layout) → Small-refusals (stripsReading size d f l)
 unfolding stripsReading
 strips-small size d f l = search (tags, strip-small) depth 10
 
-cropped-small : (f : Frame) (a : Area) → Small-refusal (croppedOf f a)
+cropped-small : (f : Dimensions) (a : Area) → Small-refusal (croppedOf f a)
 unfolding croppedOf
 cropped-small f a = search smalls depth 8
 
-area-small : (d : Ifd) (f : Frame) → Small-refusals (areaReading d f)
+area-small : (d : Ifd) (f : Dimensions) → Small-refusals (areaReading d f)
 unfolding areaReading fourReading
 area-small d f = search (tags, cropped-small) depth 10
 

@@ -13,10 +13,10 @@ use lib.ListN.{getD}
 use borrow.Author.Tests.{ltb-true, ltb-false, eqb-true, eqb-false}
 use Rattle.reading.specs.Reading.{covers}
 use Rattle.reading.proofs.Unread.{Off, off-below, off-behind}
-use Rattle.raw.specs.Facts.Area.{Area-in}
-use Rattle.raw.specs.Strips.{stripCount, rowBytes}
+use Rattle.rawtags.specs.Facts.Area.{Area-in}
+use Rattle.rawtags.specs.Strips.{stripCount, rowBytes}
 use Rattle.raw.specs.Sample.{stripOf, withinStrip, placeOf, cellOf, ActiveIn}
-use Rattle.raw.specs.declared.Tags.{Tags}
+use Rattle.rawtags.specs.declared.Tags.{Tags}
 use Rattle.raw.proofs.TagFacts.{strip-below, line-below, sample-below}
 
 -- so many more are as many times n more

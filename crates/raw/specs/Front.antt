@@ -4,10 +4,10 @@ use Rattle.reading.specs.Reading.{Reading, Reading.answer, andThen}
 use Rattle.directory.specs.Out.{Out, Out.is, bind}
 use Rattle.directory.specs.Tree.{treeReading}
 use Rattle.directory.specs.declared.Ifd.{Ifd}
-use Rattle.raw.specs.Raw.{tagsReading}
+use Rattle.rawtags.specs.Raw.{tagsReading}
 use Rattle.raw.specs.Stored.{levelsReading}
 use Rattle.raw.specs.Spans.{spannedOf}
-use Rattle.raw.specs.declared.Tags.{Tags}
+use Rattle.rawtags.specs.declared.Tags.{Tags}
 use Rattle.raw.specs.declared.spans.Spans.{Spans}
 use Rattle.raw.specs.declared.front.Raw.{Raw}
 use Rattle.raw.specs.declared.front.Picture.{Picture}

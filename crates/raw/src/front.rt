@@ -5,14 +5,14 @@ ghost use Rattle.reading.specs.Reading.{run, runWhole};
 ghost use Rattle.directory.specs.Facts.Shape.{Tested};
 ghost use Rattle.raw.specs.Front.{rawReading, frontReading};
 ghost use Rattle.raw.specs.Facts.Front.{rawOut, RawIn, frontOut, FrontIn};
-use crate::Tags;
-use crate::TagsTest;
 use crate::spans;
 use crate::spans::Spans;
 use crate::spans::SpansTest;
 use directory::Ifd;
 use directory::tree;
 use directory::tree::Tree;
+use rawtags::Tags;
+use rawtags::TagsTest;
 use reading::number::Order;
 
 // The raw directory's tags, and S of each plane.
@@ -45,7 +45,7 @@ fn raw_of(file: &[u8], ifd: Ifd) -> RawTest
     ensures { λ r. ⌜ (rawOut r ≡ run (now (file .entry)) (rawReading (length (now (file .entry))) ifd)) × RawIn (now (file .entry)) (ifd .order) r ⌝ }
 {
     let order = ifd.order;
-    let tags = match crate::tags_of(file, ifd) {
+    let tags = match rawtags::tags_of(file, ifd) {
         TagsTest::Refused { number, detail } => return RawTest::Refused { number, detail },
         TagsTest::Is(v) => v,
     };

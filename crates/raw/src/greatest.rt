@@ -7,16 +7,16 @@ ghost use Rattle.reading.specs.Reading.{run};
 ghost use Rattle.levels.specs.Facts.Black.{Small};
 ghost use Rattle.levels.specs.Levels.{greatestBlack};
 ghost use Rattle.levels.specs.Facts.Residues.{greatestDelta, ByResidue, residueBlack, greatestByResidues};
-ghost use Rattle.raw.specs.Facts.Raw.{Tags-in};
+ghost use Rattle.rawtags.specs.Facts.Raw.{Tags-in};
 ghost use Rattle.raw.specs.Stored.{blacksReading, levelsReading};
 ghost use Rattle.raw.specs.Facts.Greatest.{Deltas-of, Greatest-in};
-use crate::Tags;
 use crate::sample;
 use directory::tag;
 use directory::tag::Values;
 use levels::active::ActiveColumn;
 use levels::active::ActiveRow;
 use levels::black::BlackKind;
+use rawtags::Tags;
 use reading::number;
 use reading::number::Order;
 

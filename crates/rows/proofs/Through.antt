@@ -11,7 +11,7 @@ use Rattle.levels.proofs.Unit.{unit}
 use Rattle.levels.proofs.UnitRange.{scaled-unit}
 use Rattle.levels.proofs.Rounding.{level-most}
 use Rattle.raw.specs.Sample.{scaledSample}
-use Rattle.raw.specs.declared.Tags.{Tags}
+use Rattle.rawtags.specs.declared.Tags.{Tags}
 use Rattle.opcodes.specs.Opcode.{Opcode}
 use Rattle.samples.specs.Facts.Line.{scaledFrom, scaledPart}
 use Rattle.samples.proofs.Eaches.{each-length, each-at, each-each}

@@ -27,11 +27,11 @@ use Rattle.levels.specs.declared.black.BlackKind.{BlackKind}
 use Rattle.levels.proofs.Carried.{black-carried}
 use Rattle.levels.proofs.Residues.{cell-same}
 use Rattle.levels.proofs.Runs.{length-run}
-use Rattle.raw.specs.Black.{kindFor}
-use Rattle.raw.specs.Facts.Raw.{Tags-in}
+use Rattle.rawtags.specs.Black.{kindFor}
+use Rattle.rawtags.specs.Facts.Raw.{Tags-in}
 use Rattle.raw.specs.Stored.{blacksReading, levelsReading}
-use Rattle.raw.specs.declared.Tags.{Tags}
-use Rattle.raw.proofs.BlackLaws.{width-for}
+use Rattle.rawtags.specs.declared.Tags.{Tags}
+use Rattle.rawtags.proofs.BlackLaws.{width-for}
 use Rattle.raw.proofs.StoredLaws.{blacks-run, black-in}
 use Rattle.raw.proofs.TagFacts.{cellIndex, cell-for}
 use Rattle.samples.specs.Facts.Along.{cellAlong, spanAlong, pieceOf, Along-in}

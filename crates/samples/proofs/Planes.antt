@@ -17,11 +17,11 @@ use Rattle.levels.specs.Facts.Reciprocal.{SpanIn}
 use Rattle.levels.proofs.SignedOrder.{sum-same}
 use Rattle.levels.proofs.Residues.{cell-same}
 use Rattle.raw.specs.Facts.Front.{Raw-in}
-use Rattle.raw.specs.Raw.{activeRows, activeColumns}
-use Rattle.raw.specs.Facts.Raw.{Tags-in}
+use Rattle.rawtags.specs.Raw.{activeRows, activeColumns}
+use Rattle.rawtags.specs.Facts.Raw.{Tags-in}
 use Rattle.raw.specs.Sample.{placeOf}
 use Rattle.raw.specs.Stored.{numbersReading, levelsReading, storedReading}
-use Rattle.raw.specs.declared.Tags.{Tags}
+use Rattle.rawtags.specs.declared.Tags.{Tags}
 use Rattle.raw.specs.declared.front.Raw.{Raw}
 use Rattle.raw.proofs.StoredLaws.{repeat-rows-are}
 use Rattle.raw.proofs.TagFacts.{scaled-is, stored-is, stored-run, place-inside, table-inside, span-in}

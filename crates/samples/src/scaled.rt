@@ -7,7 +7,7 @@ ghost use lib.ListN.{length, getD};
 ghost use Rattle.levels.specs.Facts.Black.{Small};
 ghost use Rattle.levels.specs.Facts.Reciprocal.{ofParts};
 ghost use Rattle.raw.specs.Facts.Front.{Raw-in};
-ghost use Rattle.raw.specs.Raw.{activeRows, activeColumns};
+ghost use Rattle.rawtags.specs.Raw.{activeRows, activeColumns};
 ghost use Rattle.raw.specs.Stored.{levelsReading};
 ghost use Rattle.reading.specs.Reading.{run};
 ghost use Rattle.samples.specs.Facts.Along.{Along-in, Deltas-in};

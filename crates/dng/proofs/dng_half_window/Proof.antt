@@ -1,6 +1,6 @@
 use mathlib.Core.Path.{ap, _∙_}
 use Rattle.develop.specs.Calls.{Window}
-use Rattle.develop.proofs.Refusals.{half-window-fits}
+use Rattle.demand.proofs.Refusals.{half-window-fits}
 use Rattle.dng.proofs.Answered.{both, halves}
 use borrow.Author.Needs.{needs}
 use Rattle.dng.proofs.dng_half_window.Statement.{statement}

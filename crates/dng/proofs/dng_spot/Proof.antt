@@ -1,6 +1,6 @@
 use mathlib.Core.Path.{ap, _∙_}
 use Rattle.develop.specs.declared.spot.SpotAnswer.{SpotAnswer}
-use Rattle.develop.proofs.Refusals.{spot-fits}
+use Rattle.demand.proofs.Refusals.{spot-fits}
 use Rattle.dng.proofs.Answered.{both, halves}
 use borrow.Author.Needs.{needs}
 use Rattle.dng.proofs.dng_spot.Statement.{statement}

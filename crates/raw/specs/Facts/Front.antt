@@ -7,7 +7,7 @@ use Rattle.reading.specs.Reading.{run}
 use Rattle.reading.specs.declared.number.Order.{Order}
 use Rattle.directory.specs.Out.{Out, Out.refused, Out.is}
 use Rattle.directory.specs.Facts.Shape.{Tested}
-use Rattle.raw.specs.Facts.Raw.{Tags-in}
+use Rattle.rawtags.specs.Facts.Raw.{Tags-in}
 use Rattle.raw.specs.Stored.{levelsReading}
 use Rattle.raw.specs.Spans.{spannedOf}
 use Rattle.raw.specs.Facts.Spans.{Spans-in}

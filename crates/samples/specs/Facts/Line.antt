@@ -12,10 +12,10 @@ use Rattle.levels.specs.Level.{differenceOf, levelOf, scaledOf}
 use Rattle.levels.specs.Facts.Reciprocal.{ofParts, BlackIs, InverseIs}
 use Rattle.levels.specs.Table.{tableOf, throughOf}
 use Rattle.reading.specs.Reading.{run}
-use Rattle.raw.specs.Raw.{activeColumns}
+use Rattle.rawtags.specs.Raw.{activeColumns}
 use Rattle.raw.specs.Stored.{numbersReading, levelsReading, storedReading}
 use Rattle.raw.specs.Sample
-use Rattle.raw.specs.declared.Tags.{Tags}
+use Rattle.rawtags.specs.declared.Tags.{Tags}
 use Rattle.opcodes.specs.Frame.{each}
 use Rattle.samples.specs.declared.line.Line.{Line}
 

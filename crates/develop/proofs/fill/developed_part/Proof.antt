@@ -2,7 +2,7 @@ use mathlib.Core.Path.{_≡_, ap}
 use native.Mathlib.Omega.{arith}
 use borrow.Author.Needs.{needs}
 use denote.Ref.{now}
-use Rattle.raw.specs.Raw.{activeRows, activeColumns}
+use Rattle.rawtags.specs.Raw.{activeRows, activeColumns}
 use Rattle.opcodes.specs.declared.grid.Size.{Size}
 use Rattle.develop.proofs.Windows.{viewed-sized, viewed-list, viewed-read, viewed-part, samples-is}
 use Rattle.develop.proofs.fill.developed_part.Statement.{statement}

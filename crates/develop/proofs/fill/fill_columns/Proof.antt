@@ -10,7 +10,7 @@ use mathlib.Core.List.{List}
 use Rattle.reading.specs.Reading.{run}
 use Rattle.raw.specs.Stored.{levelsReading}
 use Rattle.samples.specs.Facts.Along.{Along-in, Deltas-in}
-use Rattle.develop.specs.Demand.{aloneIn}
+use Rattle.develop.specs.Calls.{aloneIn}
 use Rattle.develop.specs.Facts.Fill.{Upto}
 use Rattle.develop.specs.Facts.View.{Viewed}
 use Rattle.develop.specs.declared.View.{View}

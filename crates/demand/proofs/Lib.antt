@@ -1,0 +1,5 @@
+pub mod Demands
+pub mod Linear
+pub mod Worked
+pub mod WorkedLinear
+pub mod Refusals

@@ -1,0 +1,42 @@
+// The card.
+ghost use mathlib.Core.Path.{_≡_};
+ghost use Rattle.demand.specs.Card.{cardCall};
+ghost use Rattle.demand.specs.Demand.{Meets-demand-3};
+use develop::Opening;
+
+// Document 01's number, detail and five values.
+pub struct CardAnswer {
+    pub number: usize,
+    pub detail: usize,
+    pub rows: usize,
+    pub columns: usize,
+    pub samples: usize,
+    pub kept: usize,
+    pub skipped: usize,
+}
+
+pub fn card(file: &[u8]) -> CardAnswer
+    ensures { λ r. ⌜ r ≡ cardCall (now (file .entry)) ⌝ }
+    ensures { λ r. ⌜ Meets-demand-3 (now (file .entry)) ⌝ }
+{
+    match develop::open(file) {
+        Opening::Refused { number, detail } => CardAnswer {
+            number,
+            detail,
+            rows: 0,
+            columns: 0,
+            samples: 0,
+            kept: 0,
+            skipped: 0,
+        },
+        Opening::Is(view) => CardAnswer {
+            number: 0,
+            detail: 0,
+            rows: view.size.rows,
+            columns: view.size.columns,
+            samples: view.size.samples,
+            kept: view.counts.kept,
+            skipped: view.counts.skipped,
+        },
+    }
+}

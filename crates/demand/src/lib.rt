@@ -1,0 +1,2 @@
+// The card, with demand 3.
+pub mod card;

@@ -1,0 +1,2 @@
+// Half-size colour from mosaics.
+pub mod half_window;

@@ -1,0 +1,86 @@
+-- The active area of whatever the raw directory's tests accept lies in its frame, by the definitions alone.
+-- Assumes nothing.
+use Rattle.directory.specs.Names.{activeArea, imageLength, imageWidth}
+use mathlib.Core.Path.{_≡_, refl, sym, subst, _∙_}
+use mathlib.Core.Bool.{Bool, true, false}
+use mathlib.Core.List.{List}
+use Prim.Native.Nat.{ℕ, _≤_}
+use native.Mathlib.Omega.{arith}
+use lib.Dec.{eqb, leb, ltb}
+use borrow.Author.Tests.{eqb-true, eqb-false, leb-true, leb-false, ltb-true, ltb-false}
+use Rattle.reading.specs.Reading.{run}
+use Rattle.reading.proofs.Reading.{run-answer}
+use Rattle.directory.specs.Out.{Out.is}
+use Rattle.directory.specs.Tag.{valuesReading, required, optional}
+use Rattle.directory.specs.declared.Ifd.{Ifd}
+use Rattle.directory.specs.declared.tag.Kinds.the-variants as kinds
+use Rattle.directory.specs.declared.tag.Values.{Values}
+use Rattle.directory.proofs.Outs.{bind-inverse, not-refused, same-value}
+use Rattle.directory.proofs.Accepted.{one-in}
+use Rattle.rawtags.specs.Frame.{dimensionRange, dimensionReading, planesReading, frameReading}
+use Rattle.rawtags.specs.Layout.{layoutReading}
+use Rattle.rawtags.specs.Strips.{stripsReading}
+use Rattle.rawtags.specs.Area.{area, croppedOf, fourReading, areaReading}
+use Rattle.rawtags.specs.Facts.Area.{Area-in}
+use Rattle.rawtags.specs.LevelTags.{levelTagsReading}
+use Rattle.rawtags.specs.Lists.{listTagReading}
+use Rattle.rawtags.specs.Raw.{activeRows, activeColumns, tagsReading}
+use Rattle.rawtags.specs.declared.Tags.{Tags}
+use Rattle.rawtags.specs.declared.frame.Dimensions.{Dimensions}
+use Rattle.rawtags.specs.declared.area.Area.{Area}
+use Rattle.rawtags.proofs.AreaLaws.{crop-rows, crop-bottom, crop-columns, crop-right, crop-is, four-whole, four-is}
+
+cropped-in : (v : Dimensions) (x a : Area) → is a ≡ croppedOf v x → Area-in v a
+cropped-in v x a e =
+    go (ltb (x .top) (x .bottom)) refl (leb (x .bottom) (v .length)) refl (ltb (x .left) (x .right)) refl (leb (x .right) (v .width)) refl
+  where
+    go :
+        (s : Bool) → ltb (x .top) (x .bottom) ≡ s → (t : Bool) → leb (x .bottom) (v .length) ≡ t →
+        (y : Bool) → ltb (x .left) (x .right) ≡ y → (z : Bool) → leb (x .right) (v .width) ≡ z → Area-in v a
+    go false p t q y g z h = absurd (not-refused a 4 activeArea (e ∙ sym (crop-rows v x (ltb-false _ _ p))))
+    go true p false q y g z h = absurd (not-refused a 4 activeArea (e ∙ sym (crop-bottom v x (ltb-true _ _ p) (leb-false _ _ q))))
+    go true p true q false g z h =
+        absurd (not-refused a 4 activeArea (e ∙ sym (crop-columns v x (ltb-true _ _ p) (leb-true _ _ q) (ltb-false _ _ g))))
+    go true p true q true g false h =
+        absurd (not-refused a 4 activeArea (e ∙ sym (crop-right v x (ltb-true _ _ p) (leb-true _ _ q) (ltb-true _ _ g) (leb-false _ _ h))))
+    go true p true q true g true h =
+        let i = crop-is v x (ltb-true _ _ p) (leb-true _ _ q) (ltb-true _ _ g) (leb-true _ _ h) in
+        subst (Area-in v) (sym (same-value a x (e ∙ sym i)))
+        (record { rows = ltb-true _ _ p; columns = ltb-true _ _ g; bottom = leb-true _ _ q; right = leb-true _ _ h })
+
+area-in : (f : List ℕ) (d : Ifd) (v : Dimensions) → 1 ≤ v .length → 1 ≤ v .width → (a : Area) → is a ≡ run f (areaReading d v) → Area-in v a
+unfolding areaReading
+area-in f d v rows columns a e =
+    let i = bind-inverse f (valuesReading d (optional activeArea kinds.ShortOrLong 4)) (fourReading (d .order) v) a e in
+    go (i .0) (i .2) (eqb (i .0 .count) 0) refl
+  where
+    go : (x : Values) → is a ≡ run f (fourReading (d .order) v x) → (b : Bool) → eqb (x .count) 0 ≡ b → Area-in v a
+    go x q true z =
+        subst (Area-in v) (sym (same-value a (area 0 0 (v .length) (v .width)) (q ∙ sym (four-whole f (d .order) v x (eqb-true _ _ z)))))
+        (record { rows = omega arith; columns = omega arith; bottom = omega arith; right = omega arith })
+    go x q false z = cropped-in v _ a (q ∙ sym (four-is f (d .order) v x (eqb-false _ _ z) _ _ _ _ refl refl refl refl))
+
+-- a row and a column at least
+frame-in : (f : List ℕ) (d : Ifd) (v : Dimensions) → is v ≡ run f (frameReading d) → (1 ≤ v .length) × (1 ≤ v .width)
+unfolding frameReading dimensionReading
+frame-in f d v e =
+    let a = bind-inverse f (dimensionReading d imageWidth) _ v e in
+    let b = bind-inverse f (dimensionReading d imageLength) _ v (a .2) in
+    let c = bind-inverse f (planesReading d) _ v (b .2) in
+    subst (λ (x : Dimensions). (1 ≤ x .length) × (1 ≤ x .width)) (sym (same-value v _ (c .2 ∙ run-answer f _))) (
+      one-in f d (required imageLength kinds.ShortOrLong 1) 0 dimensionRange (b .0) (b .1) .from,
+      one-in f d (required imageWidth kinds.ShortOrLong 1) 0 dimensionRange (a .0) (a .1) .from,
+    )
+
+pub tags-area : (f : List ℕ) (size : ℕ) (d : Ifd) (t : Tags) → is t ≡ run f (tagsReading size d) → Area-in (t .frame) (t .area)
+unfolding tagsReading
+tags-area f size d t e =
+    let v = bind-inverse f (frameReading d) _ t e in
+    let l = bind-inverse f (layoutReading d (v .0 .samples)) _ t (v .2) in
+    let s = bind-inverse f (stripsReading size d (v .0) (l .0)) _ t (l .2) in
+    let a = bind-inverse f (areaReading d (v .0)) _ t (s .2) in
+    let x = bind-inverse f (levelTagsReading d (v .0 .samples) (activeRows (a .0)) (activeColumns (a .0))) _ t (a .2) in
+    let o = bind-inverse f (listTagReading d) _ t (x .2) in
+    let h = frame-in f d (v .0) (v .1) in
+    subst (λ (y : Tags). Area-in (y .frame) (y .area)) (sym (same-value t _ (o .2 ∙ run-answer f _)))
+    (area-in f d (v .0) (h .0) (h .1) (a .0) (a .1))

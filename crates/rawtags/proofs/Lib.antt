@@ -1,0 +1,10 @@
+pub mod Strip
+pub mod AreaLaws
+pub mod RepeatLaws
+pub mod PatternLaws
+pub mod PatternExamples
+pub mod Depth
+pub mod BlackLaws
+pub mod Ranges
+pub mod AcceptedArea
+pub mod TagsUnread

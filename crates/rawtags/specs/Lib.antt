@@ -1,0 +1,12 @@
+pub mod Frame
+pub mod Layout
+pub mod Strips
+pub mod Area
+pub mod Repeat
+pub mod Black
+pub mod White
+pub mod LevelTags
+pub mod Lists
+pub mod Pattern
+pub mod Raw
+pub mod Facts
