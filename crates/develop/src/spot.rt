@@ -41,10 +41,20 @@ fn spot_in(file: &[u8], view: View, row: usize, column: usize, plane: usize) -> 
         let r = ActiveRow(row);
         let c = ActiveColumn(column);
         let x = sample::scaled_at(file, order, raw, r, c, plane);
+        let value = rows::list::list_at(
+            file,
+            view.size,
+            values.place,
+            values.count,
+            r,
+            c,
+            plane,
+            x,
+        );
         return SpotAnswer {
             number: 0,
             detail: 0,
-            value: rows::list::list_at(file, view.size, values.place, values.count, r, c, plane, x),
+            value,
         };
     }
     SpotAnswer {
