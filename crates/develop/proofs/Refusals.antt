@@ -1,13 +1,13 @@
 -- For every file and all arguments, a call's number is below 20 and its detail below 2^32.
 -- Assumes nothing.
 use mathlib.Core.List.{List}
-use Prim.Native.Nat.{ℕ, _<_}
+use Prim.Native.Nat.{ℕ}
 use lib.Dec.{lit<}
 use lib.Ieee.{Float}
 use lib.ListN.{length}
 use Rattle.reading.specs.Reading.{run}
 use Rattle.directory.specs.Out.{Out, Out.refused, Out.is}
-use Rattle.directory.proofs.Refusals.{Small, Smalls, smalls, small-run, either}
+use Rattle.directory.proofs.Refusals.{Fits, Small, Smalls, smalls, small-run, either}
 use Rattle.raw.specs.declared.front.Picture.{Picture}
 use Rattle.raw.proofs.Refusals.{front-small, pattern-small}
 use Rattle.opcodes.specs.declared.grid.Size.{Size}
@@ -19,9 +19,6 @@ use Rattle.develop.specs.Calls.{windowOf, windowCall, colouredOf, colour
 use Rattle.develop.specs.Calls.{halvedOf, halfWindowOf, halfWindowCall}
 use Rattle.develop.specs.declared.spot.SpotAnswer.{SpotAnswer}
 use Rattle.develop.specs.declared.half_window.Half.{Half}
-
-abbrev pub Fits : ℕ → ℕ → Type 0
-Fits n d = (n < 20) × (d < 0x1_0000_0000)
 
 -- ---- what is read
 
