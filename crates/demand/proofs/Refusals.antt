@@ -7,7 +7,7 @@ use lib.Ieee.{Float}
 use lib.ListN.{length}
 use Rattle.reading.specs.Reading.{run}
 use Rattle.directory.specs.Out.{Out, Out.refused, Out.is}
-use Rattle.directory.proofs.Refusals.{Small-refusal, Small-refusals, smalls, small-run, either}
+use Rattle.directory.proofs.Refusals.{Fits, Small-refusal, Small-refusals, smalls, small-run, either}
 use Rattle.raw.specs.declared.front.Picture.{Picture}
 use Rattle.raw.proofs.Refusals.{front-small, pattern-small}
 use Rattle.opcodes.specs.declared.grid.Size.{Size}
@@ -21,9 +21,6 @@ use Rattle.develop.specs.Calls.{windowOf, windowCall, colouredOf, colourWindowO
 use Rattle.half.specs.Half.{halvedOf, halfWindowOf, halfWindowCall}
 use Rattle.develop.specs.declared.spot.SpotAnswer.{SpotAnswer}
 use Rattle.half.specs.declared.half_window.Half.{Half}
-
-abbrev pub Fits : ℕ → ℕ → Type 0
-Fits n d = (n < 20) × (d < 0x1_0000_0000)
 
 -- ---- what is read
 

@@ -31,8 +31,11 @@ use Rattle.directory.specs.declared.tag.Values.{Values}
 abbrev pub Small-detail : ℕ → Type 0
 Small-detail d = d < 0x1_0000_0000
 
+abbrev pub Fits : ℕ → ℕ → Type 0
+Fits n d = (n < 20) × Small-detail d
+
 abbrev pub Small-refusal : {A : Type 0} → Out A → Type 0
-Small-refusal (refused n d) = (n < 20) × Small-detail d
+Small-refusal (refused n d) = Fits n d
 Small-refusal (is a) = Unit {0}
 
 -- whatever the file is

@@ -3,7 +3,7 @@
 use mathlib.Core.Path.{_≡_, ap, _∙_}
 use Prim.Native.Nat.{ℕ, _<_}
 use native.Mathlib.Omega.{arith}
-use Rattle.demand.proofs.Refusals.{Fits}
+use Rattle.directory.proofs.Refusals.{Fits}
 use Rattle.dng.specs.Interface.{packedOf}
 
 module _ {n d m e : ℕ} (a : n ≡ m) (b : d ≡ e) where
