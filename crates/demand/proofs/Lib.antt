@@ -1,3 +1,4 @@
+pub mod CardLaws
 pub mod Demands
 pub mod Linear
 pub mod Worked

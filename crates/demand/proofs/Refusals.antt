@@ -1,7 +1,7 @@
 -- For every file and all arguments, a call's number is below 20 and its detail below 2^32.
 -- Assumes nothing.
 use mathlib.Core.List.{List}
-use Prim.Native.Nat.{ℕ, _<_}
+use Prim.Native.Nat.{ℕ}
 use lib.Dec.{lit<}
 use lib.Ieee.{Float}
 use lib.ListN.{length}

@@ -3,16 +3,15 @@
 use mathlib.Core.Bool.{Bool, true, false}
 use mathlib.Core.List.{List}
 use Prim.Native.Nat.{ℕ, zero, suc, _+_, _<_}
-use lib.Dec.{T, ltb, lit<}
+use lib.Dec.{lit<}
 use Rattle.reading.specs.Reading.{Reading, Reading.answer, Reading.ask, andThen, pick, run}
 use Rattle.reading.specs.declared.number.Order.{Order}
-use Rattle.reading.specs.declared.number.Order.the-variants.{Little, Big}
 use Rattle.reading.proofs.Reading.{run-andThen}
 use Rattle.directory.specs.Out.{Out, Out.refused, Out.is, onward, bind}
-use Rattle.directory.specs.Widths.{entryWidth, classic, bigTiff}
+use Rattle.directory.specs.Widths.{entryWidth}
 use Rattle.directory.specs.Entry.{entryOf}
 use Rattle.directory.specs.Shape.{placeTest, entryReading, orderTest, shapeFrom, ifdReading}
-use Rattle.directory.specs.Tag.{foundReading, wholeReading, valueReading, testedReading, absentOf, valuesFound, valuesReading}
+use Rattle.directory.specs.Tag.{wholeReading, valueReading, testedReading, absentOf, valuesFound, valuesReading}
 use Rattle.directory.specs.Tag.{ifAbsent, notCarried, rangeFault, judgedOf, firstReading, oneReading, eachReading, allReading}
 use Rattle.directory.specs.Tree.{Seen, raw-one, parent, lookReading, versionReading, Walked, raw, left, afterLook, afterChild}
 use Rattle.directory.specs.Tree.{childrenReading, visitReading, afterWalk, walkReading, rootReading, offsetReading}

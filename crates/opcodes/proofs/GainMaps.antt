@@ -1,9 +1,9 @@
 -- A GainMap's rules and refusals by the code's tests.
 -- Assumes nothing.
 use mathlib.Core.Path.{_≡_, refl, sym, ap, _∙_}
-use mathlib.Core.Bool.{Bool, true, false, not, _&&_, _||_, true≢false}
+use mathlib.Core.Bool.{Bool, true, false, _&&_, _||_, true≢false}
 use mathlib.Core.List.{List}
-use Prim.Native.Nat.{ℕ, _+_, _*_, _-_, _≤_, _<_}
+use Prim.Native.Nat.{ℕ, _+_, _*_, _≤_, _<_}
 use native.Mathlib.Omega.{arith}
 use borrow.Author.Tests.{le-leb, lt-leb, leb-true, leb-false, eqb-true, eq-eqb, ne-eqb}
 use lib.Dec.{T, leb, eqb}
@@ -19,7 +19,7 @@ use Rattle.levels.specs.Clip.{plusZero}
 use Rattle.opcodes.specs.Grid.{longOf, gridOf, fitsOf}
 use Rattle.opcodes.specs.Facts.Grid.{Fits-in}
 use Rattle.opcodes.specs.Step.{doubleIn}
-use Rattle.opcodes.specs.GainMap.{GainMap, planesIn}
+use Rattle.opcodes.specs.GainMap.{planesIn}
 use Rattle.opcodes.specs.GainMap.{gainsIn, aboveAt, axisLegal, gainMapLegal}
 use Rattle.opcodes.specs.Facts.Bracket.{GainMap-in}
 use Rattle.opcodes.specs.OpcodeList.{refusedAt, refusedIn, plainFault, gainMapFault, opcodeFault}

@@ -8,12 +8,11 @@ use native.Mathlib.Omega.{arith}
 use lib.Dec.{ltb, lit<}
 use borrow.Author.Tests.{ltb-false}
 use Rattle.reading.specs.Number.{numberOf}
-use Rattle.reading.specs.Reading.{Reading, Reading.answer, pick}
+use Rattle.reading.specs.Reading.{Reading, pick}
 use Rattle.reading.specs.declared.number.Order.the-variants.{Big}
-use Rattle.directory.specs.Out.{Out, Out.refused}
-use Rattle.directory.proofs.Refusals.{Small-refusal, Small-detail, Small-refusals, smalls, small-answer, small-ask, small-bind, small-pick, small-choice}
+use Rattle.directory.specs.Out.{Out}
+use Rattle.directory.proofs.Refusals.{Small-detail, Small-refusals, smalls, small-answer, small-ask, small-bind, small-pick, small-choice}
 use Rattle.directory.proofs.Refusals.{either}
-use Rattle.opcodes.specs.Opcode.{Opcode}
 use Rattle.opcodes.specs.OpcodeList.{headerOf, refusalOf, plainFault, gainMapFault, opcodeFault, parametersOf, opcodeReading, classOf}
 use Rattle.opcodes.specs.OpcodeList.{listFrom, listReading}
 use Rattle.opcodes.specs.declared.grid.Size.{Size}

@@ -1,6 +1,6 @@
 -- What the raw directory's tags, the strips, the spans and the pattern refuse: each detail is 0 or a tag's number.
 -- Assumes nothing.
-use Prim.Native.Nat.{ℕ, zero, suc, _+_, _*_, _-_, min}
+use Prim.Native.Nat.{ℕ, zero, suc, _+_, _-_, min}
 use lib.Dec.{lit<}
 use Rattle.reading.specs.declared.number.Order.{Order}
 use Rattle.levels.specs.Levels.{Levels}
@@ -9,8 +9,7 @@ use Rattle.levels.specs.declared.black.Black.the-variants as black
 use Rattle.levels.specs.declared.black.BlackKind.{BlackKind}
 use Rattle.directory.specs.declared.Ifd.{Ifd}
 use Rattle.directory.specs.declared.tag.Kinds.{Kinds}
-use Rattle.directory.specs.declared.tag.Values.{Values}
-use Rattle.directory.proofs.Refusals.{Small-refusal, Small-detail, Small-refusals, smalls, small-then, small-pick, small-bind}
+use Rattle.directory.proofs.Refusals.{Small-refusal, Small-detail, Small-refusals, smalls, small-then, small-pick}
 use Rattle.directory.proofs.Refusals.{values-small, not-carried-small, judged-small, one-small, each-small, all-small, tree-small}
 use Rattle.rawtags.specs.Frame.{dimensionReading, planesReading, frameReading}
 use Rattle.rawtags.specs.Layout.{depthFrom, depthReading, onlyOne, formatReading, stripRowsReading, layoutReading}

@@ -1,14 +1,13 @@
-use mathlib.Core.Path.{_≡_, refl, sym, ap, _∙_, subst}
+use mathlib.Core.Path.{_≡_, refl, sym, _∙_, subst}
 use mathlib.Core.List.{List, _++_}
 use Prim.Native.Nat.{ℕ, _+_, _-_}
 use native.Mathlib.Omega.{arith}
 use lib.ListN.{length, take}
 use lib.Seq.{length-take-le}
 use denote.Ref.{now}
-use borrow.Author.Needs.{needs}
 use borrow.Author.Tests.{not-true, not-false}
 use Rattle.listing.specs.Facts.Body.{rowsFrom}
-use Rattle.listing.specs.Facts.Pieces.{Remains, Ends}
+use Rattle.listing.specs.Facts.Pieces.{Remains}
 use Rattle.listing.proofs.Bodies.{rows-none, short-listed}
 use Rattle.listing.proofs.Pieces.{piece-stands, written-rest, ends-early, ends-whole}
 use Rattle.listing.proofs.print_rows.Statement.{statement}

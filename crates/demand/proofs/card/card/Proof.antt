@@ -2,7 +2,7 @@ use mathlib.Core.Path.{ap, subst}
 use denote.Ref.{now}
 use Rattle.demand.specs.Card.{cardOf}
 use Rattle.develop.specs.Facts.View.{OpeningIs}
-use Rattle.develop.proofs.Views.{card-viewed}
+use Rattle.demand.proofs.CardLaws.{card-viewed}
 use Rattle.demand.proofs.Demands.{meets-demand-3}
 use borrow.Author.Needs.{needs}
 use Rattle.demand.proofs.card.card.Statement.{statement}
