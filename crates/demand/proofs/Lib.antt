@@ -4,3 +4,4 @@ pub mod Linear
 pub mod Worked
 pub mod WorkedLinear
 pub mod Refusals
+pub mod Unread

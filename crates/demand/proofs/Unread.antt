@@ -1,0 +1,102 @@
+-- What is not read of an accepted file: a stored sample outside the active area for no active sample; a byte that is in no directory
+-- visited and in no value that is tested there for no test up to 9, nor for what every sample needs.
+-- Assumes nothing.
+use mathlib.Core.Path.{_≡_, sym, ap, subst, _∙_}
+use mathlib.Core.Bool.{false}
+use mathlib.Core.List.{List}
+use Prim.Native.Nat.{ℕ, _+_, _≤_, _<_}
+use lib.ListN.{length}
+use Rattle.reading.specs.Reading.{run, trace, reads, traceWhole}
+use Rattle.reading.proofs.Reading.{run-answer}
+use Rattle.reading.proofs.Unread.{Unread}
+use Rattle.directory.specs.Out.{Out.is}
+use Rattle.directory.specs.Tree.{treeReading}
+use Rattle.directory.specs.declared.tree.Roots.{Roots}
+use Rattle.directory.proofs.Outs.{bind-inverse, same-value}
+use Rattle.rawtags.specs.Facts.Area.{Area-in}
+use Rattle.rawtags.specs.Raw.{tagsReading}
+use Rattle.raw.specs.Stored.{storedReading}
+use Rattle.raw.specs.Front.{rawReading, frontReading}
+use Rattle.raw.specs.Sample.{ActiveIn}
+use Rattle.raw.specs.declared.front.Raw.{Raw}
+use Rattle.raw.specs.declared.front.Picture.{Picture}
+use Rattle.raw.proofs.Accepted.{front-accepted}
+use Rattle.rawtags.proofs.AcceptedArea.{tags-area}
+use Rattle.raw.proofs.Unread as samples
+use Rattle.raw.proofs.FrontUnread.{Raw-clear, stored-unread, front-unread}
+use Rattle.develop.specs.Calls.{Opened, opened, tagsOf}
+use Rattle.demand.specs.Demand.{storedPlace, Is-sample, Not-in-tags, Not-in-list, Not-in-sample, Unread-but-sample}
+use Rattle.demand.proofs.Demands.{open-inverse}
+
+-- ---- how an accepted file's tags were found
+module _ (f : List ℕ) (o : Opened) (e : is o ≡ opened f) where
+  -- the tree and the raw directory's tags of an accepted file
+  record Found : Type 0 where
+    roots : Roots
+    tree : is roots ≡ run f (treeReading (length f))
+    directory : o .picture .directory ≡ roots .raw
+    tags : is (tagsOf o) ≡ run f (tagsReading (length f) (roots .raw))
+
+  found : Found
+  unfolding frontReading rawReading
+  found =
+      let a = bind-inverse f (treeReading (length f)) _ (o .picture) (open-inverse f o e .front) in
+      let b = bind-inverse f (rawReading (length f) (a .0 .raw)) _ (o .picture) (a .2) in
+      let p = same-value (o .picture) _ (b .2 ∙ run-answer f _) in
+      let c = bind-inverse f (tagsReading (length f) (a .0 .raw)) _ (b .0) (b .1) in
+      let d = bind-inverse f _ _ (b .0) (c .2) in
+      let q = same-value (b .0) _ (d .2 ∙ run-answer f _) in
+      let t : tagsOf o ≡ c .0 = ap (λ (x : Picture). x .raw .tags) p ∙ ap (λ (x : Raw). x .tags) q in
+      record {
+        roots = a .0;
+        tree = a .1;
+        directory = ap (λ (x : Picture). x .directory) p;
+        tags = ap is t ∙ c .1;
+      }
+
+-- ---- stored samples
+module _ (f : List ℕ) (o : Opened) (e : is o ≡ opened f) (apart : samples.Strips-apart (tagsOf o) (o .stored .offsets)) where
+  some-rows : 1 ≤ tagsOf o .layout .rows
+  some-rows = front-accepted f (o .picture) (open-inverse f o e .front) .rows
+
+  active : Area-in (tagsOf o .frame) (tagsOf o .area)
+  active = tags-area f (length f) (found f o e .roots .raw) (tagsOf o) (found f o e .tags)
+
+  -- where strips do not overlap, a byte of a stored sample is read for no other active sample
+  pub other-sample-unread :
+      (r₀ c₀ p₀ : ℕ) → samples.Stored-in (tagsOf o) r₀ c₀ p₀ →
+      (i : ℕ) → storedPlace o r₀ c₀ p₀ ≤ i → i < storedPlace o r₀ c₀ p₀ + tagsOf o .layout .bytes →
+      (r c p : ℕ) → ActiveIn (tagsOf o) r c p → (Is-sample o r₀ c₀ p₀ r c p → ⊥) → Not-in-sample f o i r c p
+  other-sample-unread r₀ c₀ p₀ k i l u r c p a other =
+      samples.sample-unread (tagsOf o) some-rows (o .stored .offsets) active apart r₀ c₀ p₀ k i l u r c p a
+      (λ q. other ((q .0, q .1), q .2))
+
+  -- one of a sample outside the active area for none
+  pub outside-unread :
+      (r₀ c₀ p₀ : ℕ) → samples.Stored-in (tagsOf o) r₀ c₀ p₀ →
+      (tagsOf o .area .top ≤ r₀ → r₀ < tagsOf o .area .bottom → tagsOf o .area .left ≤ c₀ → c₀ < tagsOf o .area .right → ⊥) →
+      (i : ℕ) → storedPlace o r₀ c₀ p₀ ≤ i → i < storedPlace o r₀ c₀ p₀ + tagsOf o .layout .bytes →
+      (r c p : ℕ) → ActiveIn (tagsOf o) r c p → Not-in-sample f o i r c p
+  outside-unread r₀ c₀ p₀ k out i l u r c p a =
+      samples.outside-unread (tagsOf o) some-rows (o .stored .offsets) active apart r₀ c₀ p₀ k out i l u r c p a
+
+  -- so what a change of one stored sample asks is that no tag's test and no list reads its bytes
+  pub sample-alone :
+      (r₀ c₀ p₀ : ℕ) → samples.Stored-in (tagsOf o) r₀ c₀ p₀ →
+      ((i : ℕ) → storedPlace o r₀ c₀ p₀ ≤ i → i < storedPlace o r₀ c₀ p₀ + tagsOf o .layout .bytes → Not-in-tags f o i × Not-in-list f o i) →
+      Unread-but-sample f o r₀ c₀ p₀
+  sample-alone r₀ c₀ p₀ k h i l u = (h i l u .0, h i l u .1, other-sample-unread r₀ c₀ p₀ k i l u)
+
+-- ---- directories and tags
+module _ (f : List ℕ) (o : Opened) (e : is o ≡ opened f) where
+  -- a byte that the walk to the raw directory does not read, and that is clear of it and its tags' values: not read for the tests up to
+  -- 9, nor for what every sample needs
+  pub other-value-unread :
+      (i : ℕ) → Unread f i (treeReading (length f)) → Raw-clear f i (o .picture .directory) →
+      (reads (traceWhole f frontReading) i ≡ false) × (reads (trace f (storedReading (o .picture .order) (tagsOf o))) i ≡ false)
+  other-value-unread i h c =
+      let k : Raw-clear f i (found f o e .roots .raw) = subst (Raw-clear f i) (found f o e .directory) c in (
+        front-unread f i (length f) h (λ r q.
+            subst (λ (x : Roots). Raw-clear f i (x .raw)) (same-value (found f o e .roots) r (found f o e .tree ∙ sym q)) k),
+        stored-unread f i (found f o e .roots .raw) k (length f) (o .picture .order) (tagsOf o) (found f o e .tags),
+      )
