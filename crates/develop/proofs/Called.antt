@@ -31,7 +31,7 @@ use Rattle.develop.specs.Facts.Fill.{Fill-in, windowFault}
 use Rattle.develop.specs.declared.View.{View}
 use Rattle.develop.proofs.Answers.{developed-alone, within-active, inside-fits, values-same}
 use Rattle.develop.proofs.Windows.{viewed-alone}
-use Rattle.develop.proofs.Colours.{pass-values}
+use Rattle.develop.proofs.Colours.{fifteen-first, pass-values}
 
 -- ---- spot
 module _ (f : List ℕ) (v : View) (h : Viewed f v) (r c p : ℕ) where
@@ -218,5 +218,5 @@ module _ (f : List ℕ) (v : View) (q : Viewed f v) (t l h w : ℕ) (old : List 
 
   pub colour-mosaic : (v .size .samples ≡ 3 → ⊥) → refusedWindow 15 0 old ≡ colourWindowCall f t l h w old
   colour-mosaic e =
-      let s : run f (colourFor (q .file .picture)) ≡ refused 15 0 = simp (ne-eqb _ 3 (λ b. e (samples-is ∙ b)), pick-no, run-answer) in
+      let s = fifteen-first f (q .file .picture) (λ b. e (samples-is ∙ b)) in
       sym (ap (colouredOf f t l h w old (q .file)) s) ∙ ap (colourWindowOf f t l h w old) (q .accepted)

@@ -13,7 +13,7 @@ use Rattle.reading.specs.Bytes.{part}
 use Rattle.reading.specs.Reading.{Reading, Reading.answer, run, pick, numberAt}
 use Rattle.reading.specs.declared.number.Order.{Order}
 use Rattle.reading.specs.declared.number.Order.the-variants.{Little, Big}
-use Rattle.reading.proofs.Reading.{run-answer, run-ask, run-andThen}
+use Rattle.reading.proofs.Reading.{run-answer, run-ask, run-andThen, running}
 use Rattle.directory.specs.Out.{Out, Out.refused, Out.is}
 use Rattle.directory.specs.Widths.{headWidth, entryWidth, classic, bigTiff}
 use Rattle.directory.specs.Facts.Widths.{Widths-in}
@@ -72,7 +72,7 @@ ifd-tested w laid f o at d e =
     let b = passed f _ 3 0 d _ (a .1 ∙ run-andThen f (numberAt o at (w .entries)) _) in
     let c = passed f _ 3 0 d _ (b .1) in
     let s = bind-inverse f (shapeFrom w (length f) o n (at + w .entries) 0) _ d (c .1) in
-    let q : d ≡ ifd w o n (at + w .entries) = same-value d _ (s .2 ∙ run-answer f _) in
+    let q : d ≡ ifd w o n (at + w .entries) = same-value d (ifd w o n (at + w .entries)) (s .2 ∙ simp running) in
     let h : at + w .entries + entryWidth w * n + w .word ≤ length f = leb-true _ _ (c .0) in
     subst (Tested f) (sym q) (record { laid = laid; inside = omega arith; next = s .0; shape = s .1 })
 

@@ -9,7 +9,7 @@ use lib.ListN.{length, take, drop, length-append, length-drop, length-take}
 use lib.Seq.{take-at, drop-at, drop-drop}
 use Rattle.listing.specs.Text.{listingOf}
 use Rattle.listing.specs.Facts.Body.{Headed, rowsFrom}
-use Rattle.listing.specs.Facts.Pieces.{Stands, Remains, Ends}
+use Rattle.listing.specs.Pieces.{Stands, Remains, Ends}
 use Rattle.listing.specs.declared.First.{First}
 
 module _ (f : List ℕ) where

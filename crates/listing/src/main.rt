@@ -2,8 +2,8 @@
 //
 // No contract can say what the operating system reads or writes: that of `io::write_all` says nothing of the bytes. So
 // `write_piece` alone writes, and its `requires` says which bytes it is handed: those that `listingOf` of the file has behind the
-// bytes that are written. It counts them to those, so that no byte is handed over twice, and none is left out. `list` promises
-// that a beginning of the listing is written, and all of it where no write has failed.
+// bytes counted so far, and counts them where the write went well. Nothing else writes, and nothing else counts. `list` promises
+// that the count does not pass the listing's end, and is at its end where no write has failed.
 ghost use mathlib.Core.Path.{_≡_};
 ghost use mathlib.Core.Bool.{not, cond};
 ghost use mathlib.Core.List.{_∷_, _++_};
@@ -14,7 +14,7 @@ ghost use lib.ListN.{length, take};
 ghost use Rattle.rows.specs.Facts.Part.{All-in-unit, Sized-in};
 ghost use Rattle.listing.specs.Text.{decimalOf, valueText, valuesText, refusedText, frameText, listingOf};
 ghost use Rattle.listing.specs.Facts.Body.{Puts, LinesIn, linesText, RefusedIs, Headed, Ready, BlockIn, rowsFrom};
-ghost use Rattle.listing.specs.Facts.Pieces.{Stands, Remains, Ends};
+ghost use Rattle.listing.specs.Pieces.{Stands, Remains, Ends};
 use develop::Opening;
 use develop::View;
 use develop::window;

@@ -42,7 +42,7 @@ pub carried-run : (f : List ℕ) (z : Size) (i at : ℕ) (h : Header) →
 carried-run f z i at h = simp running
 
 pub optional-run : (f : List ℕ) (z : Size) (i at : ℕ) (h : Header) → run f (opcodeReading class.Optional z i at h) ≡ is skipped
-optional-run f z i at h = run-answer f (is skipped)
+optional-run f z i at h = simp running
 
 pub compulsory-run : (f : List ℕ) (z : Size) (i at : ℕ) (h : Header) → run f (opcodeReading class.Compulsory z i at h) ≡ refused 11 i
 compulsory-run f z i at h = run-answer f (refused 11 i)

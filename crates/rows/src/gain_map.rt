@@ -115,8 +115,9 @@ pub fn gain_row(ps: &[u8], size: Size, row: ActiveRow, column: ActiveColumn, out
 {
     let g = grid::grid_at(ps, 0);
     let top = g.top;
-    if grid::every(top, g.bottom, g.row_pitch, row.0) {
-        let down = gain_map::located(gain_map::down_axis(ps), size.rows, row.0);
+    let i = row.0;
+    if grid::every(top, g.bottom, g.row_pitch, i) {
+        let down = gain_map::located(gain_map::down_axis(ps), size.rows, i);
         gain_planes(ps, size, g, down, column, out);
     }
 }

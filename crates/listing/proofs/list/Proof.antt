@@ -9,7 +9,7 @@ use denote.Ref.{now}
 use borrow.Author.Needs.{needs}
 use borrow.Author.Tests.{not-true, not-false}
 use Rattle.listing.specs.Facts.Body.{OpenedIs, rowsFrom}
-use Rattle.listing.specs.Facts.Pieces.{Remains}
+use Rattle.listing.specs.Pieces.{Remains}
 use Rattle.listing.proofs.Pieces.{all-remains, piece-stands, written-rest, ends-early, ends-whole}
 use Rattle.listing.proofs.list.Statement.{statement}
 use Rattle.listing.proofs.list.Tie as tie

@@ -7,7 +7,7 @@ use lib.Seq.{length-take-le}
 use denote.Ref.{now}
 use borrow.Author.Tests.{not-true, not-false}
 use Rattle.listing.specs.Facts.Body.{rowsFrom}
-use Rattle.listing.specs.Facts.Pieces.{Remains}
+use Rattle.listing.specs.Pieces.{Remains}
 use Rattle.listing.proofs.Bodies.{rows-none, short-listed}
 use Rattle.listing.proofs.Pieces.{piece-stands, written-rest, ends-early, ends-whole}
 use Rattle.listing.proofs.print_rows.Statement.{statement}
