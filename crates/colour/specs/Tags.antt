@@ -26,7 +26,7 @@ matrixRule = required forwardMatrix1 kinds.SignedRational 9
 abbrev pub rowReading : Order → ℕ → Reading (Out Triple)
 rowReading o at = tripleReading o kind.SignedRational 8 forwardMatrix1 false at
 
--- 50964: "SRATIONAL 9, required, denominators not 0"
+-- ForwardMatrix1: "SRATIONAL 9, required, denominators not 0"
 unfoldable pub matrixReading : Ifd → Reading (Out Matrix)
 matrixReading d =
     bind (valuesReading d matrixRule) (λ v.
@@ -42,7 +42,7 @@ neutralRule = required asShotNeutral kinds.ShortOrRational 3
 unfoldable pub neutralKind : Kind → FractionKind
 neutralKind k = pick (eqb (codeOf k) 3) kind.Short kind.Rational
 
--- 50728: "SHORT or RATIONAL 3, required, no numerator or denominator 0"
+-- AsShotNeutral: "SHORT or RATIONAL 3, required, no numerator or denominator 0"
 unfoldable pub neutralReading : Ifd → Reading (Out Triple)
 neutralReading d =
     bind (valuesReading d neutralRule) (λ v. tripleReading (d .order) (neutralKind (v .kind)) (v .size) asShotNeutral true (v .place))
@@ -64,7 +64,7 @@ colourOf m n =
       neutral2 = n .third;
     }
 
--- "50723, 50727, 50965 present with any type: not carried"; then 50964 and 50728
+-- "50723, 50727, 50965 present with any type: not carried"; then ForwardMatrix1 and AsShotNeutral
 unfoldable pub colourReading : Ifd → Reading (Out Colour)
 colourReading d =
     bind (notCarried d cameraCalibration1) (λ _.

@@ -1,4 +1,4 @@
-// The colour tags of IFD 0: 50723, 50727, 50965, 50964 (forward matrix), 50728 (neutral).
+// The colour tags of IFD 0: CameraCalibration1, AnalogBalance, ForwardMatrix2, ForwardMatrix1 (forward matrix), AsShotNeutral (neutral).
 ghost use mathlib.Core.Path.{_≡_};
 ghost use mathlib.Core.Bool.{true};
 ghost use Rattle.reading.specs.Reading.{run};
@@ -33,7 +33,7 @@ pub enum MatrixTest {
     Is(Matrix),
 }
 
-// 50964.
+// ForwardMatrix1.
 fn matrix_of(file: &[u8], ifd: Ifd) -> MatrixTest
     requires { ⌜ Tested (now file) ifd ⌝ }
     ensures { λ r. ⌜ (matrixOut r ≡ run (now (file .entry)) (matrixReading ifd)) × MatrixIn r ⌝ }
@@ -95,7 +95,7 @@ fn neutral_kind(kind: Kind) -> FractionKind
     }
 }
 
-// 50728.
+// AsShotNeutral.
 fn neutral_of(file: &[u8], ifd: Ifd) -> TripleTest
     requires { ⌜ Tested (now file) ifd ⌝ }
     ensures { λ r. ⌜ (tripleOut r ≡ run (now (file .entry)) (neutralReading ifd)) × TripleIn true r ⌝ }

@@ -1,5 +1,5 @@
--- What is read on the way to the raw directory: of each directory that is visited its count and entries, and the values of 254 and 330;
--- of IFD 0 those of 50706 and 50707 too.
+-- What is read on the way to the raw directory: of each directory that is visited its count and entries, and the values of
+-- NewSubfileType and SubIFDs; of IFD 0 those of DNGVersion and DNGBackwardVersion too.
 -- Assumes nothing.
 use Rattle.directory.specs.Names.{dngBackwardVersion, dngVersion, newSubfileType, subIfds}
 use mathlib.Core.Path.{_≡_, refl, sym, ap, subst, _∙_}

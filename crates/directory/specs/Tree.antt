@@ -25,15 +25,15 @@ pub data Seen : Type 0 where
   raw-one : Seen
   parent : ℕ → ℕ → ℕ → Seen
 
--- 330: "LONG or IFD, 1 to 16 of them"
+-- SubIFDs: "LONG or IFD, 1 to 16 of them"
 abbrev pub childrenRule : Rule
 childrenRule = rule false subIfds kinds.LongOrIfd 1 16
 
--- 254: LONG 1, default 0; any number is legal
+-- NewSubfileType: LONG 1, default 0; any number is legal
 abbrev pub subfileReading : Ifd → Reading (Out ℕ)
 subfileReading d = oneReading d (optional newSubfileType kinds.Long 1) 0 (range 0 0 0xFFFF_FFFF_FFFF_FFFF)
 
--- the raw directory is one where 254 is 0, and otherwise 330 is tested
+-- the raw directory is one where NewSubfileType is 0, and otherwise SubIFDs is tested
 unfoldable pub lookReading : Ifd → Reading (Out Seen)
 lookReading d =
     bind (subfileReading d) (λ t.
@@ -48,7 +48,7 @@ versionRule = required dngVersion kinds.Byte 4
 abbrev pub backwardRule : Rule
 backwardRule = optional dngBackwardVersion kinds.Byte 4
 
--- 50707, or its default, "50706 with its last two bytes zero": four bytes, of which the first weighs most
+-- DNGBackwardVersion, or its default, "50706 with its last two bytes zero": four bytes, of which the first weighs most
 unfoldable pub backwardReading : Values → Values → Reading ℕ
 backwardReading v b =
     pick (eqb (b .count) 0) (andThen (numberAt Big (v .place) 2) (λ n. answer (n * 65536))) (numberAt Big (b .place) 4)

@@ -60,7 +60,7 @@ pub enum Tree {
     Is(Roots),
 }
 
-// 254 and 330.
+// NewSubfileType and SubIFDs.
 fn inspect(file: &[u8], ifd: Ifd) -> Look
     requires { ⌜ Tested (now file) ifd ⌝ }
     ensures { λ r. ⌜ (lookOut r ≡ run (now (file .entry)) (lookReading ifd)) × LookIn (length (now (file .entry))) r ⌝ }
@@ -101,7 +101,7 @@ fn inspect(file: &[u8], ifd: Ifd) -> Look
     }
 }
 
-// 50707, or its default from 50706, as one number whose first byte weighs most.
+// DNGBackwardVersion, or its default from DNGVersion, as one number whose first byte weighs most.
 fn backward(file: &[u8], version: Values, given: Values) -> usize
     requires { ⌜ Placed-values (length (now file)) versionRule version ⌝ }
     requires { ⌜ Placed-values (length (now file)) backwardRule given ⌝ }
@@ -115,7 +115,7 @@ fn backward(file: &[u8], version: Values, given: Values) -> usize
     number::long(file, Order::Big, at) as usize
 }
 
-// 50706, 50707 and refusal 7.
+// DNGVersion, DNGBackwardVersion and refusal 7.
 fn check_version(file: &[u8], ifd: Ifd) -> Number
     requires { ⌜ Tested (now file) ifd ⌝ }
     ensures { λ r. ⌜ numberOut r ≡ run (now (file .entry)) (versionReading ifd) ⌝ }

@@ -4,7 +4,7 @@ use Prim.Native.Nat.{ℕ}
 use lib.IntN.{ℤ}
 use Rattle.levels.specs.Levels.{Levels}
 
--- one cell, or none where 50714 is absent, and a white level
+-- one cell, or none where BlackLevel is absent, and a white level
 abbrev pub plain : ℕ → ℕ → List ℤ → ℕ → Levels
 plain rows columns cells white =
     record {

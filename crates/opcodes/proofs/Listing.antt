@@ -235,7 +235,7 @@ module _ (f : List ℕ) (z : Size) where
         go (is o) w g = ap (countedOn c) (bind-is f (opcodeReading (classOf header) z i at header) _ o w)
             ∙ after o g (run f (onwards k i at n header)) refl
 
-  -- ---- the value of 51009
+  -- ---- the value of OpcodeList2
   module _ (at n : ℕ) (s : n ≡ 0 → ⊥) (m : ℕ) (e : m ≡ numberOf Big (part f at 4)) where
     value-many : 32 < m → refused 11 32 ≡ run f (listReading z at n)
     unfolding listReading

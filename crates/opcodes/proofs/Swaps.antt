@@ -165,7 +165,7 @@ swap-from f z (suc k) (suc m) i at n os l e s =
     ∙ list-moved z i i (x .first) (swappedFile f (at + w) k) f at at m n _ (x .fits) p (x .first-is)
     (swap-from f z k m (i + 1) (at + w) (n - w) (x .others) (omega (arith, x .fits)) (x .others-are) (omega arith))
 
--- the value of 51009, accepted
+-- the value of OpcodeList2, accepted
 module _ (f : List ℕ) (z : Size) (s n : ℕ) (some : 4 ≤ n) (os : List Opcode) (e : is os ≡ run f (listReading z s n)) (k : ℕ)
     (h : suc k < length os) where
   abbrev count : ℕ

@@ -1,4 +1,4 @@
--- OpcodeList2 (51009). No definition of an opcode names a place in the file: an opcode is a function of its own bytes.
+-- OpcodeList2. No definition of an opcode names a place in the file: an opcode is a function of its own bytes.
 use Prim.Native.Nat.{ℕ, zero, suc, _+_, _*_, _-_, _%_}
 use mathlib.Core.Bool.{Bool, true, false, _&&_, _||_}
 use mathlib.Core.List.{List, [], _∷_}
@@ -142,7 +142,7 @@ listFrom z (suc k) i at n =
     (answer (refused 10 i))))
     (answer (refused 10 i))
 
--- the value of 51009, n bytes from a place on: "Count over 32: refusal 11 first"; absent means no corrections
+-- the value of OpcodeList2, n bytes from a place on: "Count over 32: refusal 11 first"; absent means no corrections
 unfoldable pub listReading : Size → ℕ → ℕ → Reading (Out (List Opcode))
 listReading z at n =
     pick (eqb n 0) (answer (is []))

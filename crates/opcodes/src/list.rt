@@ -353,7 +353,7 @@ fn test_opcodes(file: &[u8], size: Size, count: usize, at: usize, bytes: usize) 
     }
 }
 
-// The value of 51009: so many bytes from a place on; none of an absent tag.
+// The value of OpcodeList2: so many bytes from a place on; none of an absent tag.
 pub fn test_list(file: &[u8], size: Size, at: usize, bytes: usize) -> ListTest
     requires { ⌜ (at + bytes ≤ length (now file)) × (size .rows ≤ 16384) × (size .columns ≤ 16384) × (0 < bytes → 4 ≤ bytes) ⌝ }
     ensures { λ r. ⌜ listOut r ≡ countedOn none (run (now (file .entry)) (listReading size at bytes)) ⌝ }

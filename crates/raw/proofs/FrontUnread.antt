@@ -115,9 +115,11 @@ module _ (f : List ℕ) (j : ℕ) (d : Ifd) (c : Raw-clear f j d) where
         table = values-off f d j tableRule (t .0) (t .1) (c .values linearizationTable refl) .off;
         black = values-off f d j (blackRule (r .0) s) (b .0) (black-given f d (b .0) (r .0) s (b .1)) (c .values blackLevel refl) .off;
         column-deltas =
-            values-off f d j (deltaRule blackLevelDeltaH columns) (cs .0) (delta-given f d (cs .0) blackLevelDeltaH columns (cs .1)) (c .values blackLevelDeltaH refl) .off;
+            values-off f d j (deltaRule blackLevelDeltaH columns) (cs .0) (delta-given f d (cs .0) blackLevelDeltaH columns (cs .1))
+            (c .values blackLevelDeltaH refl) .off;
         row-deltas =
-            values-off f d j (deltaRule blackLevelDeltaV rows) (rs .0) (delta-given f d (rs .0) blackLevelDeltaV rows (rs .1)) (c .values blackLevelDeltaV refl) .off;
+            values-off f d j (deltaRule blackLevelDeltaV rows) (rs .0) (delta-given f d (rs .0) blackLevelDeltaV rows (rs .1))
+            (c .values blackLevelDeltaV refl) .off;
         white =
             values-off f d j (whiteRule s) (w .0) (all-given f d (w .0) (whiteRule s) (range 0 0 65535) (w .1)) (c .values whiteLevel refl) .off;
       })

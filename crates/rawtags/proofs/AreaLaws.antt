@@ -1,4 +1,4 @@
--- 50829, case by case.
+-- ActiveArea, case by case.
 -- Assumes nothing.
 use Rattle.directory.specs.Names.{activeArea}
 use mathlib.Core.Path.{_≡_}

@@ -1,4 +1,4 @@
--- 258, case by case.
+-- BitsPerSample, case by case.
 -- Assumes nothing.
 use Rattle.directory.specs.Names.{bitsPerSample}
 use mathlib.Core.Path.{_≡_, sym, _∙_}

@@ -1,4 +1,4 @@
--- 50713, case by case.
+-- BlackLevelRepeatDim, case by case.
 -- Assumes nothing.
 use Rattle.directory.specs.Names.{blackLevelRepeatDim}
 use mathlib.Core.Path.{_≡_, sym, _∙_}

@@ -48,10 +48,11 @@ use Rattle.rawtags.specs.declared.frame.Dimensions.{Dimensions}
 use Rattle.rawtags.specs.declared.layout.Layout.{Layout}
 use Rattle.rawtags.specs.declared.repeat.Repeat.{Repeat}
 
--- the tags of the raw directory whose values are read with them: all that document 01 names but the list, 51009
+-- the tags of the raw directory whose values are read with them: all that document 01 names but the list, OpcodeList2
 abbrev pub rawTags : List ℕ
 rawTags =
-    imageWidth ∷ imageLength ∷ photometricInterpretation ∷ samplesPerPixel ∷ bitsPerSample ∷ compression ∷ planarConfiguration ∷ sampleFormat ∷ rowInterleaveFactor ∷ columnInterleaveFactor ∷ rowsPerStrip ∷ stripOffsets ∷ stripByteCounts ∷ activeArea
+    imageWidth ∷ imageLength ∷ photometricInterpretation ∷ samplesPerPixel ∷ bitsPerSample ∷ compression ∷ planarConfiguration ∷
+    sampleFormat ∷ rowInterleaveFactor ∷ columnInterleaveFactor ∷ rowsPerStrip ∷ stripOffsets ∷ stripByteCounts ∷ activeArea
     ∷ linearizationTable ∷ blackLevelRepeatDim ∷ blackLevel ∷ blackLevelDeltaH ∷ blackLevelDeltaV ∷ whiteLevel ∷ []
 
 -- ---- a frame has a plane
@@ -63,7 +64,8 @@ planes-some f d s e =
   where
     go :
         (p : ℕ) (b : Bool) → eqb (samplesOf p) 0 ≡ b →
-        is s ≡ run f (pick b (answer (refused 8 photometricInterpretation)) (oneReading d (optional samplesPerPixel kinds.Short 1) 1 (range 0 (samplesOf p) (samplesOf p)))) →
+        is s ≡ run f (pick b (answer (refused 8 photometricInterpretation))
+        (oneReading d (optional samplesPerPixel kinds.Short 1) 1 (range 0 (samplesOf p) (samplesOf p)))) →
         1 ≤ s
     go p true q h = absurd (not-refused s 8 photometricInterpretation (h ∙ run-answer f _))
     go p false q h =
@@ -153,7 +155,8 @@ module _ (f : List ℕ) (d : Ifd) (j : ℕ) (heads : reads (headsOf d) j ≡ fal
   only-one-unread tag k legal a = one-unread f d j heads (optional tag k 1) a 1 (range legal 1 1)
 
   layout-unread :
-      (s : ℕ) → 1 ≤ s → Off-tag bitsPerSample → Off-tag compression → Off-tag planarConfiguration → Off-tag sampleFormat → Off-tag rowInterleaveFactor → Off-tag columnInterleaveFactor → Off-tag rowsPerStrip →
+      (s : ℕ) → 1 ≤ s → Off-tag bitsPerSample → Off-tag compression → Off-tag planarConfiguration → Off-tag sampleFormat →
+      Off-tag rowInterleaveFactor → Off-tag columnInterleaveFactor → Off-tag rowsPerStrip →
       Unread f j (layoutReading d s)
   unfolding layoutReading formatReading stripRowsReading
   layout-unread s some a b c e g h i =
@@ -250,7 +253,8 @@ module _ (f : List ℕ) (d : Ifd) (j : ℕ) (heads : reads (headsOf d) j ≡ fal
       (blacks-unread tag kind.SignedRational v (values-off f d j (deltaRule tag n) v e a .off)) (λ _ _. unread-answer f j (is v)))
 
   level-tags-unread :
-      (s rows columns : ℕ) → Off-tag linearizationTable → Off-tag blackLevelRepeatDim → Off-tag blackLevel → Off-tag blackLevelDeltaH → Off-tag blackLevelDeltaV → Off-tag whiteLevel →
+      (s rows columns : ℕ) → Off-tag linearizationTable → Off-tag blackLevelRepeatDim → Off-tag blackLevel → Off-tag blackLevelDeltaH →
+      Off-tag blackLevelDeltaV → Off-tag whiteLevel →
       Unread f j (levelTagsReading d s rows columns)
   unfolding levelTagsReading tableReading whiteReading
   level-tags-unread s rows columns a b c e g h =
@@ -262,7 +266,7 @@ module _ (f : List ℕ) (d : Ifd) (j : ℕ) (heads : reads (headsOf d) j ≡ fal
       unread-bind f j (whiteReading d s) _ (all-unread f d j heads (whiteRule s) h (range 0 0 65535)) (λ v _.
       unread-answer f j _))))))
 
-  -- of 51008 and 51022 no value is read, of the list its offset
+  -- of OpcodeList1 and OpcodeList3 no value is read, of the list its offset
   list-unread : reads (offsetIn f d opcodeList2) j ≡ false → Unread f j (listTagReading d)
   unfolding listTagReading
   list-unread a =
@@ -277,14 +281,18 @@ module _ (f : List ℕ) (d : Ifd) (j : ℕ) (heads : reads (headsOf d) j ≡ fal
       Unread f j (tagsReading size d)
   unfolding tagsReading
   tags-unread size value list =
-      unread-bind f j (frameReading d) _ (frame-unread (value imageWidth refl) (value imageLength refl) (value photometricInterpretation refl) (value samplesPerPixel refl)) (λ v ev.
+      unread-bind f j (frameReading d) _
+      (frame-unread (value imageWidth refl) (value imageLength refl) (value photometricInterpretation refl)
+      (value samplesPerPixel refl)) (λ v ev.
       unread-bind f j (layoutReading d (v .samples)) _
-      (layout-unread (v .samples) (frame-some f d v ev) (value bitsPerSample refl) (value compression refl) (value planarConfiguration refl) (value sampleFormat refl)
+      (layout-unread (v .samples) (frame-some f d v ev) (value bitsPerSample refl) (value compression refl) (value planarConfiguration refl)
+      (value sampleFormat refl)
       (value rowInterleaveFactor refl) (value columnInterleaveFactor refl) (value rowsPerStrip refl)) (λ l _.
       unread-bind f j (stripsReading size d v l) _ (strips-unread size v l (value stripOffsets refl) (value stripByteCounts refl)) (λ s _.
       unread-bind f j (areaReading d v) _ (area-unread v (value activeArea refl)) (λ a _.
       unread-bind f j (levelTagsReading d (v .samples) (activeRows a) (activeColumns a)) _
-      (level-tags-unread (v .samples) (activeRows a) (activeColumns a) (value linearizationTable refl) (value blackLevelRepeatDim refl) (value blackLevel refl)
+      (level-tags-unread (v .samples) (activeRows a) (activeColumns a) (value linearizationTable refl) (value blackLevelRepeatDim refl)
+      (value blackLevel refl)
       (value blackLevelDeltaH refl) (value blackLevelDeltaV refl) (value whiteLevel refl)) (λ x _.
       unread-bind f j (listTagReading d) _ (list-unread list) (λ o _.
       unread-answer f j _))))))

@@ -1,4 +1,4 @@
--- The active area: 50829.
+-- The active area.
 use Prim.Native.Nat.{ℕ, _+_, _*_}
 use Rattle.directory.specs.Names.{activeArea}
 use lib.Dec.{eqb, leb, ltb}
@@ -36,6 +36,6 @@ fourReading o f v =
     andThen (numberAt o (v .place + 3 * v .size) (v .size)) (λ r.
     answer (croppedOf f (area t l b r)))))))
 
--- 50829: SHORT or LONG 4
+-- ActiveArea: SHORT or LONG 4
 unfoldable pub areaReading : Ifd → Dimensions → Reading (Out Area)
 areaReading d f = bind (valuesReading d (optional activeArea kinds.ShortOrLong 4)) (fourReading (d .order) f)

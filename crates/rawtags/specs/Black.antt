@@ -1,4 +1,4 @@
--- The black levels: 50714, and the deltas 50715 and 50716.
+-- The black levels: BlackLevel, and the deltas BlackLevelDeltaH and BlackLevelDeltaV.
 use Prim.Native.Nat.{ℕ, _*_}
 use Rattle.directory.specs.Names.{blackLevel}
 use lib.Dec.{eqb}
@@ -37,7 +37,7 @@ blacksTest o tag k size n p = ask p (size * n) (λ bs. answer (blackOut tag (fir
 abbrev pub blackRule : Repeat → ℕ → Rule
 blackRule r s = optional blackLevel kinds.ShortLongOrRational (r .rows * r .columns * s)
 
--- 50714: "SHORT, LONG or RATIONAL, count rows x columns x samples of the repeat"
+-- BlackLevel: "SHORT, LONG or RATIONAL, count rows x columns x samples of the repeat"
 unfoldable pub blackReading : Ifd → Repeat → ℕ → Reading (Out Values)
 blackReading d r s =
     bind (valuesReading d (blackRule r s)) (λ v.
@@ -46,7 +46,7 @@ blackReading d r s =
 abbrev pub deltaRule : ℕ → ℕ → Rule
 deltaRule tag n = optional tag kinds.SignedRational n
 
--- 50715: "SRATIONAL, one per active column". 50716: "SRATIONAL, one per active row"
+-- BlackLevelDeltaH: "SRATIONAL, one per active column". BlackLevelDeltaV: "SRATIONAL, one per active row"
 unfoldable pub deltaReading : Ifd → ℕ → ℕ → Reading (Out Values)
 deltaReading d tag n =
     bind (valuesReading d (deltaRule tag n)) (λ v.

@@ -1,4 +1,4 @@
--- The frame: 256, 257, 262, 277.
+-- The frame: ImageWidth, ImageLength, PhotometricInterpretation, SamplesPerPixel.
 use Prim.Native.Nat.{ℕ}
 use Rattle.directory.specs.Names.{imageLength, imageWidth, photometricInterpretation, samplesPerPixel}
 use lib.Dec.{eqb}
@@ -13,7 +13,7 @@ use Rattle.rawtags.specs.declared.frame.Dimensions.{Dimensions}
 abbrev pub dimensionRange : Range
 dimensionRange = range 1 1 16384
 
--- 256, 257: "SHORT or LONG 1, required; 0 is illegal, above 16,384 not carried"
+-- ImageWidth, ImageLength: "SHORT or LONG 1, required; 0 is illegal, above 16,384 not carried"
 unfoldable pub dimensionReading : Ifd → ℕ → Reading (Out ℕ)
 dimensionReading d tag = oneReading d (required tag kinds.ShortOrLong 1) 0 dimensionRange
 
@@ -21,7 +21,7 @@ dimensionReading d tag = oneReading d (required tag kinds.ShortOrLong 1) 0 dimen
 unfoldable pub samplesOf : ℕ → ℕ
 samplesOf p = pick (eqb p 32803) 1 (pick (eqb p 34892) 3 0)
 
--- 262: "SHORT 1, required; 32803 or 34892 carried". 277: "SHORT 1, default 1; 1 for 32803, 3 for 34892, else not carried"
+-- PhotometricInterpretation: "SHORT 1, required; 32803 or 34892 carried". SamplesPerPixel: "SHORT 1, default 1; 1 for 32803, 3 for 34892, else not carried"
 unfoldable pub planesReading : Ifd → Reading (Out ℕ)
 planesReading d =
     bind (oneReading d (required photometricInterpretation kinds.Short 1) 0 (range 0 0 65535)) (λ p.

@@ -1,4 +1,5 @@
--- How the samples stand: 258, 259, 284, 339, 50975, 52547, 278.
+-- How the samples stand: BitsPerSample, Compression, PlanarConfiguration, SampleFormat, RowInterleaveFactor,
+-- ColumnInterleaveFactor, RowsPerStrip.
 use Prim.Native.Nat.{ℕ}
 use Rattle.directory.specs.Names.{bitsPerSample, columnInterleaveFactor, compression, planarConfiguration, rowInterleaveFactor}
 use Rattle.directory.specs.Names.{rowsPerStrip, sampleFormat}
@@ -22,7 +23,7 @@ depthFrom d v n =
     pick (eqb (bytesPer n) 0) (answer (refused 8 bitsPerSample))
     (bind (eachReading (d .order) (v .size) bitsPerSample (range 0 n n) (v .count) (v .place)) (λ _. answer (is (bytesPer n))))
 
--- 258: "SHORT, one per sample, required; all 8 or all 16 carried"
+-- BitsPerSample: "SHORT, one per sample, required; all 8 or all 16 carried"
 unfoldable pub depthReading : Ifd → ℕ → Reading (Out ℕ)
 depthReading d s = bind (valuesReading d (required bitsPerSample kinds.Short s)) (λ v. andThen (numberAt (d .order) (v .place) (v .size)) (depthFrom d v))
 
@@ -30,15 +31,15 @@ depthReading d s = bind (valuesReading d (required bitsPerSample kinds.Short s))
 unfoldable pub onlyOne : Ifd → ℕ → Kinds → ℕ → Reading (Out ℕ)
 onlyOne d tag k legal = oneReading d (optional tag k 1) 1 (range legal 1 1)
 
--- 339: "SHORT, one per sample, default 1; only 1 carried"
+-- SampleFormat: "SHORT, one per sample, default 1; only 1 carried"
 unfoldable pub formatReading : Ifd → ℕ → Reading (Out Values)
 formatReading d s = allReading d (optional sampleFormat kinds.Short s) (range 0 1 1)
 
--- 278: "SHORT or LONG 1, default 4,294,967,295; 0 illegal"; any other number is carried
+-- RowsPerStrip: "SHORT or LONG 1, default 4,294,967,295; 0 illegal"; any other number is carried
 unfoldable pub stripRowsReading : Ifd → Reading (Out ℕ)
 stripRowsReading d = oneReading d (optional rowsPerStrip kinds.ShortOrLong 1) 4294967295 (range 1 1 0xFFFF_FFFF_FFFF_FFFF)
 
--- 259, 284: SHORT 1. 50975, 52547: "SHORT or LONG 1, default 1; 0 illegal, only 1 carried"
+-- Compression, PlanarConfiguration: SHORT 1. RowInterleaveFactor, ColumnInterleaveFactor: "SHORT or LONG 1, default 1; 0 illegal, only 1 carried"
 unfoldable pub layoutReading : Ifd → ℕ → Reading (Out Layout)
 layoutReading d s =
     bind (depthReading d s) (λ b.

@@ -1,4 +1,4 @@
--- What the levels of a sample come from: 50712 to 50717.
+-- What the levels of a sample come from: LinearizationTable to WhiteLevel.
 use Prim.Native.Nat.{ℕ}
 use Rattle.directory.specs.Names.{blackLevelDeltaH, blackLevelDeltaV}
 use Rattle.reading.specs.Reading.{Reading, Reading.answer}

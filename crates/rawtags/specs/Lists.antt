@@ -1,4 +1,4 @@
--- The opcode lists: 51008, 51022, 51009.
+-- The opcode lists: OpcodeList1, OpcodeList3, OpcodeList2.
 use Rattle.directory.specs.Names.{opcodeList1, opcodeList2, opcodeList3}
 use mathlib.Core.Bool.{false}
 use Rattle.reading.specs.Reading.{Reading}

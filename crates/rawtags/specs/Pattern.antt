@@ -1,4 +1,4 @@
--- The mosaic's pattern: 33421, 33422, 50710, 50711. Only half windows ask for it.
+-- The mosaic's pattern: CFARepeatPatternDim, CFAPattern, CFAPlaneColor, CFALayout. Only half windows ask for it.
 use Rattle.directory.specs.Names.{cfaLayout, cfaPattern, cfaPlaneColor, cfaRepeatPatternDim}
 use mathlib.Core.Bool.{_&&_}
 use Prim.Native.Nat.{ℕ, _+_}

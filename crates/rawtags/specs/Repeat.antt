@@ -1,4 +1,4 @@
--- The repeat of the black levels: 50713.
+-- The repeat of the black levels: BlackLevelRepeatDim.
 use Prim.Native.Nat.{ℕ, _+_}
 use Rattle.directory.specs.Names.{blackLevelRepeatDim}
 use lib.Dec.{eqb}
@@ -22,6 +22,6 @@ pairReading o v =
     bind (sideReading o (v .place + v .size) (v .size)) (λ n.
     answer (is (record { rows = m; columns = n })))))
 
--- 50713: "SHORT 2, default 1, 1"
+-- BlackLevelRepeatDim: "SHORT 2, default 1, 1"
 unfoldable pub repeatReading : Ifd → Reading (Out Repeat)
 repeatReading d = bind (valuesReading d (optional blackLevelRepeatDim kinds.Short 2)) (pairReading (d .order))

@@ -1,4 +1,4 @@
--- The strips: 273, 279.
+-- The strips: StripOffsets, StripByteCounts.
 use Prim.Native.Nat.{ℕ, zero, suc, _+_, _*_, _-_, _/_, min}
 use Rattle.directory.specs.Names.{stripByteCounts, stripOffsets}
 use lib.Dec.{eqb, leb}
@@ -38,7 +38,7 @@ offsetsRule f l = required stripOffsets kinds.ShortOrLong (stripCount f l)
 abbrev pub countsRule : Dimensions → Layout → Rule
 countsRule f l = required stripByteCounts kinds.ShortOrLong (stripCount f l)
 
--- 273, 279: "SHORT or LONG, required, count = length / rows per strip, rounded up. Then strip by strip"
+-- StripOffsets, StripByteCounts: "SHORT or LONG, required, count = length / rows per strip, rounded up. Then strip by strip"
 unfoldable pub stripsReading : ℕ → Ifd → Dimensions → Layout → Reading (Out Values)
 stripsReading size d f l =
     bind (valuesReading d (offsetsRule f l)) (λ os.

@@ -1,4 +1,4 @@
--- The linearization table and the white levels: 50712, 50717.
+-- The linearization table and the white levels: LinearizationTable, WhiteLevel.
 use Rattle.directory.specs.Names.{linearizationTable, whiteLevel}
 use mathlib.Core.Bool.{false}
 use Prim.Native.Nat.{ℕ}
@@ -13,13 +13,13 @@ use Rattle.directory.specs.declared.tag.Values.{Values}
 abbrev pub tableRule : Rule
 tableRule = rule false linearizationTable kinds.Short 1 65536
 
--- 50712: "SHORT, 1 to 65,536 entries"
+-- LinearizationTable: "SHORT, 1 to 65,536 entries"
 unfoldable pub tableReading : Ifd → Reading (Out Values)
 tableReading d = valuesReading d tableRule
 
 abbrev pub whiteRule : ℕ → Rule
 whiteRule s = optional whiteLevel kinds.ShortOrLong s
 
--- 50717: "SHORT or LONG, one per sample .. up to 65,535 carried"
+-- WhiteLevel: "SHORT or LONG, one per sample .. up to 65,535 carried"
 unfoldable pub whiteReading : Ifd → ℕ → Reading (Out Values)
 whiteReading d s = allReading d (whiteRule s) (range 0 0 65535)

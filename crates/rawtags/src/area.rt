@@ -1,4 +1,4 @@
-// The active area: 50829. Stored rows and columns count from the frame's corner, active ones from the area's.
+// The active area. Stored rows and columns count from the frame's corner, active ones from the area's.
 ghost use mathlib.Core.Path.{_≡_};
 ghost use Prim.Native.Nat.{_+_, _≤_};
 ghost use Rattle.reading.specs.Reading.{run};

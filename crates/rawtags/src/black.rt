@@ -1,4 +1,4 @@
-// The black levels: 50714, and the deltas 50715 and 50716.
+// The black levels: BlackLevel, and the deltas BlackLevelDeltaH and BlackLevelDeltaV.
 ghost use mathlib.Core.Path.{_≡_};
 ghost use Prim.Native.Nat.{_+_, _*_, _≤_, _<_};
 ghost use lib.ListN.{length};
@@ -69,7 +69,7 @@ fn check_blacks(
     }
 }
 
-// 50714.
+// BlackLevel.
 pub fn black_of(file: &[u8], ifd: Ifd, repeat: Repeat, samples: usize) -> ValuesTest
     requires { ⌜ Tested (now file) ifd ⌝ }
     requires { ⌜ Repeat-in repeat × (samples ≤ 3) ⌝ }
@@ -99,7 +99,7 @@ pub fn black_of(file: &[u8], ifd: Ifd, repeat: Repeat, samples: usize) -> Values
     }
 }
 
-// 50715 or 50716.
+// BlackLevelDeltaH or BlackLevelDeltaV.
 pub fn delta_of(file: &[u8], ifd: Ifd, tag: usize, many: usize) -> ValuesTest
     requires { ⌜ Tested (now file) ifd ⌝ }
     ensures { λ r. ⌜ valuesOut r ≡ run (now (file .entry)) (deltaReading ifd tag many) ⌝ }

@@ -1,4 +1,4 @@
-// The frame: 256, 257, 262, 277.
+// The frame: ImageWidth, ImageLength, PhotometricInterpretation, SamplesPerPixel.
 ghost use mathlib.Core.Path.{_≡_};
 ghost use mathlib.Core.Logic.{_⊎_};
 ghost use Rattle.reading.specs.Reading.{run};
@@ -37,7 +37,7 @@ fn samples_of(photometric: usize) -> usize
     if photometric == 34892 { 3 } else { 0 }
 }
 
-// 262 and 277.
+// PhotometricInterpretation and SamplesPerPixel.
 fn planes(file: &[u8], ifd: Ifd) -> Number
     requires { ⌜ Tested (now file) ifd ⌝ }
     ensures { λ r. ⌜ (numberOut r ≡ run (now (file .entry)) (planesReading ifd)) × PlanesIn r ⌝ }
@@ -80,7 +80,7 @@ fn planes(file: &[u8], ifd: Ifd) -> Number
     tag::one(file, ifd, per_pixel, 1, same)
 }
 
-// 256 or 257.
+// ImageWidth or ImageLength.
 fn dimension(file: &[u8], ifd: Ifd, tag: usize) -> Number
     requires { ⌜ Tested (now file) ifd ⌝ }
     ensures { λ r. ⌜ (numberOut r ≡ run (now (file .entry)) (dimensionReading ifd tag)) × NumberIn dimensionRange r ⌝ }

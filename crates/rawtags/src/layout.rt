@@ -1,4 +1,5 @@
-// How the samples stand: 258, 259, 284, 339, 50975, 52547, 278.
+// How the samples stand: BitsPerSample, Compression, PlanarConfiguration, SampleFormat, RowInterleaveFactor,
+// ColumnInterleaveFactor, RowsPerStrip.
 ghost use mathlib.Core.Path.{_≡_};
 ghost use Prim.Native.Nat.{_≤_};
 ghost use Rattle.reading.specs.Reading.{run};
@@ -39,7 +40,7 @@ fn bytes_per(bits: usize) -> usize
     if bits == 16 { 2 } else { 0 }
 }
 
-// 258.
+// BitsPerSample.
 fn depth(file: &[u8], ifd: Ifd, samples: usize) -> Number
     requires { ⌜ Tested (now file) ifd ⌝ }
     requires { ⌜ 1 ≤ samples ⌝ }
@@ -108,7 +109,7 @@ fn only_one(file: &[u8], ifd: Ifd, tag: usize, kinds: Kinds, legal: usize) -> Nu
     tag::one(file, ifd, rule, 1, one)
 }
 
-// 339.
+// SampleFormat.
 fn format(file: &[u8], ifd: Ifd, samples: usize) -> ValuesTest
     requires { ⌜ Tested (now file) ifd ⌝ }
     ensures { λ r. ⌜ valuesOut r ≡ run (now (file .entry)) (formatReading ifd samples) ⌝ }
@@ -128,7 +129,7 @@ fn format(file: &[u8], ifd: Ifd, samples: usize) -> ValuesTest
     tag::all(file, ifd, rule, one)
 }
 
-// 278.
+// RowsPerStrip.
 fn strip_rows(file: &[u8], ifd: Ifd) -> Number
     requires { ⌜ Tested (now file) ifd ⌝ }
     ensures { λ r. ⌜ (numberOut r ≡ run (now (file .entry)) (stripRowsReading ifd)) × NumberIn (range 1 1 0xFFFF_FFFF_FFFF_FFFF) r ⌝ }

@@ -1,4 +1,4 @@
-// What the levels of a sample come from: 50712 to 50717.
+// What the levels of a sample come from: LinearizationTable to WhiteLevel.
 ghost use mathlib.Core.Path.{_≡_};
 ghost use Prim.Native.Nat.{_≤_};
 ghost use Rattle.reading.specs.Reading.{run};

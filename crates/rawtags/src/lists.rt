@@ -1,4 +1,4 @@
-// The opcode lists: 51008, 51022, 51009.
+// The opcode lists: OpcodeList1, OpcodeList3, OpcodeList2.
 ghost use mathlib.Core.Path.{_≡_};
 ghost use lib.ListN.{length};
 ghost use Rattle.reading.specs.Reading.{run};

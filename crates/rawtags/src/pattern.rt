@@ -1,4 +1,4 @@
-// The mosaic's pattern: 33421, 33422, 50710, 50711.
+// The mosaic's pattern: CFARepeatPatternDim, CFAPattern, CFAPlaneColor, CFALayout.
 ghost use mathlib.Core.Path.{_≡_};
 ghost use Prim.Native.Nat.{_≤_};
 ghost use Rattle.reading.specs.Reading.{run};
@@ -92,7 +92,7 @@ fn places(a: usize, b: usize, c: usize, d: usize) -> PatternTest
     }
 }
 
-// 33421.
+// CFARepeatPatternDim.
 fn repeat_dim_of(file: &[u8], ifd: Ifd) -> ValuesTest
     requires { ⌜ Tested (now file) ifd ⌝ }
     ensures { λ r. ⌜ valuesOut r ≡ run (now (file .entry)) (repeatDimReading ifd) ⌝ }
@@ -112,7 +112,7 @@ fn repeat_dim_of(file: &[u8], ifd: Ifd) -> ValuesTest
     tag::all(file, ifd, rule, range)
 }
 
-// 33422.
+// CFAPattern.
 fn cfa_pattern_of(file: &[u8], ifd: Ifd) -> PatternTest
     requires { ⌜ Tested (now file) ifd ⌝ }
     ensures { λ r. ⌜ patternOut r ≡ run (now (file .entry)) (cfaPatternReading ifd) ⌝ }
@@ -154,7 +154,7 @@ fn plane_color(a: usize, b: usize, c: usize) -> Number
     }
 }
 
-// 50710.
+// CFAPlaneColor.
 fn plane_color_of(file: &[u8], ifd: Ifd) -> Number
     requires { ⌜ Tested (now file) ifd ⌝ }
     ensures { λ r. ⌜ numberOut r ≡ run (now (file .entry)) (planeColorReading ifd) ⌝ }
@@ -182,7 +182,7 @@ fn plane_color_of(file: &[u8], ifd: Ifd) -> Number
     plane_color(a, b, c)
 }
 
-// 50711.
+// CFALayout.
 fn cfa_layout_of(file: &[u8], ifd: Ifd) -> Number
     requires { ⌜ Tested (now file) ifd ⌝ }
     ensures { λ r. ⌜ numberOut r ≡ run (now (file .entry)) (cfaLayoutReading ifd) ⌝ }

@@ -1,4 +1,4 @@
-// The repeat of the black levels: 50713.
+// The repeat of the black levels: BlackLevelRepeatDim.
 ghost use mathlib.Core.Path.{_≡_};
 ghost use Rattle.reading.specs.Reading.{run};
 ghost use Rattle.directory.specs.Facts.Shape.{Tested};

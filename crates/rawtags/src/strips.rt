@@ -1,4 +1,4 @@
-// The strips: 273, 279.
+// The strips: StripOffsets, StripByteCounts.
 ghost use mathlib.Core.Path.{_≡_};
 ghost use Prim.Native.Nat.{_+_, _*_, _≤_, _<_};
 ghost use lib.ListN.{length};
@@ -29,7 +29,7 @@ pub struct Run {
     pub size: usize,
 }
 
-// Strip by strip: its byte count (4, 279), then its place (4, 273).
+// Strip by strip: its byte count (4, StripByteCounts), then its place (4, StripOffsets).
 fn check_strips(
     file: &[u8],
     order: Order,
@@ -75,7 +75,7 @@ fn check_strips(
     Number::Is(0)
 }
 
-// 273 and 279: where the strips' offsets stand.
+// StripOffsets and StripByteCounts: where the strips' offsets stand.
 pub fn strips_of(file: &[u8], ifd: Ifd, frame: Dimensions, layout: Layout) -> ValuesTest
     requires { ⌜ Tested (now file) ifd ⌝ }
     requires { ⌜ Dimensions-in frame × Layout-in layout ⌝ }

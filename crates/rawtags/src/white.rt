@@ -1,4 +1,4 @@
-// The linearization table and the white levels: 50712, 50717.
+// The linearization table and the white levels: LinearizationTable, WhiteLevel.
 ghost use mathlib.Core.Path.{_≡_};
 ghost use lib.ListN.{length};
 ghost use Rattle.reading.specs.Reading.{run};
@@ -14,7 +14,7 @@ use directory::tag::Range;
 use directory::tag::Rule;
 use directory::tag::ValuesTest;
 
-// 50717.
+// WhiteLevel.
 pub fn white_of(file: &[u8], ifd: Ifd, samples: usize) -> ValuesTest
     requires { ⌜ Tested (now file) ifd ⌝ }
     ensures { λ r. ⌜ (valuesOut r ≡ run (now (file .entry)) (whiteReading ifd samples)) × WhitesIn (now (file .entry)) (ifd .order) (whiteRule samples) r ⌝ }
@@ -34,7 +34,7 @@ pub fn white_of(file: &[u8], ifd: Ifd, samples: usize) -> ValuesTest
     tag::all(file, ifd, rule, range)
 }
 
-// 50712.
+// LinearizationTable.
 pub fn table_of(file: &[u8], ifd: Ifd) -> ValuesTest
     requires { ⌜ Tested (now file) ifd ⌝ }
     ensures { λ r. ⌜ (valuesOut r ≡ run (now (file .entry)) (tableReading ifd)) × ValuesIn (length (now (file .entry))) tableRule r ⌝ }
