@@ -10,7 +10,7 @@ use lib.Dec.{eqb}
 use lib.IntN.{ℤ, pos, natAbs}
 use lib.ListN.{length, getD, set, replicate, length-set}
 use lib.Seq.{getD-set-same, getD-set-other}
-use Rattle.levels.specs.Facts.Black.{Small}
+use Rattle.levels.specs.Facts.Black.{mostBlack, Small}
 
 pub record Filled (g : ℕ → ℤ) (j : ℕ) (old new : List ℤ) : Type 0 where
   pub same : length new ≡ length old
@@ -21,7 +21,7 @@ module _ (g : ℕ → ℤ) where
   pub fill-start : (xs : List ℤ) → Small xs → Filled g 0 xs xs
   fill-start xs s = record { same = refl; below = λ k h. absurd (omega arith); small = s }
 
-  pub fill-step : (j : ℕ) (old new : List ℤ) (v : ℤ) → j < length old → v ≡ g j → natAbs v ≤ 16776960 →
+  pub fill-step : (j : ℕ) (old new : List ℤ) (v : ℤ) → j < length old → v ≡ g j → natAbs v ≤ mostBlack →
       Filled g j old new → Filled g (j + 1) old (set new j v)
   fill-step j old new v h e s w =
       record { same = length-set new j v ∙ w .same; below = λ k b. below k b (eqb k j) refl; small = λ k. small k (eqb k j) refl }
@@ -36,7 +36,7 @@ module _ (g : ℕ → ℤ) where
           let l : k < j = omega arith in
           getD-set-other new j k v (pos 0) n ∙ w .below k l
 
-      small : (k : ℕ) (t : Bool) → eqb k j ≡ t → natAbs (getD (set new j v) k (pos 0)) ≤ 16776960
+      small : (k : ℕ) (t : Bool) → eqb k j ≡ t → natAbs (getD (set new j v) k (pos 0)) ≤ mostBlack
       small k true q = rw (here k (eqb-true k j q)) s
       small k false q = rw (getD-set-other new j k v (pos 0) (eqb-false k j q)) (w .small k)
 

@@ -4,7 +4,7 @@ ghost use mathlib.Core.Path.{_≡_};
 ghost use Prim.Native.Nat.{_≤_, _<_};
 ghost use lib.IntN.{natAbs};
 ghost use Rattle.reading.specs.Reading.{run};
-ghost use Rattle.levels.specs.Facts.Black.{Small};
+ghost use Rattle.levels.specs.Facts.Black.{mostBlack, Small};
 ghost use Rattle.levels.specs.Levels.{greatestBlack};
 ghost use Rattle.levels.specs.Facts.Residues.{greatestDelta, ByResidue, residueBlack, greatestByResidues};
 ghost use Rattle.rawtags.specs.Facts.Raw.{Tags-in};
@@ -38,7 +38,7 @@ fn greatest_delta(
     requires { ⌜ Deltas-of (now file) n deltas ⌝ }
     requires { ⌜ (n ≤ 16384) × (1 ≤ step) × (step ≤ 8) × (first < n) ⌝ }
     ensures { λ r. ⌜ r ≡ greatestDelta (run (now (file .entry)) (blacksReading order BlackKind.SignedRational deltas)) n step first ⌝ }
-    ensures { λ r. ⌜ natAbs r ≤ 16776960 ⌝ }
+    ensures { λ r. ⌜ natAbs r ≤ mostBlack ⌝ }
 {
     if deltas.count == 0 {
         return 0;

@@ -37,6 +37,7 @@ use Rattle.raw.proofs.TagFacts.{cellIndex, cell-for}
 use Rattle.samples.specs.Facts.Along.{cellAlong, spanAlong, pieceOf, Along-in}
 use Rattle.samples.specs.Facts.Line.{PartIs, Celled, Repeating}
 use Rattle.samples.proofs.Lines.{part-at}
+use Rattle.levels.specs.Facts.Black.{mostBlack}
 
 module _ (v : Levels) (n : ℕ) (some : 1 ≤ n) where
   abbrev period : ℕ
@@ -80,20 +81,20 @@ module _ (v : Levels) (n : ℕ) (some : 1 ≤ n) where
   span-next k = let e : k + n ≡ k + 1 * n = omega arith in ap (spanOf v) (ap (λ (x : ℕ). x % n) e ∙ add-mul-mod-self-right k 1 n)
 
 -- ---- 256ths of a tag, each of a black that is carried
-parts-small : (x : Fraction) → natAbs (partsOf (blackOf x)) ≤ 16776960
+parts-small : (x : Fraction) → natAbs (partsOf (blackOf x)) ≤ mostBlack
 parts-small x = go (blackOf x) refl
   where
-    go : (y : Black) → blackOf x ≡ y → natAbs (partsOf y) ≤ 16776960
+    go : (y : Black) → blackOf x ≡ y → natAbs (partsOf y) ≤ mostBlack
     go (Parts b) e = black-carried x b e .small
     go Illegal e = omega arith
     go NotCarried e = omega arith
 
-at-small : (k : BlackKind) (o : Order) (f : List ℕ) (p : ℕ) → natAbs (partsOf (blackAt k o f p)) ≤ 16776960
+at-small : (k : BlackKind) (o : Order) (f : List ℕ) (p : ℕ) → natAbs (partsOf (blackAt k o f p)) ≤ mostBlack
 unfolding blackAt
 at-small k o f p = parts-small (valueOf k o (part f p (widthOf k)))
 
 module _ (f : List ℕ) (o : Order) (k : BlackKind) (v : Values) (sized : 0 < v .count → v .size ≡ widthOf k) where
-  blacks-small : (i : ℕ) → natAbs (getD (run f (blacksReading o k v)) i (pos 0)) ≤ 16776960
+  blacks-small : (i : ℕ) → natAbs (getD (run f (blacksReading o k v)) i (pos 0)) ≤ mostBlack
   blacks-small i =
       let bs = runOf (λ (p : ℕ). partsOf (blackAt k o f p)) (v .size) (v .place) (v .count) in
       let n = length-run (λ (p : ℕ). partsOf (blackAt k o f p)) (v .size) (v .place) (v .count) in
@@ -101,7 +102,7 @@ module _ (f : List ℕ) (o : Order) (k : BlackKind) (v : Values) (sized : 0 < v 
       (λ h. rw (black-in f o k v sized i h) (at-small k o f (v .place + v .size * i))) (le-or-lt (v .count) i)
 
 pub cell-small : (f : List ℕ) (o : Order) (t : Tags) → Tags-in f o t → (r c p : ℕ) →
-    natAbs (cellFor (run f (levelsReading o t)) r c p) ≤ 16776960
+    natAbs (cellFor (run f (levelsReading o t)) r c p) ≤ mostBlack
 cell-small f o t h r c p =
     let b = t .levels .black in
     let q = h .levels .black in
@@ -145,7 +146,7 @@ module _ (v : Levels) (n l len : ℕ) (some : 1 ≤ n) (along : List Float) (w :
         rw cells-length
         (record { cell-again = λ g k. cell-again v n some q k (w .again g) r l; span-again = λ g k. span-again v n some q k (w .again g) })
 
-    pub celled : (down : ℤ) (d : Float) → ((c p : ℕ) → natAbs (cellFor v r c p) ≤ 16776960) → ((p : ℕ) → p < n → SpanIn (spanOf v p)) →
+    pub celled : (down : ℤ) (d : Float) → ((c p : ℕ) → natAbs (cellFor v r c p) ≤ mostBlack) → ((p : ℕ) → p < n → SpanIn (spanOf v p)) →
         PartIs down d
         → Celled (cellAlong v n r l) (spanAlong v n) down cells inverses d (length cells)
     celled down d small spans y =

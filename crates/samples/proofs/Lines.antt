@@ -18,7 +18,7 @@ use Rattle.reading.specs.Number.{numberOf}
 use Rattle.reading.specs.declared.number.Order.{Order}
 use Rattle.reading.proofs.Magnitude.{mag-le, natAbs-add, sfits64}
 use Rattle.reading.proofs.Wholes.{le-or-lt}
-use Rattle.levels.specs.Facts.Black.{Small}
+use Rattle.levels.specs.Facts.Black.{mostBlack, Small}
 use Rattle.levels.specs.Level.{differenceOf, levelOf, scaledOf}
 use Rattle.levels.specs.Facts.Reciprocal.{ofParts}
 use Rattle.levels.proofs.Fills.{zeros-at}
@@ -31,19 +31,19 @@ use Rattle.samples.specs.declared.line.Line.{Line}
 pub back : (z : ℤ) → natAbs z < 0x1_0000_0000 → toZ w64 (ofZ w64 z) ≡ z
 back z h = toZ-ofZ (sfits64 z (omega arith))
 
-pub sfits32 : (z : ℤ) → natAbs z ≤ 16776960 → SFits w32 (toZ w64 (ofZ w64 z))
+pub sfits32 : (z : ℤ) → natAbs z ≤ mostBlack → SFits w32 (toZ w64 (ofZ w64 z))
 sfits32 z h = rw (back z (omega arith)) (record { sfits = omega (arith, mag-le z) })
 
-pub back32 : (z : ℤ) → natAbs z ≤ 16776960 → toZ w32 (ofZ w32 z) ≡ z
+pub back32 : (z : ℤ) → natAbs z ≤ mostBlack → toZ w32 (ofZ w32 z) ≡ z
 back32 z h = toZ-ofZ (record { sfits = omega (arith, mag-le z) })
 
-pub held-short : (z : ℤ) → natAbs z ≤ 16776960 → toZ w32 (ofZ w32 (toZ w64 (ofZ w64 z))) ≡ z
+pub held-short : (z : ℤ) → natAbs z ≤ mostBlack → toZ w32 (ofZ w32 (toZ w64 (ofZ w64 z))) ≡ z
 held-short z h = toZ-ofZ (sfits32 z h) ∙ back z (omega arith)
 
-pub sfits64-of32 : (z : ℤ) → natAbs z ≤ 16776960 → SFits w64 (toZ w32 (ofZ w32 z))
+pub sfits64-of32 : (z : ℤ) → natAbs z ≤ mostBlack → SFits w64 (toZ w32 (ofZ w32 z))
 sfits64-of32 z h = rw (back32 z h) (sfits64 z (omega arith))
 
-pub held-long : (z : ℤ) → natAbs z ≤ 16776960 → toZ w64 (ofZ w64 (toZ w32 (ofZ w32 z))) ≡ z
+pub held-long : (z : ℤ) → natAbs z ≤ mostBlack → toZ w64 (ofZ w64 (toZ w32 (ofZ w32 z))) ≡ z
 held-long z h = toZ-ofZ (sfits64-of32 z h) ∙ back32 z h
 
 -- ---- a list that has as many numbers as another
@@ -176,22 +176,22 @@ module _ (cell span : ℕ → ℤ) (down : ℤ) (cells inverses : List Float) (y
           black-is = λ k b.
               let w = c .cell-is k (omega arith) in
               let e : cell k +ℤ delta k ≡ cell k = ap (λ (t : ℤ). cell k +ℤ t) (z k) ∙ +ℤ-idr (cell k) in
-              let s = part-sum (cell k) down _ y 16776960 16776960 (w .small) (c .down-is .small) (omega arith) (w .number)
+              let s = part-sum (cell k) down _ y mostBlack mostBlack (w .small) (c .down-is .small) (omega arith) (w .number)
               (c .down-is .number) in
               rw e (record { small = omega (arith, s .0); number = s .1 });
           inverse-is = λ k b. c .inverse-is k (omega arith);
         }
 
     -- the columns' deltas are in the sums
-    pub levelled-sums : (m : ℕ) (delta : ℕ → ℤ) (sums : List Float) → m ≤ n → ((k : ℕ) → natAbs (delta k) ≤ 16776960)
+    pub levelled-sums : (m : ℕ) (delta : ℕ → ℤ) (sums : List Float) → m ≤ n → ((k : ℕ) → natAbs (delta k) ≤ mostBlack)
         → Filled nan (λ k. add binary64 (getD cells k nan) (ofParts (delta k))) m sums →
         Levelled (λ k. cell k +ℤ delta k +ℤ down) span sums inverses y m
     levelled-sums m delta sums h z f =
         record {
           black-is = λ k b.
               let w = c .cell-is k (omega arith) in
-              let s = part-sum (cell k) (delta k) _ _ 16776960 16776960 (w .small) (z k) (omega arith) (w .number) refl in
-              let t = part-sum (cell k +ℤ delta k) down _ y 33553920 16776960 (s .0) (c .down-is .small) (omega arith) (f k b ∙ s .1)
+              let s = part-sum (cell k) (delta k) _ _ mostBlack mostBlack (w .small) (z k) (omega arith) (w .number) refl in
+              let t = part-sum (cell k +ℤ delta k) down _ y 33553920 mostBlack (s .0) (c .down-is .small) (omega arith) (f k b ∙ s .1)
               (c .down-is .number) in
               record { small = t .0; number = t .1 };
           inverse-is = λ k b. c .inverse-is k (omega arith);

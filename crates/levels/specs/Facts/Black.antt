@@ -4,6 +4,10 @@ use mathlib.Core.List.{List}
 use lib.IntN.{ℤ, pos, natAbs}
 use lib.ListN.{getD}
 
--- 256ths, each of a black that is carried: at most 65,535 x 256
+-- 65,535 x 256: the greatest magnitude of a black that is carried, in 256ths
+abbrev pub mostBlack : ℕ
+mostBlack = 16776960
+
+-- 256ths, each of a black that is carried
 abbrev pub Small : List ℤ → Type 0
-Small xs = (k : ℕ) → natAbs (getD xs k (pos 0)) ≤ 16776960
+Small xs = (k : ℕ) → natAbs (getD xs k (pos 0)) ≤ mostBlack

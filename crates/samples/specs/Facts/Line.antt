@@ -18,6 +18,7 @@ use Rattle.raw.specs.Sample
 use Rattle.rawtags.specs.declared.Tags.{Tags}
 use Rattle.opcodes.specs.Frame.{each}
 use Rattle.samples.specs.declared.line.Line.{Line}
+use Rattle.levels.specs.Facts.Black.{mostBlack}
 
 -- the first n of a list are g 0, g 1 ..
 abbrev pub Filled : {A : Type 0} → A → (ℕ → A) → ℕ → List A → Type 0
@@ -47,7 +48,7 @@ pub record Levelled (black span : ℕ → ℤ) (blacks inverses : List Float) (d
 
 -- a cell, or a delta, as f64
 pub record PartIs (z : ℤ) (x : Float) : Type 0 where
-  pub small : natAbs z ≤ 16776960
+  pub small : natAbs z ≤ mostBlack
   pub number : x ≡ ofParts z
 
 -- cells, S and the row's delta, as f64

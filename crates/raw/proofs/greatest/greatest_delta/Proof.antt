@@ -18,12 +18,13 @@ use Rattle.raw.proofs.StoredLaws.{greatest-delta-none, delta-inside}
 use borrow.Author.Needs.{needs}
 use Rattle.raw.proofs.greatest.greatest_delta.Statement.{statement}
 use Rattle.raw.proofs.greatest.greatest_delta.Tie as tie
+use Rattle.levels.specs.Facts.Black.{mostBlack}
 
 abbrev Inv-loop : tie.InvT-loop
 Inv-loop file order deltas n step first times best₀ k₀ best k =
     Folded (λ (k : ℕ). getD (run file (blacksReading order kind.SignedRational deltas)) (first + step * k) (pos 0)) (timesOf n step first) k
     (toZ w64 best)
-    × (natAbs (toZ w64 best) ≤ 16776960)
+    × (natAbs (toZ w64 best) ≤ mostBlack)
 
 abbrev μ-loop : tie.MeasureT-loop
 μ-loop file order deltas n step first times best₀ k₀ best k = times - k

@@ -10,8 +10,9 @@ use Rattle.levels.proofs.SignedOrder.{sum-same}
 use borrow.Author.Needs.{needs}
 use Rattle.raw.proofs.greatest.residue_black.Statement.{statement}
 use Rattle.raw.proofs.greatest.residue_black.Tie as tie
+use Rattle.levels.specs.Facts.Black.{mostBlack}
 
-delta-fits : (z : ℤ) → natAbs z ≤ 16776960 → SFits w64 z
+delta-fits : (z : ℤ) → natAbs z ≤ mostBlack → SFits w64 z
 delta-fits z h = sfits64 z (omega arith)
 
 cell-at-requires : tie.Need-cell-at-requires
