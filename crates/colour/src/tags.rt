@@ -119,7 +119,7 @@ fn neutral_of(file: &[u8], ifd: Ifd) -> TripleTest
     value::triple_at(file, order, kind, size, names::AS_SHOT_NEUTRAL, true, place)
 }
 
-fn joined(m: Matrix, n: Triple) -> Colour
+fn colour_from(m: Matrix, n: Triple) -> Colour
     ensures { λ r. ⌜ r ≡ colourOf m n ⌝ }
 {
     Colour {
@@ -163,5 +163,5 @@ pub fn colour_of(file: &[u8], ifd: Ifd) -> ColourTest
         TripleTest::Refused { number, detail } => return ColourTest::Refused { number, detail },
         TripleTest::Is(n) => n,
     };
-    ColourTest::Is(joined(matrix, neutral))
+    ColourTest::Is(colour_from(matrix, neutral))
 }

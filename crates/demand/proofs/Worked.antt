@@ -19,7 +19,7 @@ use Rattle.reading.specs.declared.number.Order.the-variants.{Little}
 use Rattle.directory.specs.Out.{Out, Out.is, bind}
 use Rattle.directory.specs.Widths.{classic}
 use Rattle.directory.specs.declared.entry.Kind.the-variants as entryKind
-use Rattle.directory.specs.Entry.{kindOf, plainOf, sizeOf, entryOf}
+use Rattle.directory.specs.Entry.{kindOf, plainOf, kindWidth, entryOf}
 use Rattle.directory.specs.Shape.{placeTest, entryReading, orderTest, shapeFrom, ifd, ifdReading}
 use Rattle.directory.specs.Tag.{findFrom, noValues, wholeReading, valueReading, testedReading, absentOf, valuesReading}
 use Rattle.directory.specs.Tag.{notCarried}
@@ -160,7 +160,7 @@ pub record Computed {A : Type 0} (f : List ℕ) (p : Reading A) (a : A) (lo hi :
 pub fronts :
     Computed file (frontReading (length file)) (is picture) 256 400
     × Computed linear.file (frontReading (length linear.file)) (is linear.picture) 218 230
-unfolding trace run andThen pick numberAt numberOf littleOf bigOf fractionOf valueOf bind kindOf plainOf sizeOf entryOf placeTest
+unfolding trace run andThen pick numberAt numberOf littleOf bigOf fractionOf valueOf bind kindOf plainOf kindWidth entryOf placeTest
     entryReading
     orderTest shapeFrom ifdReading findFrom wholeReading valueReading testedReading absentOf valuesReading notCarried rangeFault judgedOf
     firstReading
@@ -178,7 +178,7 @@ fronts = (record { answer = refl; unread = refl }, record { answer = refl; unrea
 pub lists : Computed file (opcodesOf picture) (is opcodes) 392 400 × Computed linear.file (opcodesOf linear.picture) (is []) 218 230
 unfolding trace run pick bind andThen numberOf bigOf runOf realOf ofBits gridOf fitsOf OpcodeList.headerOf OpcodeList.classOf
     OpcodeList.formOf
-    OpcodeList.refusedIn OpcodeList.plainFault OpcodeList.opcodeFault OpcodeList.kindOf OpcodeList.parametersOf OpcodeList.listFrom
+    OpcodeList.refusedIn OpcodeList.plainFault OpcodeList.opcodeFault OpcodeList.opcodeKind OpcodeList.parametersOf OpcodeList.listFrom
     OpcodeList.listReading
 lists = (record { answer = refl; unread = refl }, record { answer = refl; unread = refl })
 
@@ -196,7 +196,7 @@ half = record { colour = unitColour; pattern = record { red = 0; green1 = 1; gre
 
 pub colours :
     Computed file (halfFor picture) (is half) 256 400 × Computed linear.file (colourFor linear.picture) (is unitColour) 218 230
-unfolding trace run andThen pick numberAt numberOf littleOf bind kindOf plainOf sizeOf entryOf findFrom wholeReading valueReading
+unfolding trace run andThen pick numberAt numberOf littleOf bind kindOf plainOf kindWidth entryOf findFrom wholeReading valueReading
     testedReading
     absentOf valuesReading notCarried rangeFault judgedOf firstReading oneReading eachReading allReading fractionOf ofInt div round
     Value.legalQuotient

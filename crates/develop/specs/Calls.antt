@@ -44,8 +44,8 @@ pub record Opened : Type 0 where
 
 -- "1, 2, the tree, the raw tags, 9, the lists". What every sample needs of the tags is asked for again at the end.
 unfoldable pub openReading : ℕ → Reading (Out Opened)
-openReading size =
-    bind (frontReading size) (λ p.
+openReading len =
+    bind (frontReading len) (λ p.
     bind (opcodesOf p) (λ os.
     andThen (storedReading (p .order) (p .raw .tags)) (λ s.
     answer (is (record { picture = p; opcodes = os; stored = s })))))

@@ -18,7 +18,7 @@ use Rattle.reading.specs.declared.number.Order.{Order}
 use Rattle.reading.proofs.Bytes.{part-part}
 use Rattle.reading.proofs.Reading.{pick-yes, pick-no}
 use Rattle.directory.specs.Widths.{headWidth, entryWidth}
-use Rattle.directory.specs.Entry.{kinds, kindOf, codeOf, plainOf, sizes, sizeOf, entryOf}
+use Rattle.directory.specs.Entry.{kinds, kindOf, codeOf, plainOf, sizes, kindWidth, entryOf}
 use Rattle.directory.specs.declared.Widths.{Widths}
 use Rattle.directory.specs.declared.entry.Kind.{Kind}
 use Rattle.directory.specs.declared.entry.Kind.the-variants as kind
@@ -39,12 +39,12 @@ unfolding allTo
 size-listed t = at-most 8 sizes tt t
 
 -- the bytes of one value by the type's number, where the layout knows it
-pub size-known : (types t : ℕ) → t ≤ types → getD sizes t 0 ≡ sizeOf (kindOf types t)
-unfolding kindOf sizeOf
-size-known types t h = rw (le-leb _ _ h, pick-yes) (List·getD-map sizeOf kinds t kind.Unknown)
+pub size-known : (types t : ℕ) → t ≤ types → getD sizes t 0 ≡ kindWidth (kindOf types t)
+unfolding kindOf kindWidth
+size-known types t h = rw (le-leb _ _ h, pick-yes) (List·getD-map kindWidth kinds t kind.Unknown)
 
-pub size-unknown : (types t : ℕ) → types < t → 0 ≡ sizeOf (kindOf types t)
-unfolding kindOf sizeOf
+pub size-unknown : (types t : ℕ) → types < t → 0 ≡ kindWidth (kindOf types t)
+unfolding kindOf kindWidth
 size-unknown types t h = rw (lt-leb _ _ h, pick-no)
 
 pub wide-most : (s : ℕ) → Wide s → s ≤ 8
@@ -101,11 +101,11 @@ plain-is k a e = go (eqb (codeOf k) 16) refl (eqb (codeOf k) 18) refl
     go false p false q = inl (plain-other k (eqb-false _ _ p) (eqb-false _ _ q) ∙ e)
 
 -- what a test of values of a size says of a type's values
-module _ (bytes : ℕ → ℕ) (k : Kind) (s room : ℕ) (b : Bool) (e : s ≡ sizeOf k) (t : b ≡ leb (bytes s) room) where
-  pub fit : b ≡ true → bytes (sizeOf k) ≤ room
+module _ (bytes : ℕ → ℕ) (k : Kind) (s room : ℕ) (b : Bool) (e : s ≡ kindWidth k) (t : b ≡ leb (bytes s) room) where
+  pub fit : b ≡ true → bytes (kindWidth k) ≤ room
   fit y = subst (λ (m : ℕ). bytes m ≤ room) e (leb-true _ _ (sym t ∙ y))
 
-  pub unfit : b ≡ false → room < bytes (sizeOf k)
+  pub unfit : b ≡ false → room < bytes (kindWidth k)
   unfit y = subst (λ (m : ℕ). room < bytes m) e (leb-false _ _ (sym t ∙ y))
 
 -- one more of a size lies in a length, and so do the others after it

@@ -9,7 +9,7 @@ use Rattle.reading.specs.declared.number.Order.the-variants.{Little}
 use Rattle.reading.proofs.Reading.{stretch}
 use Rattle.directory.specs.Out.{Out.refused, Out.is, bind}
 use Rattle.directory.specs.Widths.{classic, bigTiff}
-use Rattle.directory.specs.Entry.{kindOf, plainOf, sizeOf, entryOf}
+use Rattle.directory.specs.Entry.{kindOf, plainOf, kindWidth, entryOf}
 use Rattle.directory.specs.Shape.{placeTest, entryReading, orderTest, shapeFrom, ifd, ifdReading}
 use Rattle.directory.specs.Tag.{findFrom, wholeReading, valueReading, testedReading, absentOf, valuesReading, rangeFault, judgedOf}
 use Rattle.directory.specs.Tag.{firstReading, oneReading}
@@ -90,7 +90,7 @@ record Worked : Type 0 where
   not-zero : runWhole (take 6 big-one ++ (1 ∷ drop 7 big-one)) treeReading ≡ refused 2 0
 
 worked : Worked
-unfolding trace run andThen pick numberAt numberOf littleOf bigOf bind kindOf plainOf sizeOf entryOf placeTest entryReading orderTest
+unfolding trace run andThen pick numberAt numberOf littleOf bigOf bind kindOf plainOf kindWidth entryOf placeTest entryReading orderTest
     shapeFrom
     ifdReading findFrom wholeReading valueReading testedReading absentOf valuesReading rangeFault judgedOf firstReading oneReading lookReading
     backwardReading versionReading childrenReading visitReading walkReading rootReading offsetReading bigTiffReading treeReading

@@ -19,7 +19,7 @@ use Rattle.reading.specs.declared.number.Order.{Order}
 use Rattle.reading.proofs.Reading.{running, run-answer, run-ask, run-then, pick-yes, pick-no, trace-answer}
 use Rattle.directory.specs.Out.{Out, Out.refused, Out.is}
 use Rattle.directory.specs.Widths.{headWidth, entryWidth}
-use Rattle.directory.specs.Entry.{codeOf, plainOf, sizes, sizeOf, bytesOf, entryOf}
+use Rattle.directory.specs.Entry.{codeOf, plainOf, sizes, kindWidth, bytesOf, entryOf}
 use Rattle.directory.specs.Shape.{entryReading, shapeFrom}
 use Rattle.directory.specs.Tag.{findFrom, foundReading, allowsOf, valuesAt, noValues, wholeReading, valueReading, testedReading}
 use Rattle.directory.specs.Tag.{valuesFound}
@@ -144,8 +144,8 @@ key-one a t = go (eqb t a) refl
     go true e = key-here a [] t (eqb-true t a e)
     go false e = key-there a [] t (eqb-false t a e)
 
-sized : (k : Kind) (t : ℕ) → codeOf k ≡ t → sizeOf k ≡ getD sizes t 0
-unfolding sizeOf
+sized : (k : Kind) (t : ℕ) → codeOf k ≡ t → kindWidth k ≡ getD sizes t 0
+unfolding kindWidth
 sized k t e = ap (λ (n : ℕ). getD sizes n 0) e
 
 -- LONG or LONG8, IFD or IFD8, and any other type
@@ -165,13 +165,13 @@ other-code k a o e = ⊎-elim (λ h. h) (λ q. ⊎-elim (λ h. clash 4 (h .1) tt
     clash b h t = absurd (T-not (other b) t (subst (λ (n : ℕ). T (other n)) h o))
 
 -- the bytes of one value
-long : (k : Kind) → plainOf k ≡ 4 → Long (sizeOf k)
+long : (k : Kind) → plainOf k ≡ 4 → Long (kindWidth k)
 long k e = ⊎-elim (λ h. inl (sized k 4 h)) (λ h. inr (sized k 16 h)) (long-code k e)
 
-offset : (k : Kind) → plainOf k ≡ 13 → Long (sizeOf k)
+offset : (k : Kind) → plainOf k ≡ 13 → Long (kindWidth k)
 offset k e = ⊎-elim (λ h. inl (sized k 13 h)) (λ h. inr (sized k 18 h)) (offset-code k e)
 
-only : (k : Kind) (a : ℕ) → T (other a) → plainOf k ≡ a → sizeOf k ≡ getD sizes a 0
+only : (k : Kind) (a : ℕ) → T (other a) → plainOf k ≡ a → kindWidth k ≡ getD sizes a 0
 only k a o e = sized k a (other-code k a o e)
 
 -- SHORT, LONG or RATIONAL by their numbers
@@ -188,7 +188,7 @@ short-or-fraction k e =
     ⊎-elim (λ h. inl (other-code k 3 tt h)) (λ h. inr (other-code k 5 tt (one-key 5 _ h))) (more-keys 3 (5 ∷ []) (plainOf k) e)
 
 -- the bytes of one value of a type that is allowed
-pub size-in : (ks : Kinds) (k : Kind) → allowsOf ks k ≡ true → SizeIn ks (sizeOf k)
+pub size-in : (ks : Kinds) (k : Kind) → allowsOf ks k ≡ true → SizeIn ks (kindWidth k)
 size-in kinds.Byte k e = only k 1 tt (one-key 1 _ e)
 size-in kinds.Short k e = only k 3 tt (one-key 3 _ e)
 size-in kinds.Long k e = long k (one-key 4 _ e)

@@ -8,7 +8,7 @@ use Rattle.reading.specs.Reading.{Reading, Reading.answer, Reading.ask, andThen
 use Rattle.reading.specs.declared.number.Order.{Order}
 use Rattle.directory.specs.Out.{Out, Out.refused, Out.is, bind}
 use Rattle.directory.specs.Widths.{headWidth, entryWidth}
-use Rattle.directory.specs.Entry.{codeOf, plainOf, sizeOf, bytesOf, entryOf}
+use Rattle.directory.specs.Entry.{codeOf, plainOf, kindWidth, bytesOf, entryOf}
 use Rattle.directory.specs.declared.Ifd.{Ifd}
 use Rattle.directory.specs.declared.Widths.{Widths}
 use Rattle.directory.specs.declared.entry.Kind.{Kind}
@@ -53,7 +53,7 @@ allowsOf ks k = hasKey (codesOf ks) (plainOf k)
 
 -- where the values of an entry stand, their type, how wide each is, and how many there are; none of an absent tag
 abbrev pub valuesAt : ℕ → Entry → Values
-valuesAt p e = record { place = p; kind = e .kind; size = sizeOf (e .kind); count = e .count }
+valuesAt p e = record { place = p; kind = e .kind; size = kindWidth (e .kind); count = e .count }
 
 abbrev pub noValues : Values
 noValues = record { place = 0; kind = kind.Unknown; size = 0; count = 0 }
@@ -114,9 +114,9 @@ oneReading d r default range = bind (valuesReading d r) (firstReading (d .order)
 
 -- so many numbers from a place on, in stored order
 unfoldable pub eachReading : Order → ℕ → ℕ → Range → ℕ → ℕ → Reading (Out ℕ)
-eachReading o size tag r zero p = answer (is 0)
-eachReading o size tag r (suc n) p =
-    bind (andThen (numberAt o p size) (λ v. answer (judgedOf tag r v))) (λ _. eachReading o size tag r n (p + size))
+eachReading o width tag r zero p = answer (is 0)
+eachReading o width tag r (suc n) p =
+    bind (andThen (numberAt o p width) (λ v. answer (judgedOf tag r v))) (λ _. eachReading o width tag r n (p + width))
 
 -- a tag whose numbers must all be in a range
 unfoldable pub allReading : Ifd → Rule → Range → Reading (Out Values)

@@ -83,15 +83,15 @@ childrenReading s visit o (suc n) p v =
 
 -- a directory, with so many levels and visits left: 6 where one of them is used up, before anything of it is read
 unfoldable pub visitReading : Widths → ℕ → Order → ℕ → ℕ → ℕ → Reading (Out Walked)
-visitReading w size o zero at v = answer (refused 6 0)
-visitReading w size o (suc d) at zero = answer (refused 6 0)
-visitReading w size o (suc d) at (suc v) =
-    bind (ifdReading w size o at) (λ e.
-    bind (lookReading e) (afterLook e (λ p s n. childrenReading s (λ a u. visitReading w size o d a u) o n p v)))
+visitReading w len o zero at v = answer (refused 6 0)
+visitReading w len o (suc d) at zero = answer (refused 6 0)
+visitReading w len o (suc d) at (suc v) =
+    bind (ifdReading w len o at) (λ e.
+    bind (lookReading e) (afterLook e (λ p s n. childrenReading s (λ a u. visitReading w len o d a u) o n p v)))
 
 -- the children of a directory
 abbrev pub listVisit : Widths → ℕ → Order → ℕ → ℕ → ℕ → ℕ → ℕ → Reading (Out Walked)
-listVisit w size o d s n p v = childrenReading s (λ a u. visitReading w size o d a u) o n p v
+listVisit w len o d s n p v = childrenReading s (λ a u. visitReading w len o d a u) o n p v
 
 -- ---- the file
 
@@ -105,11 +105,11 @@ afterWalk first (left v) = answer (refused 6 0)
 
 -- from IFD 0, which is at depth 0 and the first of 16 visits: its children may be at depths 1 to 3
 unfoldable pub walkReading : ℕ → Ifd → Reading (Out Walked)
-walkReading size e = bind (lookReading e) (afterLook e (λ p s n. listVisit (e .widths) size (e .order) 3 s n p 15))
+walkReading len e = bind (lookReading e) (afterLook e (λ p s n. listVisit (e .widths) len (e .order) 3 s n p 15))
 
 -- IFD 0 at an offset: shape, version, then the walk
 unfoldable pub rootReading : Widths → ℕ → Order → ℕ → Reading (Out Roots)
-rootReading w size o at = bind (ifdReading w size o at) (λ e. bind (versionReading e) (λ _. bind (walkReading size e) (afterWalk e)))
+rootReading w len o at = bind (ifdReading w len o at) (λ e. bind (versionReading e) (λ _. bind (walkReading len e) (afterWalk e)))
 
 -- two lists of bytes are the same
 abbrev pub sameBytes : List ℕ → List ℕ → Bool
@@ -130,26 +130,26 @@ bigTiffMark Big = 0x4D ∷ 0x4D ∷ 0x00 ∷ 0x2B ∷ []
 
 -- IFD 0, whose offset stands at a place
 unfoldable pub offsetReading : Widths → ℕ → Order → ℕ → Reading (Out Roots)
-offsetReading w size o at = andThen (numberAt o at (w .word)) (rootReading w size o)
+offsetReading w len o at = andThen (numberAt o at (w .word)) (rootReading w len o)
 
 -- the rest of a 64-bit header: 1 "in a file under 16 bytes; 2 for an 8 or a 0 that is wrong"
 unfoldable pub bigTiffReading : ℕ → Order → Reading (Out Roots)
-bigTiffReading size o =
-    pick (ltb size 16) (answer (refused 1 0))
+bigTiffReading len o =
+    pick (ltb len 16) (answer (refused 1 0))
     (andThen (numberAt o 4 2) (λ a.
     pick (eqb a 8)
     (andThen (numberAt o 6 2) (λ z.
-    pick (eqb z 0) (offsetReading bigTiff size o 8) (answer (refused 2 0))))
+    pick (eqb z 0) (offsetReading bigTiff len o 8) (answer (refused 2 0))))
     (answer (refused 2 0))))
 
 -- 1: "file under 8 or over 67,108,864 bytes"; 2: the first four bytes; then IFD 0, whose offset follows
 unfoldable pub treeReading : ℕ → Reading (Out Roots)
-treeReading size =
-    pick (ltb size 8) (answer (refused 1 0))
-    (pick (ltb 67108864 size) (answer (refused 1 0))
+treeReading len =
+    pick (ltb len 8) (answer (refused 1 0))
+    (pick (ltb 67108864 len) (answer (refused 1 0))
     (ask 0 4 (λ m.
-    pick (sameBytes m (classicMark Little)) (offsetReading classic size Little 4)
-    (pick (sameBytes m (classicMark Big)) (offsetReading classic size Big 4)
-    (pick (sameBytes m (bigTiffMark Little)) (bigTiffReading size Little)
-    (pick (sameBytes m (bigTiffMark Big)) (bigTiffReading size Big)
+    pick (sameBytes m (classicMark Little)) (offsetReading classic len Little 4)
+    (pick (sameBytes m (classicMark Big)) (offsetReading classic len Big 4)
+    (pick (sameBytes m (bigTiffMark Little)) (bigTiffReading len Little)
+    (pick (sameBytes m (bigTiffMark Big)) (bigTiffReading len Big)
     (answer (refused 2 0))))))))

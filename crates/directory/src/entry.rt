@@ -6,7 +6,7 @@ ghost use lib.ListN.{length};
 ghost use Rattle.reading.specs.Bytes.{part};
 ghost use Rattle.directory.specs.Widths.{headWidth};
 ghost use Rattle.directory.specs.Facts.Widths.{Widths-in};
-ghost use Rattle.directory.specs.Entry.{kindOf, codeOf, plainOf, sizeOf, entryOf};
+ghost use Rattle.directory.specs.Entry.{kindOf, codeOf, plainOf, kindWidth, entryOf};
 use crate::Widths;
 use reading::number;
 use reading::number::Order;
@@ -75,7 +75,7 @@ fn kind_of(types: usize, t: usize) -> Kind
 // The bytes of one value of the type with a number; 0 where the layout does not know it.
 pub fn size_of(types: usize, t: usize) -> usize
     requires { ⌜ types < 19 ⌝ }
-    ensures { λ r. ⌜ (r ≡ sizeOf (kindOf types t)) × (r ≤ 8) ⌝ }
+    ensures { λ r. ⌜ (r ≡ kindWidth (kindOf types t)) × (r ≤ 8) ⌝ }
 {
     if t <= types { SIZES[t] as usize } else { 0 }
 }
@@ -118,7 +118,7 @@ pub fn plain(kind: Kind) -> usize
 
 // The bytes of one value; 0 where the type is unknown.
 pub fn size(kind: Kind) -> usize
-    ensures { λ r. ⌜ (r ≡ sizeOf kind) × (r ≤ 8) ⌝ }
+    ensures { λ r. ⌜ (r ≡ kindWidth kind) × (r ≤ 8) ⌝ }
 {
     let t = code(kind);
     SIZES[t] as usize

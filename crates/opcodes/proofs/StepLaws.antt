@@ -27,7 +27,7 @@ use Rattle.opcodes.specs.Facts.Grid.{Fits-in}
 use Rattle.opcodes.specs.Step.{hornerOf, mappedOf, resultOf, appliedOf, valueOf, coefficientsOf, polynomialOf}
 use Rattle.opcodes.specs.Opcode.{row, column, actOf, lineOf}
 use Rattle.opcodes.specs.OpcodeList.{listedId, countOf, rowsOf, columnsOf, tableForm, polynomialForm, linesForm, formOf}
-use Rattle.opcodes.specs.OpcodeList.{refusedReal, refusedAt, refusedIn, exactOf, plainFault, floatsOf, kindOf}
+use Rattle.opcodes.specs.OpcodeList.{refusedReal, refusedAt, refusedIn, exactOf, plainFault, floatsOf, opcodeKind}
 use Rattle.opcodes.specs.Facts.StepAt.{plainId, floatAt, FloatIn, stepOf}
 use Rattle.opcodes.specs.declared.grid.Size.{Size}
 use Rattle.opcodes.specs.declared.grid.Grid.{Grid}
@@ -256,7 +256,7 @@ module _ (f : List ℕ) (at n : ℕ) (z : Size) (id : ℕ) (inside : at + n ≤ 
   m = countOf ps
 
   abbrev Acts : Type 0
-  Acts = appliedOf (stepOf f at id (lineOf row g r c) (lineOf column g r c)) f x ≡ actOf (kindOf z id ps) g r c p x
+  Acts = appliedOf (stepOf f at id (lineOf row g r c) (lineOf column g r c)) f x ≡ actOf (opcodeKind z id ps) g r c p x
 
   size : length ps ≡ n
   size = length-part f at n inside
@@ -272,7 +272,7 @@ module _ (f : List ℕ) (at n : ℕ) (z : Size) (id : ℕ) (inside : at + n ≤ 
       (eqb (length ps) (36 + k .bytes)) h .0
 
   acts-7 : id ≡ 7 → Acts
-  unfolding actOf kindOf pick
+  unfolding actOf opcodeKind pick
   acts-7 e =
       let k = form-table g id m (eq-eqb id 7 e) in
       let b = bytes (tableForm m) k in
@@ -281,7 +281,7 @@ module _ (f : List ℕ) (at n : ℕ) (z : Size) (id : ℕ) (inside : at + n ≤ 
 
   module _ (n7 : id ≡ 7 → ⊥) where
     acts-8 : id ≡ 8 → unit x → Acts
-    unfolding actOf kindOf pick
+    unfolding actOf opcodeKind pick
     acts-8 e u =
         let k = form-polynomial g id m (ne-eqb id 7 n7) (eq-eqb id 8 e) in
         let b = bytes (polynomialForm m) k in
@@ -311,7 +311,7 @@ module _ (f : List ℕ) (at n : ℕ) (z : Size) (id : ℕ) (inside : at + n ≤ 
           (omega arith, omega arith)
 
       acts-10 : id ≡ 10 → Acts
-      unfolding actOf kindOf pick
+      unfolding actOf opcodeKind pick
       acts-10 e =
           let l = row-line (rw (eq-eqb id 10 e) refl) in
           ap (λ (s : Step). appliedOf s f x) (sym (step-10 f at id _ _ n7 n8 e)) ∙ add-step f at n 0 0 x enough m _ (l .0) (l .1)
@@ -319,7 +319,7 @@ module _ (f : List ℕ) (at n : ℕ) (z : Size) (id : ℕ) (inside : at + n ≤ 
 
       module _ (n10 : id ≡ 10 → ⊥) where
         acts-11 : id ≡ 11 → Acts
-        unfolding actOf kindOf pick
+        unfolding actOf opcodeKind pick
         acts-11 e =
             let l = column-line (rw (ne-eqb id 10 n10, ne-eqb id 12 (λ q. omega arith)) refl) in
             ap (λ (s : Step). appliedOf s f x) (sym (step-11 f at id _ _ n7 n8 n10 e)) ∙ add-step f at n 0 0 x enough m _ (l .0) (l .1)
@@ -327,7 +327,7 @@ module _ (f : List ℕ) (at n : ℕ) (z : Size) (id : ℕ) (inside : at + n ≤ 
 
         module _ (n11 : id ≡ 11 → ⊥) where
           acts-12 : id ≡ 12 → Acts
-          unfolding actOf kindOf pick
+          unfolding actOf opcodeKind pick
           acts-12 e =
               let l = row-line (rw (ne-eqb id 10 n10, eq-eqb id 12 e) refl) in
               ap (λ (s : Step). appliedOf s f x) (sym (step-12 f at id _ _ n7 n8 n10 n11 e))
@@ -335,7 +335,7 @@ module _ (f : List ℕ) (at n : ℕ) (z : Size) (id : ℕ) (inside : at + n ≤ 
               ∙ rw (ne-eqb id 7 n7, ne-eqb id 8 n8, ne-eqb id 9 n9, ne-eqb id 10 n10, ne-eqb id 11 n11, eq-eqb id 12 e) refl
 
           acts-13 : (id ≡ 12 → ⊥) → Acts
-          unfolding actOf kindOf pick
+          unfolding actOf opcodeKind pick
           acts-13 e =
               let l = column-line (rw (ne-eqb id 10 n10, ne-eqb id 12 e) refl) in
               ap (λ (s : Step). appliedOf s f x) (sym (step-13 f at id _ _ n7 n8 n10 n11 e))

@@ -15,17 +15,17 @@ pub data Along : Type 0 where
   row column : Along
 
 -- MapTable, MapPolynomial, DeltaPerRow and DeltaPerColumn, ScalePerRow and ScalePerColumn, and GainMap with the active frame's size
-pub data Kind : Type 0 where
-  table : List ℕ → Kind
-  polynomial : List Float → Kind
-  delta : Along → List Float → Kind
-  scale : Along → List Float → Kind
-  gain : Size → GainMap → Kind
+pub data OpcodeKind : Type 0 where
+  table : List ℕ → OpcodeKind
+  polynomial : List Float → OpcodeKind
+  delta : Along → List Float → OpcodeKind
+  scale : Along → List Float → OpcodeKind
+  gain : Size → GainMap → OpcodeKind
 
 -- "a skipped one has no grid"
 pub data Opcode : Type 0 where
   skipped : Opcode
-  kept : Grid → Kind → Opcode
+  kept : Grid → OpcodeKind → Opcode
 
 -- which of an opcode's values belongs to a row or a column
 abbrev pub lineOf : Along → Grid → ℕ → ℕ → ℕ
@@ -33,7 +33,7 @@ lineOf row g r c = (r - g .top) / g .«row_pitch»
 lineOf column g r c = (c - g .left) / g .«column_pitch»
 
 -- the result at a row, a column and a plane, before the clip
-abbrev pub kindResult : Kind → Grid → ℕ → ℕ → ℕ → Float → Float
+abbrev pub kindResult : OpcodeKind → Grid → ℕ → ℕ → ℕ → Float → Float
 kindResult (table t) g r c p x = mappedOf t x
 kindResult (polynomial cs) g r c p x = hornerOf cs x
 kindResult (delta a vs) g r c p x = add binary64 x (getD vs (lineOf a g r c) plusZero)
@@ -41,7 +41,7 @@ kindResult (scale a vs) g r c p x = mul binary64 x (getD vs (lineOf a g r c) plu
 kindResult (gain z m) g r c p x = mul binary64 x (gainOf m z r c (p - g .plane))
 
 -- "At every sample of its grid the number x that stands there is replaced by the clipped result"
-unfoldable pub actOf : Kind → Grid → ℕ → ℕ → ℕ → Float → Float
+unfoldable pub actOf : OpcodeKind → Grid → ℕ → ℕ → ℕ → Float → Float
 actOf k g r c p x = clipOf (kindResult k g r c p x)
 
 -- "all other numbers stay. A skipped correction changes none"

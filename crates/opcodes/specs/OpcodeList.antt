@@ -18,7 +18,7 @@ use Rattle.directory.specs.Out.{Out, Out.refused, Out.is, bind}
 use Rattle.opcodes.specs.Grid.{longOf, linesOf, gridOf, fitsOf}
 use Rattle.opcodes.specs.Step.{floatIn, coefficientsOf}
 use Rattle.opcodes.specs.GainMap.{gainMapOf, gainMapLegal, gainsIn}
-use Rattle.opcodes.specs.Opcode.{row, column, Kind, table, polynomial, delta, scale, gain, Opcode, skipped, kept}
+use Rattle.opcodes.specs.Opcode.{row, column, OpcodeKind, table, polynomial, delta, scale, gain, Opcode, skipped, kept}
 use Rattle.opcodes.specs.declared.grid.Size.{Size}
 use Rattle.opcodes.specs.declared.grid.Grid.{Grid}
 use Rattle.opcodes.specs.declared.list.Header.{Header}
@@ -108,8 +108,8 @@ opcodeFault z id ps = pick (eqb id 9) (gainMapFault z ps) (plainFault z id ps)
 abbrev pub floatsOf : List ℕ → ℕ → ℕ → List Float
 floatsOf f at n = runOf (floatIn f) 4 at n
 
-unfoldable pub kindOf : Size → ℕ → List ℕ → Kind
-kindOf z id ps =
+unfoldable pub opcodeKind : Size → ℕ → List ℕ → OpcodeKind
+opcodeKind z id ps =
     pick (eqb id 7) (table (tableOf Big ps 36 (countOf ps)))
     (pick (eqb id 8) (polynomial (coefficientsOf ps 36 (countOf ps + 1)))
     (pick (eqb id 9) (gain z (gainMapOf ps))
@@ -119,7 +119,7 @@ kindOf z id ps =
 
 -- a carried opcode, i-th of the list, from its id and its parameters
 unfoldable pub parametersOf : Size → ℕ → ℕ → List ℕ → Out Opcode
-parametersOf z i id ps = pick (eqb (opcodeFault z id ps) 0) (is (kept (gridOf ps) (kindOf z id ps))) (refused (opcodeFault z id ps) i)
+parametersOf z i id ps = pick (eqb (opcodeFault z id ps) 0) (is (kept (gridOf ps) (opcodeKind z id ps))) (refused (opcodeFault z id ps) i)
 
 -- ---- the list
 -- one opcode, i-th of the list, whose header stands at a place; a skipped opcode's parameters are not read

@@ -17,6 +17,7 @@ use Rattle.levels.specs.Run.{runOf}
 use Rattle.levels.specs.Table.{tableOf, throughOf}
 use Rattle.opcodes.specs.declared.step.Step.{Step}
 use Rattle.opcodes.specs.declared.step.Step.the-variants.{Add, Scale, Polynomial, Table}
+use Rattle.opcodes.specs.Grid.{longOf}
 
 -- 0.5 and -0.0
 abbrev pub half : Float
@@ -40,11 +41,8 @@ abbrev pub mappedOf : List ℕ → Float → Float
 mappedOf t x = scaledOf (throughOf t (indexOf x))
 
 -- the table at a place of the file: a LONG, its size, and "that many SHORT"
-abbrev pub sizeAt : List ℕ → ℕ → ℕ
-sizeAt f at = numberOf Big (part f at 4)
-
 abbrev pub tableAt : List ℕ → ℕ → List ℕ
-tableAt f at = tableOf Big f (at + 4) (sizeAt f at)
+tableAt f at = tableOf Big f (at + 4) (longOf f at)
 
 -- the result, before the clip, of a step that was taken from the file
 unfoldable pub resultOf : Step → List ℕ → Float → Float

@@ -3,8 +3,10 @@ ghost use mathlib.Core.Path.{_≡_};
 ghost use Prim.Native.Nat.{_+_, _*_, _≤_, _<_, min};
 ghost use lib.ListN.{getD, length};
 ghost use Rattle.levels.specs.Clip.{clipOf};
-ghost use Rattle.opcodes.specs.Step.{minusZero, indexOf, mappedOf, sizeAt, tableAt, appliedOf, valueOf, coefficientsOf, polynomialOf};
+ghost use Rattle.opcodes.specs.Step.{minusZero, indexOf, mappedOf, tableAt, appliedOf, valueOf, coefficientsOf, polynomialOf};
 ghost use Rattle.opcodes.specs.Facts.Step.{TableIn, StepIn};
+ghost use Rattle.opcodes.specs.Grid.{longOf};
+use crate::grid;
 use levels::table;
 use reading::number;
 use reading::number::Order;
@@ -41,17 +43,9 @@ fn index(x: f64) -> u16
     0
 }
 
-// The size of the table at a place.
-pub fn table_size(file: &[u8], at: usize) -> usize
-    requires { ⌜ at + 4 ≤ length (now file) ⌝ }
-    ensures { λ r. ⌜ r ≡ sizeAt (now (file .entry)) at ⌝ }
-{
-    number::long(file, Order::Big, at) as usize
-}
-
 // x through the table of a size at a place.
 pub fn mapped(file: &[u8], at: usize, size: usize, x: f64) -> f64
-    requires { ⌜ TableIn (now file) at × (size ≡ sizeAt (now file) at) ⌝ }
+    requires { ⌜ TableIn (now file) at × (size ≡ longOf (now file) at) ⌝ }
     ensures { λ r. ⌜ r ≡ mappedOf (tableAt (now (file .entry)) at) x ⌝ }
 {
     levels::scaled(table::through(file, Order::Big, at + 4, size, index(x)))
@@ -74,7 +68,7 @@ fn unit_index(x: f64) -> u16
 
 // A number from 0 to 1 through the table; it needs no clip.
 pub fn unit_mapped(file: &[u8], at: usize, size: usize, x: f64) -> f64
-    requires { ⌜ TableIn (now file) at × (size ≡ sizeAt (now file) at) × (clipOf x ≡ x) ⌝ }
+    requires { ⌜ TableIn (now file) at × (size ≡ longOf (now file) at) × (clipOf x ≡ x) ⌝ }
     ensures { λ r. ⌜ r ≡ clipOf (mappedOf (tableAt (now (file .entry)) at) x) ⌝ }
 {
     levels::scaled(table::through(file, Order::Big, at + 4, size, unit_index(x)))
@@ -93,7 +87,7 @@ pub fn apply(step: Step, file: &[u8], x: f64) -> f64
                 + a0);
             clip(p)
         }
-        Step::Table(at) => clip(mapped(file, at, table_size(file, at), x)),
+        Step::Table(at) => clip(mapped(file, at, grid::field(file, at), x)),
     }
 }
 

@@ -17,8 +17,8 @@ rawWith t s = record { tags = t; spans = s }
 
 -- "the raw tags, 9": S is worked out from the values that the tags hold
 unfoldable pub rawReading : ℕ → Ifd → Reading (Out Raw)
-rawReading size d =
-    bind (tagsReading size d) (λ t.
+rawReading len d =
+    bind (tagsReading len d) (λ t.
     bind (andThen (levelsReading (d .order) t) (λ l. answer (spannedOf l))) (λ s.
     answer (is (rawWith t s))))
 
@@ -27,5 +27,5 @@ pictureOf first d r = record { first = first; directory = d; order = d .order; r
 
 -- "1, 2, the tree, the raw tags, 9"
 unfoldable pub frontReading : ℕ → Reading (Out Picture)
-frontReading size =
-    bind (treeReading size) (λ roots. bind (rawReading size (roots .raw)) (λ r. answer (is (pictureOf (roots .first) (roots .raw) r))))
+frontReading len =
+    bind (treeReading len) (λ roots. bind (rawReading len (roots .raw)) (λ r. answer (is (pictureOf (roots .first) (roots .raw) r))))

@@ -19,7 +19,7 @@ use Rattle.levels.specs.declared.black.BlackKind.the-variants as kind
 use Rattle.reading.proofs.Bytes.{part-part}
 use Rattle.reading.proofs.Reading.{running, run-answer}
 use Rattle.directory.specs.Out.{Out.is}
-use Rattle.directory.specs.Entry.{sizeOf}
+use Rattle.directory.specs.Entry.{kindWidth}
 use Rattle.directory.specs.declared.entry.Kind.{Kind}
 use Rattle.directory.proofs.Tags.{number-or-fraction}
 use Rattle.directory.specs.Tag.{allowsOf, range, allReading}
@@ -40,8 +40,8 @@ use Rattle.rawtags.specs.Facts.White.{WhitesIn}
 use Rattle.rawtags.proofs.Ranges.{each-to}
 
 -- the bytes of the type
-pub width-for : (k : Kind) → allowsOf kinds.ShortLongOrRational k ≡ true → sizeOf k ≡ widthOf (kindFor k)
-unfolding kindFor pick sizeOf
+pub width-for : (k : Kind) → allowsOf kinds.ShortLongOrRational k ≡ true → kindWidth k ≡ widthOf (kindFor k)
+unfolding kindFor pick kindWidth
 width-for k h = ⊎-elim (λ e. rw e) (λ q. ⊎-elim (λ r. ⊎-elim (λ e. rw e) (λ e. rw e) r) (λ e. rw e) q) (number-or-fraction k h)
 
 pub width-most : (k : BlackKind) → widthOf k ≤ 8

@@ -8,7 +8,7 @@ use Rattle.reading.specs.Reading.{run, andThen, pick, numberAt}
 use Rattle.reading.specs.declared.number.Order.the-variants.{Little}
 use Rattle.directory.specs.Out.{Out, Out.refused, Out.is, bind}
 use Rattle.directory.specs.Widths.{classic}
-use Rattle.directory.specs.Entry.{kindOf, plainOf, sizeOf, entryOf}
+use Rattle.directory.specs.Entry.{kindOf, plainOf, kindWidth, entryOf}
 use Rattle.directory.specs.Shape.{ifd}
 use Rattle.directory.specs.Tag.{findFrom, wholeReading, valueReading, testedReading, absentOf, valuesReading, rangeFault, judgedOf}
 use Rattle.directory.specs.Tag.{firstReading, oneReading}
@@ -48,7 +48,7 @@ pub record Worked : Type 0 where
       ∷ refused 8 50710 ∷ refused 4 50711 ∷ refused 8 50711 ∷ []
 
 pub worked : Worked
-unfolding run andThen pick numberAt numberOf littleOf bind kindOf plainOf sizeOf entryOf findFrom wholeReading valueReading testedReading
+unfolding run andThen pick numberAt numberOf littleOf bind kindOf plainOf kindWidth entryOf findFrom wholeReading valueReading testedReading
     absentOf
     valuesReading rangeFault judgedOf firstReading oneReading eachReading allReading oneOf firstOf lastOf placesOf fourColoursReading
     cfaPatternReading

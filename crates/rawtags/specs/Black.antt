@@ -30,9 +30,9 @@ blackOut tag (black.Parts b) = is 0
 blackOut tag black.Illegal = refused 4 tag
 blackOut tag black.NotCarried = refused 8 tag
 
--- so many values of a size from a place on, in stored order: the first that is illegal or not carried refuses
+-- so many values of a width from a place on, in stored order: the first that is illegal or not carried refuses
 unfoldable pub blacksTest : Order → ℕ → BlackKind → ℕ → ℕ → ℕ → Reading (Out ℕ)
-blacksTest o tag k size n p = ask p (size * n) (λ bs. answer (blackOut tag (firstRefused (runOf (blackAt k o bs) size 0 n))))
+blacksTest o tag k width n p = ask p (width * n) (λ bs. answer (blackOut tag (firstRefused (runOf (blackAt k o bs) width 0 n))))
 
 abbrev pub blackRule : Repeat → ℕ → Rule
 blackRule r s = optional blackLevel kinds.ShortLongOrRational (r .rows * r .columns * s)

@@ -19,10 +19,10 @@ abbrev pub activeColumns : Area → ℕ
 activeColumns a = a .right - a .left
 
 unfoldable pub tagsReading : ℕ → Ifd → Reading (Out Tags)
-tagsReading size d =
+tagsReading len d =
     bind (frameReading d) (λ f.
     bind (layoutReading d (f .samples)) (λ l.
-    bind (stripsReading size d f l) (λ s.
+    bind (stripsReading len d f l) (λ s.
     bind (areaReading d f) (λ a.
     bind (levelTagsReading d (f .samples) (activeRows a) (activeColumns a)) (λ v.
     bind (listTagReading d) (λ o.

@@ -13,7 +13,7 @@ use Rattle.rawtags.specs.declared.repeat.Repeat.{Repeat}
 
 -- one of the two: "0 illegal, above 8 not carried"
 unfoldable pub sideReading : Order → ℕ → ℕ → Reading (Out ℕ)
-sideReading o at size = andThen (numberAt o at size) (λ n. answer (judgedOf blackLevelRepeatDim (range 1 1 8) n))
+sideReading o at width = andThen (numberAt o at width) (λ n. answer (judgedOf blackLevelRepeatDim (range 1 1 8) n))
 
 unfoldable pub pairReading : Order → Values → Reading (Out Repeat)
 pairReading o v =

@@ -24,12 +24,12 @@ rowBytes f l = f .width * f .samples * l .bytes
 -- so many strips, whose offsets and byte counts start at two places, with so many rows left:
 -- "byte count must be exactly its rows x width x samples x bytes (4, tag 279); the strip must lie in the file (4, tag 273)"
 unfoldable pub stripFrom : ℕ → Order → ℕ → ℕ → ℕ → ℕ → ℕ → ℕ → ℕ → ℕ → Reading (Out ℕ)
-stripFrom size o wide broad rows row zero p q rest = answer (is 0)
-stripFrom size o wide broad rows row (suc n) p q rest =
+stripFrom len o wide broad rows row zero p q rest = answer (is 0)
+stripFrom len o wide broad rows row (suc n) p q rest =
     andThen (numberAt o q broad) (λ b.
     pick (eqb b (min rows rest * row))
     (andThen (numberAt o p wide) (λ a.
-    pick (leb (a + b) size) (stripFrom size o wide broad rows row n (p + wide) (q + broad) (rest - min rows rest)) (answer (refused 4 stripOffsets))))
+    pick (leb (a + b) len) (stripFrom len o wide broad rows row n (p + wide) (q + broad) (rest - min rows rest)) (answer (refused 4 stripOffsets))))
     (answer (refused 4 stripByteCounts)))
 
 abbrev pub offsetsRule : Dimensions → Layout → Rule
@@ -40,8 +40,8 @@ countsRule f l = required stripByteCounts kinds.ShortOrLong (stripCount f l)
 
 -- StripOffsets, StripByteCounts: "SHORT or LONG, required, count = length / rows per strip, rounded up. Then strip by strip"
 unfoldable pub stripsReading : ℕ → Ifd → Dimensions → Layout → Reading (Out Values)
-stripsReading size d f l =
+stripsReading len d f l =
     bind (valuesReading d (offsetsRule f l)) (λ os.
     bind (valuesReading d (countsRule f l)) (λ cs.
-    bind (stripFrom size (d .order) (os .size) (cs .size) (l .rows) (rowBytes f l) (stripCount f l) (os .place) (cs .place) (f .length)) (λ _.
+    bind (stripFrom len (d .order) (os .size) (cs .size) (l .rows) (rowBytes f l) (stripCount f l) (os .place) (cs .place) (f .length)) (λ _.
     answer (is os))))

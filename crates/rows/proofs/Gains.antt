@@ -19,7 +19,7 @@ use Rattle.opcodes.specs.GainMap.{downOf, planesIn, gainMapOf, gainOf}
 use Rattle.opcodes.specs.Facts.Bracket.{GainMap-in, Bracket-of, gainIn}
 use Rattle.opcodes.specs.Opcode.{opcodeAt, actOf}
 use Rattle.opcodes.specs.Step.{resultOf, appliedOf}
-use Rattle.opcodes.specs.OpcodeList.{gainMapFault, kindOf}
+use Rattle.opcodes.specs.OpcodeList.{gainMapFault, opcodeKind}
 use Rattle.opcodes.specs.declared.grid.Size.{Size}
 use Rattle.opcodes.specs.declared.grid.Grid.{Grid}
 use Rattle.opcodes.specs.declared.list.Header.{Header}
@@ -34,7 +34,7 @@ use Rattle.rows.specs.Facts.Sweep.{planesOf, overPart}
 use Rattle.rows.specs.Facts.GainMap.{columnAt, gainLine}
 use Rattle.rows.specs.Facts.Part.{Kept-in, Plain-in, keptOf, gainedOf}
 use Rattle.samples.proofs.Eaches.{each-same, each-none}
-use Rattle.rows.proofs.Hits.{whole}
+use Rattle.rows.proofs.GridColumns.{whole}
 use Rattle.rows.proofs.Sweeps.{every-told, line-first, line-more}
 
 -- ---- the active columns of a grid's columns
@@ -147,5 +147,5 @@ module _ (f : List ℕ) (z : Size) (at : ℕ) (h : Header) (k : Kept-in f z at h
   kept-gained e = fault-map z (h .id) bytes e ∙ k .accepted
 
   pub gained-kept : h .id ≡ 9 → gainedOf z bytes ≡ keptOf f z at h
-  unfolding kindOf pick
+  unfolding opcodeKind pick
   gained-kept e = rw (ne-eqb (h .id) 7 (λ q. omega arith), ne-eqb (h .id) 8 (λ q. omega arith), eq-eqb (h .id) 9 e)

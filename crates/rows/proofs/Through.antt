@@ -16,7 +16,7 @@ use Rattle.opcodes.specs.Opcode.{Opcode}
 use Rattle.samples.specs.Facts.Line.{scaledFrom, scaledPart}
 use Rattle.samples.proofs.Eaches.{each-length, each-at, each-each}
 use Rattle.rows.specs.Facts.Part.{All-in-unit}
-use Rattle.rows.specs.Facts.Walk.{alonePart, developedPart}
+use Rattle.rows.specs.Facts.ListPart.{alonePart, developedPart}
 
 pub scaled-in-unit : (f : List ℕ) (o : Order) (t : Tags) (r c p : ℕ) → unit (scaledFrom f o t r c p)
 unfolding scaledSample Rattle.levels.specs.Levels.levelAt

@@ -2,4 +2,4 @@
 pub mod GainMap
 pub mod Part
 pub mod Sweep
-pub mod Walk
+pub mod ListPart

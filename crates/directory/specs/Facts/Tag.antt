@@ -10,7 +10,7 @@ use Rattle.reading.specs.Number.{numberOf}
 use Rattle.reading.specs.Facts.Number.{Wide}
 use Rattle.reading.specs.declared.number.Order.{Order}
 use Rattle.directory.specs.Out.{Out, Out.refused, Out.is}
-use Rattle.directory.specs.Entry.{sizeOf, bytesOf}
+use Rattle.directory.specs.Entry.{kindWidth, bytesOf}
 use Rattle.directory.specs.declared.Widths.{Widths}
 use Rattle.directory.specs.declared.Number.{Number}
 use Rattle.directory.specs.declared.Number.the-variants as number
@@ -32,8 +32,8 @@ valuesOut (given.Is v) = is v
 
 -- the value or offset of an entry that was found lies in the file
 abbrev pub FoundIn : Widths → ℕ → Found → Type 0
-FoundIn w size found.Absent = Unit {0}
-FoundIn w size (found.At p e) = p + w .word ≤ size
+FoundIn w len found.Absent = Unit {0}
+FoundIn w len (found.At p e) = p + w .word ≤ len
 
 -- and so does a value that stands elsewhere
 unfoldable pub Placed : Widths → List ℕ → Order → ℕ → Entry → Type 0
@@ -66,17 +66,17 @@ Numeric kinds.ShortLongOrRational = ⊥
 Numeric kinds.SignedRational = ⊥
 Numeric kinds.Undefined = ⊥
 
-pub record Placed-values (size : ℕ) (r : Rule) (v : Values) : Type 0 where
-  pub inside : v .place + v .size * v .count ≤ size
-  pub typed : 0 < v .count → (allowsOf (r .kinds) (v .kind) ≡ true) × (v .size ≡ sizeOf (v .kind))
+pub record Placed-values (len : ℕ) (r : Rule) (v : Values) : Type 0 where
+  pub inside : v .place + v .size * v .count ≤ len
+  pub typed : 0 < v .count → (allowsOf (r .kinds) (v .kind) ≡ true) × (v .size ≡ kindWidth (v .kind))
   pub sized : 0 < v .count → SizeIn (r .kinds) (v .size)
   pub enough : 0 < v .count → r .least ≤ v .count
   pub within : v .count ≤ r .most
   pub present : r .required ≡ true → r .least ≤ v .count
 
 abbrev pub ValuesIn : ℕ → Rule → ValuesTest → Type 0
-ValuesIn size r (given.Refused n d) = Unit {0}
-ValuesIn size r (given.Is v) = Placed-values size r v
+ValuesIn len r (given.Refused n d) = Unit {0}
+ValuesIn len r (given.Is v) = Placed-values len r v
 
 pub record InRange (r : Range) (v : ℕ) : Type 0 where
   pub legal : r .legal ≤ v

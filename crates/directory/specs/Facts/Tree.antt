@@ -29,9 +29,9 @@ treeOut (tree.Refused n d) = refused n d
 treeOut (tree.Is r) = is r
 
 abbrev pub LookIn : ℕ → Look → Type 0
-LookIn size look.Raw = Unit {0}
-LookIn size (look.Refused n d) = Unit {0}
-LookIn size (look.Into p s n) = (n ≤ 16) × (p + s * n ≤ size) × (0 < n → Wide s)
+LookIn len look.Raw = Unit {0}
+LookIn len (look.Refused n d) = Unit {0}
+LookIn len (look.Into p s n) = (n ≤ 16) × (p + s * n ≤ len) × (0 < n → Wide s)
 
 abbrev pub WalkIn : List ℕ → Walk → Type 0
 WalkIn f (walk.Raw d) = Tested f d

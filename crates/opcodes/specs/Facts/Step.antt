@@ -5,13 +5,13 @@ use lib.ListN.{length}
 use Rattle.levels.specs.Level.{most}
 use Rattle.opcodes.specs.declared.step.Step.{Step}
 use Rattle.opcodes.specs.declared.step.Step.the-variants.{Add, Scale, Polynomial, Table}
-use Rattle.opcodes.specs.Step.{sizeAt}
+use Rattle.opcodes.specs.Grid.{longOf}
 
 -- "size 1 to 65,536", in the file
 pub record TableIn (f : List ℕ) (at : ℕ) : Type 0 where
-  pub some : 1 ≤ sizeAt f at
-  pub most : sizeAt f at ≤ 65536
-  pub inside : at + 4 + 2 * sizeAt f at ≤ length f
+  pub some : 1 ≤ longOf f at
+  pub most : longOf f at ≤ 65536
+  pub inside : at + 4 + 2 * longOf f at ≤ length f
 
 abbrev pub StepIn : List ℕ → Step → Type 0
 StepIn f (Add d) = Unit {0}

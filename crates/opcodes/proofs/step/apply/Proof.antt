@@ -29,8 +29,8 @@ clip-requires-3 c κs = search needs
 enum-known-step-4 : tie.Need-enum-known-step-4
 enum-known-step-4 c = search needs
 
-table-size-requires : tie.Need-table-size-requires
-table-size-requires c κs =
+field-requires : tie.Need-field-requires
+field-requires c κs =
     let a = c .before .before .before .before .args in
     let pre = c .before .before .before .before .pre in
     let t : TableIn (now (a .file)) _ = subst (StepIn (now (a .file))) (c .before .step4 .given .1) pre in omega (arith, t .inside)
@@ -39,7 +39,7 @@ mapped-requires : tie.Need-mapped-requires
 mapped-requires c κs =
     let a = c .before .before .before .before .before .args in
     let pre = c .before .before .before .before .before .pre in
-    (subst (StepIn (now (a .file))) (c .before .before .step4 .given .1) pre, c .table-size .ensures)
+    (subst (StepIn (now (a .file))) (c .before .before .step4 .given .1) pre, c .field .ensures .0)
 
 clip-requires-4 : tie.Need-clip-requires-4
 clip-requires-4 c κs = search needs
@@ -65,4 +65,4 @@ returns-4 c =
 pub apply-spec : {M : Type 1} → statement M
 apply-spec =
     tie.close (tie.spec enum-known-step clip-requires enum-known-step-2 clip-requires-2 enum-known-step-3 clip-requires-3 enum-known-step-4
-    table-size-requires mapped-requires clip-requires-4 returns returns-2 returns-3 returns-4)
+    field-requires mapped-requires clip-requires-4 returns returns-2 returns-3 returns-4)

@@ -9,17 +9,18 @@ use Rattle.reading.specs.Number.{numberOf}
 use Rattle.reading.specs.declared.number.Order.the-variants.{Big}
 use Rattle.levels.specs.Level.{scaledOf}
 use Rattle.levels.specs.Table.{tableOf, throughOf}
-use Rattle.opcodes.specs.Step.{indexOf, sizeAt, tableAt}
+use Rattle.opcodes.specs.Step.{indexOf, tableAt}
 use Rattle.opcodes.specs.Facts.Step.{TableIn}
 use Rattle.opcodes.proofs.Tables.{through-capped}
 use borrow.Author.Needs.{needs}
 use Rattle.opcodes.proofs.step.mapped.Statement.{statement}
 use Rattle.opcodes.proofs.step.mapped.Tie as tie
+use Rattle.opcodes.specs.Grid.{longOf}
 
-through-is : (f : List ℕ) (at : ℕ) (x : Float) (n k : ℕ) → n ≡ sizeAt f at → k ≡ min (indexOf x) 65535 → TableIn f at →
+through-is : (f : List ℕ) (at : ℕ) (x : Float) (n k : ℕ) → n ≡ longOf f at → k ≡ min (indexOf x) 65535 → TableIn f at →
     throughOf (tableOf Big f (at + 4) n) k ≡ throughOf (tableAt f at) (indexOf x)
 through-is f at x n k e h t =
-    rw (e, h) (through-capped (λ (p : ℕ). numberOf Big (part f p 2)) 2 (at + 4) (sizeAt f at) (indexOf x) (t .some) (t .most))
+    rw (e, h) (through-capped (λ (p : ℕ). numberOf Big (part f p 2)) 2 (at + 4) (longOf f at) (indexOf x) (t .some) (t .most))
 
 add-through : tie.Need-add-through
 add-through c = omega (arith, c .before .pre .0 .inside)

@@ -9,10 +9,11 @@ use Rattle.levels.specs.Clip.{clipOf}
 use Rattle.levels.specs.Level.{scaledOf}
 use Rattle.levels.specs.Table.{tableOf, throughOf}
 use Rattle.levels.proofs.UnitRange.{scaled-unit}
-use Rattle.opcodes.specs.Step.{indexOf, mappedOf, sizeAt, tableAt}
+use Rattle.opcodes.specs.Step.{indexOf, mappedOf, tableAt}
 use borrow.Author.Needs.{needs}
 use Rattle.opcodes.proofs.step.unit_mapped.Statement.{statement}
 use Rattle.opcodes.proofs.step.unit_mapped.Tie as tie
+use Rattle.opcodes.specs.Grid.{longOf}
 
 add-through : tie.Need-add-through
 add-through c = omega (arith, c .before .pre .0 .inside)
@@ -27,7 +28,7 @@ scaled-requires : tie.Need-scaled-requires
 scaled-requires c κs = search needs
 
 -- what is read, as the table has it
-read : (f : List ℕ) (at n k l : ℕ) (x : Float) → n ≡ sizeAt f at → k ≡ indexOf x → l ≡ throughOf (tableOf Big f (at + 4) n) k → l ≤ 65535 →
+read : (f : List ℕ) (at n k l : ℕ) (x : Float) → n ≡ longOf f at → k ≡ indexOf x → l ≡ throughOf (tableOf Big f (at + 4) n) k → l ≤ 65535 →
     scaledOf l ≡ clipOf (mappedOf (tableAt f at) x)
 read f at n k l x e h q b = sym (scaled-unit l b) ∙ ap (λ (m : ℕ). clipOf (scaledOf m)) (rw (← e, ← h) q)
 

@@ -11,7 +11,7 @@ use Rattle.opcodes.specs.declared.gain_map.Bracket.{Bracket}
 use Rattle.rows.specs.Facts.Sweep.{sweptOf, planesOf}
 use Rattle.rows.specs.Facts.GainMap.{timesGain, gainLine}
 use Rattle.rows.proofs.Gains.{column-below}
-use Rattle.rows.proofs.Hits.{planes-start, planes-next, end-short, hits}
+use Rattle.rows.proofs.GridColumns.{planes-start, planes-next, end-short, hits}
 use Rattle.rows.proofs.gain_map.gain_planes.Statement.{statement}
 use Rattle.rows.proofs.gain_map.gain_planes.Tie as tie
 
