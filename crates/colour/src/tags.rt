@@ -52,31 +52,16 @@ fn matrix_of(file: &[u8], ifd: Ifd) -> MatrixTest
     let place = v.place;
     let order = ifd.order;
     let kind = FractionKind::SignedRational;
-    let x = match value::triple_at(file, order, kind, 8, names::FORWARD_MATRIX_1, false, place) {
+    let detail = names::FORWARD_MATRIX_1;
+    let x = match value::triple_at(file, order, kind, 8, detail, false, place) {
         TripleTest::Refused { number, detail } => return MatrixTest::Refused { number, detail },
         TripleTest::Is(t) => t,
     };
-    let y = match value::triple_at(
-        file,
-        order,
-        kind,
-        8,
-        names::FORWARD_MATRIX_1,
-        false,
-        place + 24,
-    ) {
+    let y = match value::triple_at(file, order, kind, 8, detail, false, place + 24) {
         TripleTest::Refused { number, detail } => return MatrixTest::Refused { number, detail },
         TripleTest::Is(t) => t,
     };
-    let z = match value::triple_at(
-        file,
-        order,
-        kind,
-        8,
-        names::FORWARD_MATRIX_1,
-        false,
-        place + 48,
-    ) {
+    let z = match value::triple_at(file, order, kind, 8, detail, false, place + 48) {
         TripleTest::Refused { number, detail } => return MatrixTest::Refused { number, detail },
         TripleTest::Is(t) => t,
     };
