@@ -30,22 +30,13 @@ use Rattle.opcodes.proofs.Listing.{value-none}
 use Rattle.opcodes.proofs.Swaps.{swapped-length, swapped-unread, swapped-inside, list-swapped, swapped-counts, alone-swapped}
 use Rattle.colour.specs.declared.Colour.{Colour}
 use Rattle.colour.specs.declared.pixel.Xyz.{Xyz}
-use Rattle.develop.specs.Calls.{Opened, openReading, opened, sizeOf, opcodesOf, colourFor, scaledIn, frameOf, pixelIn}
-use Rattle.half.specs.Half.{halfFor}
-use Rattle.develop.specs.Calls.{channelOf}
-use Rattle.half.specs.Half.{blocksOf}
-use Rattle.develop.specs.Calls.{within, valuesOf, Window, filledOf}
-use Rattle.half.specs.Half.{blockIn}
-use Rattle.develop.specs.Calls.{spotOf, spotCall, windowOf, windowCall, colouredOf, colourWindowOf}
+use Rattle.develop.specs.Calls.{Opened, openReading, opened, sizeOf, opcodesOf, colourFor, scaledIn, frameOf, pixelIn, channelOf}
+use Rattle.half.specs.Half.{halfFor, blocksOf, blockIn, halvedOf, halfWindowOf, halfWindowCall}
+use Rattle.develop.specs.Calls.{within, valuesOf, Window, filledOf, spotOf, spotCall, windowOf, windowCall, colouredOf, colourWindowOf}
 use Rattle.demand.specs.Card.{cardOf, cardCall}
-use Rattle.develop.specs.Calls.{colourWindowCall}
-use Rattle.half.specs.Half.{halvedOf}
-use Rattle.half.specs.Half.{halfWindowOf, halfWindowCall}
-use Rattle.demand.specs.Demand.{opcodeStart, storedPlace}
-use Rattle.develop.specs.Calls.{tagsOf, developedIn, aloneIn, pixelAlone, slotRow, slotColumn}
-use Rattle.demand.specs.Demand.{Is-pixel, Is-sample, In-block, Not-in-tags}
+use Rattle.develop.specs.Calls.{colourWindowCall, tagsOf, developedIn, aloneIn, pixelAlone, slotRow, slotColumn}
+use Rattle.demand.specs.Demand.{opcodeStart, storedPlace, Is-pixel, Is-sample, In-block, Not-in-tags, Meets-demand-3}
 use Rattle.demand.specs.Demand.{Unread-but-list, Unread-but-sample, Outside, Outside-blocks, Same-answers, Same-elsewhere}
-use Rattle.demand.specs.Demand.{Meets-demand-3}
 use Rattle.half.specs.declared.half_window.Half.{Half}
 use Rattle.develop.proofs.Views.{open-is, list-inside}
 use Rattle.develop.proofs.Answers.{frame-alone, developed-alone, spotAt, spot-same, spot-value, values-same, filled-same}

@@ -16,9 +16,8 @@ use Rattle.colour.specs.declared.Colour.{Colour}
 use Rattle.colour.proofs.Refusals.{colour-small}
 use Rattle.develop.specs.Calls.{Opened, openReading, opened, colourFor, spotOf, spotCall, Window, filledOf}
 use Rattle.demand.specs.Card.{cardOf, cardCall}
-use Rattle.half.specs.Half.{halfFor}
+use Rattle.half.specs.Half.{halfFor, halvedOf, halfWindowOf, halfWindowCall}
 use Rattle.develop.specs.Calls.{windowOf, windowCall, colouredOf, colourWindowOf, colourWindowCall}
-use Rattle.half.specs.Half.{halvedOf, halfWindowOf, halfWindowCall}
 use Rattle.develop.specs.declared.spot.SpotAnswer.{SpotAnswer}
 use Rattle.half.specs.declared.half_window.Half.{Half}
 

@@ -21,8 +21,7 @@ use Rattle.directory.specs.Widths.{classic}
 use Rattle.directory.specs.declared.entry.Kind.the-variants as entryKind
 use Rattle.directory.specs.Entry.{kindOf, plainOf, kindWidth, entryOf}
 use Rattle.directory.specs.Shape.{placeTest, entryReading, orderTest, shapeFrom, ifd, ifdReading}
-use Rattle.directory.specs.Tag.{findFrom, noValues, wholeReading, valueReading, testedReading, absentOf, valuesReading}
-use Rattle.directory.specs.Tag.{notCarried}
+use Rattle.directory.specs.Tag.{findFrom, noValues, wholeReading, valueReading, testedReading, absentOf, valuesReading, notCarried}
 use Rattle.directory.specs.Tag.{rangeFault, judgedOf, firstReading, oneReading, eachReading, allReading}
 use Rattle.directory.specs.Tree.{lookReading, backwardReading, versionReading, walkReading, rootReading, offsetReading, bigTiffReading}
 use Rattle.directory.specs.Tree.{treeReading}
@@ -58,12 +57,10 @@ use Rattle.opcodes.proofs.OpcodeLists.{and-true}
 use Rattle.colour.specs.Value as Value
 use Rattle.colour.specs.Value.{quotientReading, tripleReading}
 use Rattle.colour.specs.Tags.{matrixReading, neutralKind, neutralReading, colourReading}
-use Rattle.develop.specs.Calls.{Opened, opened, opcodesOf, colourFor, scaledIn, filledOf}
-use Rattle.half.specs.Half.{halfFor, halvedOf, halfWindowOf}
-use Rattle.half.specs.Half.{halfWindowCall}
+use Rattle.develop.specs.Calls.{Opened, opened, opcodesOf, colourFor, scaledIn, filledOf, developedIn}
+use Rattle.half.specs.Half.{halfFor, halvedOf, halfWindowOf, halfWindowCall}
 use Rattle.half.specs.declared.half_window.Half.{Half}
 use Rattle.demand.specs.Demand.{opcodeStart, storedPlace, Not-in-tags, Unread-but-list, Unread-but-sample, Same-answers}
-use Rattle.develop.specs.Calls.{developedIn}
 use Rattle.demand.specs.Demand.{Same-elsewhere, Demand-3}
 use Rattle.develop.proofs.Views.{open-is}
 use Rattle.demand.proofs.Linear as linear
@@ -238,8 +235,8 @@ no-colour : (i : ℕ) → reads (trace file (colourFor picture)) i ≡ false
 unfolding pick trace reads
 no-colour i = refl
 
-tagless : (i : ℕ) → 256 ≤ i → i < 400 → Not-in-tags file held i
-tagless i a b = (
+not-in-tags : (i : ℕ) → 256 ≤ i → i < 400 → Not-in-tags file held i
+not-in-tags i a b = (
   unread-in 256 400 (traceWhole file frontReading) (fronts .0 .unread) i a b,
   unread-in 256 400 (trace file (storedReading Little found)) (values .0 .unread) i a b,
   no-colour i,
@@ -285,7 +282,7 @@ swap-unread : Unread-but-list file held 0
 swap-unread i a b =
     let lo : 260 ≤ i = rw (starts .first) at a in
     let hi : i < 376 = rw (starts .third) at b in
-    (tagless i (omega arith) (omega arith), λ r c p act. elsewhere i r c p act (λ e. omega arith))
+    (not-in-tags i (omega arith) (omega arith), λ r c p act. elsewhere i r c p act (λ e. omega arith))
 
 pub demanded : Demand-3 file held
 demanded = meets-demand-3 file held accepted
@@ -308,7 +305,7 @@ stays = demanded .keeps 0 2 0 (record { row = omega arith; column = omega arith;
 change-unread : (r c : ℕ) → r < 2 → c < 4 → Unread-but-sample file held r c 0
 change-unread r₀ c₀ g h i a b =
     let e : i ≡ 392 + 4 * r₀ + c₀ = omega (arith, stored-at r₀ c₀ g, a, b) in (
-      tagless i (omega arith) (omega arith),
+      not-in-tags i (omega arith) (omega arith),
       unread-in 392 400 (trace file (opcodesOf picture)) (lists .0 .unread) i (omega arith) (omega arith),
       λ r c p act other. elsewhere i r c p act (λ q.
           let er : r ≡ r₀ = omega (arith, act .row, act .column) in

@@ -41,8 +41,8 @@ no-half : (i : ℕ) → reads (trace file (halfFor picture)) i ≡ false
 unfolding halfFor pick trace reads
 no-half i = refl
 
-tagless : (i : ℕ) → 218 ≤ i → i < 230 → Not-in-tags file held i
-tagless i a b = (
+not-in-tags : (i : ℕ) → 218 ≤ i → i < 230 → Not-in-tags file held i
+not-in-tags i a b = (
   unread-in 218 230 (traceWhole file frontReading) (fronts .1 .unread) i a b,
   unread-in 218 230 (trace file (storedReading Little found)) (values .1 .unread) i a b,
   unread-in 218 230 (trace file (colourFor picture)) (colours .1 .unread) i a b,
@@ -64,7 +64,7 @@ change-unread c₀ p₀ g h i a b =
     let e = stored-at c₀ p₀ in
     let lo : 218 + 6 * c₀ + 2 * p₀ ≤ i = omega (arith, e, a) in
     let hi : i < 220 + 6 * c₀ + 2 * p₀ = omega (arith, e, b) in (
-      tagless i (omega arith) (omega arith),
+      not-in-tags i (omega arith) (omega arith),
       unread-in 218 230 (trace file (opcodesOf picture)) (lists .1 .unread) i (omega arith) (omega arith),
       λ r c p act other. missed _ i (λ x y.
           let s = active-at r c p act in

@@ -16,15 +16,11 @@ use Rattle.opcodes.specs.OpcodeList.{startOf}
 use Rattle.opcodes.specs.Swap.{swappedFile}
 use Rattle.opcodes.specs.Frame.{Untouched, Apart}
 use Rattle.colour.specs.declared.Colour.{Colour}
-use Rattle.develop.specs.Calls.{Opened, opened, sizeOf, opcodesOf, colourFor, scaledIn, frameOf, pixelIn}
-use Rattle.half.specs.Half.{halfFor}
-use Rattle.develop.specs.Calls.{valuesOf}
-use Rattle.half.specs.Half.{blocksOf, blockIn}
-use Rattle.develop.specs.Calls.{spotCall, windowCall, colourWindowCall}
+use Rattle.develop.specs.Calls.{Opened, opened, sizeOf, opcodesOf, colourFor, scaledIn, frameOf, pixelIn, valuesOf}
+use Rattle.half.specs.Half.{halfFor, blocksOf, blockIn, halfWindowCall}
+use Rattle.develop.specs.Calls.{spotCall, windowCall, colourWindowCall, tagsOf, developedIn, aloneIn, pixelAlone, slotRow, slotColumn}
 use Rattle.demand.specs.Card.{cardCall}
-use Rattle.half.specs.Half.{halfWindowCall}
 use Rattle.half.specs.declared.half_window.Half.{Half}
-use Rattle.develop.specs.Calls.{tagsOf, developedIn, aloneIn, pixelAlone, slotRow, slotColumn}
 
 -- where the list's k-th opcode begins; its count comes first
 abbrev pub opcodeStart : List ℕ → Opened → ℕ → ℕ

@@ -22,10 +22,9 @@ use Rattle.opcodes.specs.Frame.{standing, alone}
 use Rattle.opcodes.specs.declared.grid.Size.{Size}
 use Rattle.opcodes.proofs.OpcodeLists.{and-true}
 use Rattle.samples.specs.Facts.Line.{scaledFrom}
-use Rattle.develop.specs.Calls.{Opened, sizeOf, frameOf, within, refusedSpot, spotOf, spotCall, inside, valuesOf, windowWith}
+use Rattle.develop.specs.Calls.{Opened, sizeOf, frameOf, within, refusedSpot, spotOf, spotCall, inside, valuesOf, windowWith, aloneIn}
 use Rattle.develop.specs.Calls.{refusedWindow, filledOf}
 use Rattle.develop.specs.Calls.{windowOf, windowCall, colourFor, pixelIn, colouredOf, colourWindowOf, colourWindowCall}
-use Rattle.develop.specs.Calls.{aloneIn}
 use Rattle.develop.specs.Facts.View.{Viewed}
 use Rattle.develop.specs.Facts.Fill.{Fill-in, windowFault}
 use Rattle.develop.specs.declared.View.{View}

@@ -9,8 +9,7 @@ use lib.Dec.{ltb}
 use lib.Ieee.{Float}
 use lib.ListN.{getD, List·getD-eq-default}
 use borrow.Author.Tests.{ltb-true, ltb-false}
-use Rattle.develop.specs.Calls.{valuesOf}
-use Rattle.develop.specs.Calls.{slotRow, slotColumn}
+use Rattle.develop.specs.Calls.{valuesOf, slotRow, slotColumn}
 use Rattle.develop.proofs.Windows.{some-of, window-length, values-at}
 
 -- a place of h rows of w pixels of n values: its row, its pixel there and its value of the pixel

@@ -16,7 +16,7 @@ use Rattle.raw.specs.Sample.{scaledSample}
 use Rattle.raw.specs.declared.front.Picture.{Picture}
 use Rattle.opcodes.specs.Opcode.{Opcode}
 use Rattle.opcodes.specs.OpcodeList.{listReading}
-use Rattle.opcodes.specs.Frame.{Frame, framed, standing, through}
+use Rattle.opcodes.specs.Frame.{Frame, framed, standing, through, alone}
 use Rattle.opcodes.specs.declared.grid.Size.{Size}
 use Rattle.colour.specs.Tags.{colourReading}
 use Rattle.colour.specs.Pixel.{xyzOf}
@@ -24,7 +24,6 @@ use Rattle.colour.specs.declared.Colour.{Colour}
 use Rattle.colour.specs.declared.pixel.Xyz.{Xyz}
 use Rattle.develop.specs.declared.spot.SpotAnswer.{SpotAnswer}
 use Rattle.develop.specs.declared.Answer.{Answer}
-use Rattle.opcodes.specs.Frame.{alone}
 use Rattle.rawtags.specs.declared.Tags.{Tags}
 
 -- ---- what the tests before 13 leave

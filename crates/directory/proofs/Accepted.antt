@@ -21,9 +21,8 @@ use Rattle.directory.specs.Entry.{bytesOf, entryOf}
 use Rattle.directory.specs.Shape.{shapeFrom, ifd, ifdReading}
 use Rattle.directory.specs.Facts.Shape.{Tested}
 use Rattle.directory.specs.Tag.{findFrom, foundReading, allowsOf, testedReading, absentOf, noValues, valuesReading}
-use Rattle.directory.specs.Facts.Tag.{FoundIn, Placed}
+use Rattle.directory.specs.Facts.Tag.{FoundIn, Placed, Placed-values, InRange}
 use Rattle.directory.specs.Tag.{rangeFault, judgedOf, firstReading, oneReading}
-use Rattle.directory.specs.Facts.Tag.{Placed-values, InRange}
 use Rattle.directory.specs.Tree.{lookReading, versionReading, Seen, raw-one, parent, Walked, raw, left, afterLook, afterChild}
 use Rattle.directory.specs.Tree.{childrenReading, visitReading, listVisit, walkReading, afterWalk, roots, rootReading}
 use Rattle.directory.specs.Tree.{offsetReading, bigTiffReading, treeReading}
@@ -39,8 +38,7 @@ use Rattle.directory.specs.declared.tag.Values.{Values}
 use Rattle.directory.specs.declared.tree.Roots.{Roots}
 use Rattle.directory.proofs.Outs.{bind-inverse, not-refused, same-value}
 use Rattle.directory.proofs.Tags.{find-none, find-here, find-later, PlacedIn, found-placed, values-found, absent-in}
-use Rattle.directory.proofs.Tags.{in-entry, elsewhere, inside-entry, inside-file}
-use Rattle.directory.proofs.Tags.{judged-is, judged-bad, first-default, first-is}
+use Rattle.directory.proofs.Tags.{in-entry, elsewhere, inside-entry, inside-file, judged-is, judged-bad, first-default, first-is}
 use Rattle.directory.proofs.Trees.{classic-laid, big-tiff-laid}
 
 -- ---- a test that refuses

@@ -14,8 +14,7 @@ use Rattle.directory.specs.Shape.{placeTest, entryReading, orderTest, sh
 use Rattle.directory.specs.Tag.{findFrom, wholeReading, valueReading, testedReading, absentOf, valuesReading, rangeFault, judgedOf}
 use Rattle.directory.specs.Tag.{firstReading, oneReading}
 use Rattle.directory.specs.Tree.{lookReading, backwardReading, versionReading, childrenReading, visitReading, roots, walkReading}
-use Rattle.directory.specs.Tree.{rootReading}
-use Rattle.directory.specs.Tree.{offsetReading, bigTiffReading, treeReading}
+use Rattle.directory.specs.Tree.{rootReading, offsetReading, bigTiffReading, treeReading}
 
 -- IFD 0 is the raw one: 254 (0), 256 (SHORT, in its entry), 262 (unknown type), 50706 (1.4.0.0)
 abbrev one : List ℕ

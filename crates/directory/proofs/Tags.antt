@@ -22,12 +22,8 @@ use Rattle.directory.specs.Widths.{headWidth, entryWidth}
 use Rattle.directory.specs.Entry.{codeOf, plainOf, sizes, kindWidth, bytesOf, entryOf}
 use Rattle.directory.specs.Shape.{entryReading, shapeFrom}
 use Rattle.directory.specs.Tag.{findFrom, foundReading, allowsOf, valuesAt, noValues, wholeReading, valueReading, testedReading}
-use Rattle.directory.specs.Tag.{valuesFound}
-use Rattle.directory.specs.Tag.{valuesReading, required, optional}
-use Rattle.directory.specs.Facts.Tag.{valuesOut, ValuesIn, Placed, Long, SizeIn, Numeric, Placed-values}
-use Rattle.directory.specs.Tag.{rangeFault}
-use Rattle.directory.specs.Tag.{judgedOf, firstReading, eachReading}
-use Rattle.directory.specs.Facts.Tag.{InRange, NumberIn}
+use Rattle.directory.specs.Tag.{valuesFound, valuesReading, required, optional, rangeFault, judgedOf, firstReading, eachReading}
+use Rattle.directory.specs.Facts.Tag.{valuesOut, ValuesIn, Placed, Long, SizeIn, Numeric, Placed-values, InRange, NumberIn}
 use Rattle.directory.specs.declared.Ifd.{Ifd}
 use Rattle.directory.specs.declared.Widths.{Widths}
 use Rattle.directory.specs.declared.Number.{Number}

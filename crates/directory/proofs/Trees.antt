@@ -22,9 +22,8 @@ use Rattle.directory.specs.Facts.Widths.{Widths-in}
 use Rattle.directory.specs.Shape.{ifdReading}
 use Rattle.directory.specs.Tag.{valuesReading}
 use Rattle.directory.specs.Tree.{Seen, raw-one, parent, childrenRule, subfileReading, lookReading, versionRule, backwardRule}
-use Rattle.directory.specs.Tree.{backwardReading}
+use Rattle.directory.specs.Tree.{backwardReading, rootReading}
 use Rattle.directory.specs.Tree.{versionReading, Walked, left, afterLook, afterChild, childrenReading, visitReading, listVisit}
-use Rattle.directory.specs.Tree.{rootReading}
 use Rattle.directory.specs.Tree.{sameBytes, classicMark, bigTiffMark, offsetReading, bigTiffReading, treeReading}
 use Rattle.directory.specs.declared.Ifd.{Ifd}
 use Rattle.directory.specs.declared.Widths.{Widths}

@@ -35,11 +35,8 @@ use Rattle.colour.proofs.Mean.{mean-developed}
 use Rattle.opcodes.specs.Frame.{standing}
 use Rattle.opcodes.specs.declared.grid.Size.{Size}
 use Rattle.rows.specs.Facts.Part.{Sized-in}
-use Rattle.develop.specs.Calls.{Opened, sizeOf, frameOf, inside, joined, valuesOf, windowWith, filledOf, channelOf}
-use Rattle.half.specs.Half.{halfFor, blocksOf}
-use Rattle.half.specs.Half.{blockAt}
-use Rattle.half.specs.Half.{blockXyz, blockIn, halvedOf, halfWindowOf, halfWindowCall}
-use Rattle.develop.specs.Calls.{developedIn, aloneIn}
+use Rattle.develop.specs.Calls.{Opened, sizeOf, frameOf, inside, joined, valuesOf, windowWith, filledOf, channelOf, developedIn, aloneIn}
+use Rattle.half.specs.Half.{halfFor, blocksOf, blockAt, blockXyz, blockIn, halvedOf, halfWindowOf, halfWindowCall}
 use Rattle.develop.specs.Facts.View.{Viewed}
 use Rattle.develop.specs.Facts.Fill.{windowFault}
 use Rattle.half.specs.Facts.Half.{Blocks-in, pairOf, blockRow}

@@ -20,8 +20,7 @@ use Rattle.levels.proofs.Unit.{unit}
 use Rattle.opcodes.specs.Frame.{Frame, framed, standing}
 use Rattle.opcodes.specs.declared.grid.Size.{Size}
 use Rattle.rows.specs.Facts.Part.{All-in-unit, Sized-in}
-use Rattle.develop.specs.Calls.{Opened, opened, sizeOf, frameOf, joined, valuesOf, Window, windowWith, windowOf, windowCall}
-use Rattle.develop.specs.Calls.{aloneIn}
+use Rattle.develop.specs.Calls.{Opened, opened, sizeOf, frameOf, joined, valuesOf, Window, windowWith, windowOf, windowCall, aloneIn}
 use Rattle.develop.specs.Facts.View.{Viewed}
 use Rattle.develop.specs.declared.View.{View}
 use Rattle.develop.specs.declared.Opening.the-variants as opening

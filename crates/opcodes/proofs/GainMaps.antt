@@ -19,8 +19,7 @@ use Rattle.levels.specs.Clip.{plusZero}
 use Rattle.opcodes.specs.Grid.{longOf, gridOf, fitsOf}
 use Rattle.opcodes.specs.Facts.Grid.{Fits-in}
 use Rattle.opcodes.specs.Step.{doubleIn}
-use Rattle.opcodes.specs.GainMap.{planesIn}
-use Rattle.opcodes.specs.GainMap.{gainsIn, aboveAt, axisLegal, gainMapLegal}
+use Rattle.opcodes.specs.GainMap.{planesIn, gainsIn, aboveAt, axisLegal, gainMapLegal}
 use Rattle.opcodes.specs.Facts.Bracket.{GainMap-in}
 use Rattle.opcodes.specs.OpcodeList.{refusedAt, refusedIn, plainFault, gainMapFault, opcodeFault}
 use Rattle.opcodes.specs.declared.grid.Size.{Size}

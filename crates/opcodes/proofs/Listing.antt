@@ -17,10 +17,8 @@ use Rattle.reading.proofs.Reading.{running, run-answer, run-ask, pick-yes, pick
 use Rattle.directory.specs.Out.{Out, Out.refused, Out.is, bind}
 use Rattle.directory.proofs.Outs.{bind-refused, bind-is, bind-inverse, not-refused, same-value}
 use Rattle.opcodes.specs.Opcode.{Opcode, skipped, kept}
-use Rattle.opcodes.specs.OpcodeList.{headerOf, classOf, opcodeFault, parametersOf, opcodeReading, listFrom, listReading}
-use Rattle.opcodes.specs.Facts.OpcodeList.{countedOn}
-use Rattle.opcodes.specs.OpcodeList.{startOf}
-use Rattle.opcodes.specs.Facts.OpcodeList.{countedOne}
+use Rattle.opcodes.specs.OpcodeList.{headerOf, classOf, opcodeFault, parametersOf, opcodeReading, listFrom, listReading, startOf}
+use Rattle.opcodes.specs.Facts.OpcodeList.{countedOn, countedOne}
 use Rattle.opcodes.specs.declared.grid.Size.{Size}
 use Rattle.opcodes.specs.declared.list.Header.{Header}
 use Rattle.opcodes.specs.declared.list.Class.the-variants as class

@@ -9,7 +9,7 @@ use Prim.Native.Nat.{ℕ, _+_, _*_, _≤_, _<_}
 use native.Mathlib.Nat.{mul-le-mul}
 use native.Mathlib.Omega.{arith}
 use lib.ListN.{length}
-use Rattle.levels.proofs.Runs.{within}
+use Rattle.levels.proofs.Runs.{within, run-same}
 use Rattle.reading.specs.Bytes.{part}
 use Rattle.reading.specs.Number.{numberOf}
 use Rattle.reading.specs.Reading.{run, pick}
@@ -33,7 +33,6 @@ use Rattle.directory.proofs.Outs.{bind-inverse}
 use Rattle.levels.specs.Run.{runOf}
 use Rattle.levels.specs.Black.{blackOf, widthOf, valueOf, blackAt, firstRefused}
 use Rattle.levels.specs.declared.black.Black.{Black}
-use Rattle.levels.proofs.Runs.{run-same}
 use Rattle.rawtags.specs.Black.{kindFor, blackOut, blacksTest}
 use Rattle.rawtags.specs.White.{whiteReading, whiteRule}
 use Rattle.rawtags.specs.Facts.White.{WhitesIn}

@@ -11,11 +11,9 @@ use Rattle.directory.specs.Widths.{classic}
 use Rattle.directory.specs.Entry.{kindOf, plainOf, kindWidth, entryOf}
 use Rattle.directory.specs.Shape.{ifd}
 use Rattle.directory.specs.Tag.{findFrom, wholeReading, valueReading, testedReading, absentOf, valuesReading, rangeFault, judgedOf}
-use Rattle.directory.specs.Tag.{firstReading, oneReading}
-use Rattle.directory.specs.Tag.{eachReading, allReading}
+use Rattle.directory.specs.Tag.{firstReading, oneReading, eachReading, allReading}
 use Rattle.rawtags.specs.Pattern.{oneOf, firstOf, lastOf, placesOf, fourColoursReading, cfaPatternReading, planeColorOf}
-use Rattle.rawtags.specs.Pattern.{threeColoursReading}
-use Rattle.rawtags.specs.Pattern.{planeColorReading, patternReading}
+use Rattle.rawtags.specs.Pattern.{threeColoursReading, planeColorReading, patternReading}
 use Rattle.rawtags.specs.declared.pattern.Pattern.{Pattern}
 
 -- 33421: 2, 2; 33422: green, red, blue, green; 50710: 0, 1, 2; 50711: 1

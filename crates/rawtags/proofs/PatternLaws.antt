@@ -21,9 +21,7 @@ use Rattle.directory.specs.declared.tag.Kinds.the-variants as kinds
 use Rattle.directory.specs.Tag.{valuesReading, required}
 use Rattle.directory.proofs.Outs.{bind-refused, bind-is, bind-inverse, same-value, not-refused}
 use Rattle.rawtags.specs.Pattern.{oneOf, timesOf, firstOf, lastOf, placesOf, fourColoursReading, planeColorOf, threeColoursReading}
-use Rattle.rawtags.specs.Pattern.{repeatDimReading}
-use Rattle.rawtags.specs.Pattern.{cfaPatternReading}
-use Rattle.rawtags.specs.Pattern.{planeColorReading, cfaLayoutReading, patternReading}
+use Rattle.rawtags.specs.Pattern.{repeatDimReading, cfaPatternReading, planeColorReading, cfaLayoutReading, patternReading}
 use Rattle.rawtags.specs.Facts.Pattern.{Pattern-in}
 use Rattle.rawtags.specs.declared.pattern.Pattern.{Pattern}
 

@@ -19,8 +19,7 @@ use Rattle.reading.specs.declared.number.Order.{Order}
 use Rattle.reading.proofs.Reading.{run-answer}
 use Rattle.reading.proofs.Unread.{Unread, Off, off-inside, unread-answer, unread-ask, unread-number, unread-then, unread-pick}
 use Rattle.directory.specs.Out.{Out.refused, Out.is}
-use Rattle.directory.specs.Tag.{valuesReading, notCarried, oneReading, eachReading}
-use Rattle.directory.specs.Tag.{required, optional, range}
+use Rattle.directory.specs.Tag.{valuesReading, notCarried, oneReading, eachReading, required, optional, range}
 use Rattle.directory.specs.declared.Ifd.{Ifd}
 use Rattle.directory.specs.declared.tag.Kinds.{Kinds}
 use Rattle.directory.specs.declared.tag.Kinds.the-variants as kinds
@@ -30,8 +29,7 @@ use Rattle.directory.proofs.Outs.{bind-inverse, not-refused, same-value}
 use Rattle.directory.proofs.Accepted.{one-in}
 use Rattle.directory.proofs.Unread.{unread-bind}
 use Rattle.directory.proofs.TagUnread.{headsOf, offsetIn, valueIn, other-value-unread, list-tag-unread, not-carried-unread}
-use Rattle.directory.proofs.TagUnread.{Values-off, values-off}
-use Rattle.directory.proofs.TagUnread.{first-off, each-unread, one-unread, all-unread}
+use Rattle.directory.proofs.TagUnread.{Values-off, values-off, first-off, each-unread, one-unread, all-unread}
 use Rattle.levels.specs.declared.black.BlackKind.{BlackKind}
 use Rattle.levels.specs.declared.black.BlackKind.the-variants as kind
 use Rattle.rawtags.specs.Frame.{dimensionRange, dimensionReading, samplesOf, planesReading, frameReading}

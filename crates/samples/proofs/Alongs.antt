@@ -4,9 +4,8 @@ use mathlib.Core.Path.{_≡_, refl, sym, ap, _∙_}
 use mathlib.Core.Logic.{⊎-elim}
 use mathlib.Core.List.{List}
 use Prim.Native.Nat.{ℕ, _+_, _-_, _*_, _/_, _%_, _≤_, _<_}
-use native.Mathlib.Nat.{add-assoc, mul-assoc, mul-comm, mul-div-cancel, mod-lt, div-add-mod', add-mul, mul-le-mul-right}
+use native.Mathlib.Nat.{add-assoc, mul-assoc, mul-comm, mul-div-cancel, mod-lt, div-add-mod', add-mul, mul-le-mul-right, add-mul-div-right}
 use native.Mathlib.Nat.{add-mul-mod-self-right}
-use native.Mathlib.Nat.{add-mul-div-right}
 use native.Mathlib.Omega.{arith}
 use lib.IntN.{ℤ, pos, natAbs}
 use lib.Ieee.{Float, nan}

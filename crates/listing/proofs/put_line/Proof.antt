@@ -1,10 +1,9 @@
 use Prim.Native.Nat.{_-_}
 use native.Mathlib.Omega.{arith}
-use lib.ListN.{length}
+use lib.ListN.{length, getD}
 use denote.Ref.{now}
 use borrow.Author.Needs.{needs}
 use lib.Ieee.{nan}
-use lib.ListN.{getD}
 use Rattle.listing.proofs.Numerals.{value-length}
 use Rattle.levels.proofs.Unit.{in-unit}
 use Rattle.listing.proofs.Lines.{Lined, lined-start, lined-next, lined-end}

@@ -6,8 +6,7 @@ use native.Mathlib.Omega.{arith}
 use lib.Ieee.{Float}
 use lib.ListN.{length, take, drop, length-append}
 use denote.Ref.{now}
-use Rattle.develop.specs.Calls.{valuesOf}
-use Rattle.develop.specs.Calls.{aloneIn}
+use Rattle.develop.specs.Calls.{valuesOf, aloneIn}
 use Rattle.develop.specs.Facts.Fill.{Fill-in, numberOf, Upto}
 use Rattle.develop.specs.declared.fill.Rectangle.{Rectangle}
 use Rattle.reading.specs.Reading.{run}

@@ -6,7 +6,7 @@ use mir.Syntax.{w64}
 use mir.Val.{Fits}
 use lib.Ieee.{Float, nan, binary64, mul}
 use lib.ListN.{length, getD}
-use borrow.Author.Needs.{scaled-fits}
+use borrow.Author.Needs.{scaled-fits, needs}
 use Rattle.levels.specs.Clip.{clipOf}
 use Rattle.opcodes.specs.Grid.{longOf}
 use Rattle.opcodes.specs.GainMap.{gainMapOf}
@@ -17,7 +17,6 @@ use Rattle.rows.specs.Facts.GainMap.{columnAt, timesGain}
 use Rattle.rows.specs.declared.gain_map.Columns.{Columns}
 use Rattle.rows.proofs.Gains.{column-first, column-more}
 use Rattle.rows.proofs.Sweeps.{Swept, swept-start, swept-step, swept-end, every-tell}
-use borrow.Author.Needs.{needs}
 use Rattle.rows.proofs.gain_map.sweep_gain.Statement.{statement}
 use Rattle.rows.proofs.gain_map.sweep_gain.Tie as tie
 
