@@ -1,4 +1,4 @@
--- The five calls: what each one answers, for every string of bytes and every argument, by equations.
+-- What the tests before 13 leave, and what spot, window and colour window answer, for every string of bytes and every argument.
 use Prim.Native.Nat.{ℕ, _+_, _*_, _/_, _%_}
 use mathlib.Core.Bool.{Bool, _&&_}
 use mathlib.Core.List.{List, [], _∷_, _++_}

@@ -1,4 +1,4 @@
--- Tags by the names of documents 000 and 01.
+-- Tags by their names.
 use Prim.Native.Nat.{ℕ}
 
 abbrev pub newSubfileType : ℕ

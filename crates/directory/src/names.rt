@@ -1,4 +1,4 @@
-// Tags by the names of documents 000 and 01.
+// Tags by their names.
 
 pub const NEW_SUBFILE_TYPE: usize = 254;
 

@@ -7,6 +7,6 @@ use Rattle.demand.specs.declared.card.CardAnswer.{CardAnswer}
 unfoldable pub numbersOf : CardAnswer → List ℕ
 numbersOf c = c .number ∷ c .detail ∷ c .rows ∷ c .columns ∷ c .samples ∷ c .kept ∷ c .skipped ∷ []
 
--- number * 2^32 + detail: no number is above 15, and a detail is 0, a tag or a place
+-- number * 2^32 + detail: every number is below 20, every detail below 2^32 (`window-fits` and its like)
 unfoldable pub packedOf : ℕ → ℕ → ℕ
 packedOf n d = n * 0x1_0000_0000 + d

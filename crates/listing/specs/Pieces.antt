@@ -1,4 +1,4 @@
--- What is handed over to be written: the listing's bytes, piece after piece, each byte once and in order.
+-- What is handed over to be written: a piece where it stands in the listing, what remains behind it, and the end.
 use mathlib.Core.Path.{_≡_}
 use mathlib.Core.Bool.{Bool, true}
 use mathlib.Core.List.{List}
