@@ -21,7 +21,7 @@ use Rattle.raw.specs.Sample.{ActiveIn}
 use Rattle.raw.specs.declared.front.Raw.{Raw}
 use Rattle.raw.specs.declared.front.Picture.{Picture}
 use Rattle.raw.proofs.Accepted.{front-accepted}
-use Rattle.rawtags.proofs.AcceptedArea.{tags-area}
+use Rattle.rawtags.proofs.AcceptedFrame.{tags-frame}
 use Rattle.raw.proofs.Unread as samples
 use Rattle.raw.proofs.FrontUnread.{Raw-clear, stored-unread, front-unread}
 use Rattle.develop.specs.Calls.{Opened, opened, tagsOf}
@@ -60,7 +60,7 @@ module _ (f : List ℕ) (o : Opened) (e : is o ≡ opened f) (apart : samples.St
   some-rows = front-accepted f (o .picture) (open-inverse f o e .front) .rows
 
   active : Area-in (tagsOf o .frame) (tagsOf o .area)
-  active = tags-area f (length f) (found f o e .roots .raw) (tagsOf o) (found f o e .tags)
+  active = tags-frame f (length f) (found f o e .roots .raw) (tagsOf o) (found f o e .tags) .1
 
   -- where strips do not overlap, a byte of a stored sample is read for no other active sample
   pub other-sample-unread :

@@ -58,7 +58,7 @@ leZ-pred (negsuc a) (pos zero) h = le-leb 0 (suc a) (omega arith)
 leZ-pred (negsuc a) (pos (suc b)) h = refl
 leZ-pred (negsuc a) (negsuc b) h = let l = leb-true b a h in le-leb (suc b) (suc a) (omega arith)
 
-leZ-add : (a b c : ℤ) → leZ a b ≡ true → leZ (a +ℤ c) (b +ℤ c) ≡ true
+pub leZ-add : (a b c : ℤ) → leZ a b ≡ true → leZ (a +ℤ c) (b +ℤ c) ≡ true
 leZ-add a b (pos zero) h = rw (+ℤ-idr a, +ℤ-idr b) h
 leZ-add a b (pos (suc n)) h = rw (+ℤ-sucℤ a (pos n), +ℤ-sucℤ b (pos n)) (leZ-suc (a +ℤ pos n) (b +ℤ pos n) (leZ-add a b (pos n) h))
 leZ-add a b (negsuc zero) h =

@@ -1,23 +1,29 @@
--- What holds of whatever the raw directory's tests accept, by the definitions alone: its strips and its list lie in the file.
+-- What holds of whatever the tests up to 9 accept, by the definitions alone: its strips and its list lie in the file, and S is positive
+-- on each plane.
 -- Assumes nothing.
 use Rattle.directory.specs.Names.{columnInterleaveFactor, compression, opcodeList1, opcodeList3, planarConfiguration, rowInterleaveFactor}
-use mathlib.Core.Path.{_≡_, sym, ap, subst, _∙_}
+use mathlib.Core.Path.{_≡_, refl, sym, ap, subst, _∙_}
+use mathlib.Core.Bool.{false}
 use mathlib.Core.List.{List}
-use Prim.Native.Nat.{ℕ, _≤_}
+use Prim.Native.Nat.{ℕ, _≤_, _<_}
+use lib.IntN.{pos}
 use lib.ListN.{length}
+use lib.Signed.{leZ}
 use Rattle.reading.specs.Reading.{run, runWhole}
 use Rattle.reading.specs.declared.number.Order.{Order}
-use Rattle.reading.proofs.Reading.{run-answer}
+use Rattle.reading.proofs.Reading.{run-answer, run-andThen}
 use Rattle.directory.specs.Out.{Out.is}
 use Rattle.directory.specs.Facts.Shape.{Tested}
 use Rattle.directory.specs.Tag.{valuesReading, notCarried}
 use Rattle.directory.specs.Facts.Tag.{Placed-values}
 use Rattle.directory.specs.Tree.{treeReading}
 use Rattle.directory.specs.declared.Ifd.{Ifd}
+use Rattle.directory.specs.declared.tree.Roots.{Roots}
 use Rattle.directory.specs.declared.tag.Kinds.the-variants as kinds
 use Rattle.directory.specs.declared.tag.Values.{Values}
 use Rattle.directory.proofs.Outs.{bind-inverse, same-value}
 use Rattle.directory.proofs.Accepted.{tree-rooted, values-placed, one-in}
+use Rattle.levels.specs.Levels.{spanOf}
 use Rattle.rawtags.specs.Frame.{frameReading}
 use Rattle.rawtags.specs.Layout.{depthReading, onlyOne, formatReading, stripRowsReading, layoutReading}
 use Rattle.rawtags.specs.Strips.{stripCount, rowBytes, stripFrom, offsetsRule, countsRule, stripsReading}
@@ -26,13 +32,18 @@ use Rattle.rawtags.specs.Area.{areaReading}
 use Rattle.rawtags.specs.LevelTags.{levelTagsReading}
 use Rattle.rawtags.specs.Lists.{listRule, listTagReading}
 use Rattle.rawtags.specs.Raw.{activeRows, activeColumns, tagsReading}
-use Rattle.raw.specs.Front.{rawReading, frontReading}
+use Rattle.raw.specs.Stored.{levelsReading}
+use Rattle.raw.specs.Spans.{spannedOf}
+use Rattle.raw.specs.Front.{rawWith, rawReading, frontReading}
 use Rattle.rawtags.specs.declared.frame.Dimensions.{Dimensions}
 use Rattle.rawtags.specs.declared.layout.Layout.{Layout}
 use Rattle.rawtags.specs.declared.Tags.{Tags}
 use Rattle.raw.specs.declared.front.Raw.{Raw}
 use Rattle.raw.specs.declared.front.Picture.{Picture}
 use Rattle.rawtags.proofs.Strip.{strip-in}
+use Rattle.rawtags.proofs.AcceptedFrame.{tags-frame}
+use Rattle.raw.proofs.SpanLaws.{span-of-plane}
+use Rattle.raw.proofs.StoredLaws.{samples-are}
 
 module _ (f : List ℕ) (d : Ifd) where
   -- a strip has a row
@@ -99,14 +110,46 @@ tags-accepted f d h t e =
       list = list-accepted f d h (k .0) (k .1);
     })
 
-pub front-accepted : (f : List ℕ) (p : Picture) → is p ≡ runWhole f frontReading → Inside f (p .order) (p .raw .tags)
+-- how a picture was found: the tree, the raw directory's tags, S of each plane
+pub record Found (f : List ℕ) (p : Picture) : Type 0 where
+  pub roots : Roots
+  pub tree : is roots ≡ run f (treeReading (length f))
+  pub directory : p .directory ≡ roots .raw
+  pub order : p .order ≡ roots .raw .order
+  pub tags : is (p .raw .tags) ≡ run f (tagsReading (length f) (roots .raw))
+  pub spans : is (p .raw .spans) ≡ spannedOf (run f (levelsReading (p .order) (p .raw .tags)))
+
+pub front-found : (f : List ℕ) (p : Picture) → is p ≡ runWhole f frontReading → Found f p
 unfolding frontReading rawReading
-front-accepted f p e =
+front-found f p e =
     let a = bind-inverse f (treeReading (length f)) _ p e in
     let d : Ifd = a .0 .raw in
     let b = bind-inverse f (rawReading (length f) d) _ p (a .2) in
     let c = bind-inverse f (tagsReading (length f) d) _ (b .0) (b .1) in
     let s = bind-inverse f _ _ (b .0) (c .2) in
-    let q : b .0 .tags ≡ c .0 = ap (λ (x : Raw). x .tags) (same-value (b .0) _ (s .2 ∙ run-answer f _)) in
-    subst (λ (x : Picture). Inside f (x .order) (x .raw .tags)) (sym (same-value p _ (b .2 ∙ run-answer f _)))
-    (rw q (tags-accepted f d (tree-rooted f (a .0) (a .1) .raw) (c .0) (c .1)))
+    let q : b .0 ≡ rawWith (c .0) (s .0) = same-value (b .0) _ (s .2 ∙ run-answer f _) in
+    subst (Found f) (sym (same-value p _ (b .2 ∙ run-answer f _)))
+    (record {
+      roots = a .0;
+      tree = a .1;
+      directory = refl;
+      order = refl;
+      tags = ap (λ (x : Raw). is (x .tags)) q ∙ c .1;
+      spans = subst (λ (x : Raw). is (x .spans) ≡ spannedOf (run f (levelsReading (d .order) (x .tags)))) (sym q)
+          (s .1 ∙ run-andThen f (levelsReading (d .order) (c .0)) _ ∙ run-answer f _);
+    })
+
+pub front-accepted : (f : List ℕ) (p : Picture) → is p ≡ runWhole f frontReading → Inside f (p .order) (p .raw .tags)
+front-accepted f p e =
+    let h = front-found f p e in
+    subst (λ (x : Order). Inside f x (p .raw .tags)) (sym (h .order))
+    (tags-accepted f (h .roots .raw) (tree-rooted f (h .roots) (h .tree) .raw) (p .raw .tags) (h .tags))
+
+-- S is positive
+pub front-spans : (f : List ℕ) (p : Picture) → is p ≡ runWhole f frontReading → (q : ℕ) → q < p .raw .tags .frame .samples →
+    leZ (spanOf (run f (levelsReading (p .order) (p .raw .tags))) q) (pos 0) ≡ false
+front-spans f p e q k =
+    let h = front-found f p e in
+    let l = run f (levelsReading (p .order) (p .raw .tags)) in
+    let n : l .samples ≡ p .raw .tags .frame .samples = samples-are f (p .order) (p .raw .tags) in
+    span-of-plane l (p .raw .spans) (h .spans) (rw n (tags-frame f (length f) (h .roots .raw) (p .raw .tags) (h .tags) .0 .planes)) q (rw n k) .1

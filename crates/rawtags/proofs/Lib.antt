@@ -6,5 +6,5 @@ pub mod PatternExamples
 pub mod Depth
 pub mod BlackLaws
 pub mod Ranges
-pub mod AcceptedArea
+pub mod AcceptedFrame
 pub mod TagsUnread

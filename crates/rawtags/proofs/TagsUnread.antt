@@ -5,8 +5,8 @@ use Rattle.directory.specs.Names.{activeArea, bitsPerSample, blackLevel, blackL
 use Rattle.directory.specs.Names.{columnInterleaveFactor, compression, imageLength, imageWidth, linearizationTable, opcodeList1}
 use Rattle.directory.specs.Names.{opcodeList2, opcodeList3, photometricInterpretation, planarConfiguration, rowInterleaveFactor}
 use Rattle.directory.specs.Names.{rowsPerStrip, sampleFormat, samplesPerPixel, stripByteCounts, stripOffsets, whiteLevel}
-use mathlib.Core.Path.{_≡_, refl, sym, subst, _∙_}
-use mathlib.Core.Bool.{Bool, true, false}
+use mathlib.Core.Path.{_≡_, refl, subst}
+use mathlib.Core.Bool.{true, false}
 use mathlib.Core.List.{List, [], _∷_}
 use Prim.Native.Nat.{ℕ, zero, suc, _+_, _*_, _-_, _≤_, _<_, min}
 use native.Mathlib.Nat.{mul-suc}
@@ -14,9 +14,8 @@ use native.Mathlib.Omega.{arith}
 use lib.Dec.{eqb, leb}
 use mir.Val.{hasKey}
 use borrow.Author.Tests.{eqb-false}
-use Rattle.reading.specs.Reading.{Reading.answer, run, pick, reads, numberAt}
+use Rattle.reading.specs.Reading.{Reading.answer, run, reads, numberAt}
 use Rattle.reading.specs.declared.number.Order.{Order}
-use Rattle.reading.proofs.Reading.{run-answer}
 use Rattle.reading.proofs.Unread.{Unread, Off, off-inside, unread-answer, unread-ask, unread-number, unread-then, unread-pick}
 use Rattle.directory.specs.Out.{Out.refused, Out.is}
 use Rattle.directory.specs.Tag.{valuesReading, notCarried, oneReading, eachReading, required, optional, range}
@@ -25,8 +24,6 @@ use Rattle.directory.specs.declared.tag.Kinds.{Kinds}
 use Rattle.directory.specs.declared.tag.Kinds.the-variants as kinds
 use Rattle.directory.specs.declared.tag.Rule.{Rule}
 use Rattle.directory.specs.declared.tag.Values.{Values}
-use Rattle.directory.proofs.Outs.{bind-inverse, not-refused, same-value}
-use Rattle.directory.proofs.Accepted.{one-in}
 use Rattle.directory.proofs.Unread.{unread-bind}
 use Rattle.directory.proofs.TagUnread.{headsOf, offsetIn, valueIn, other-value-unread, list-tag-unread, not-carried-unread}
 use Rattle.directory.proofs.TagUnread.{Values-off, values-off, first-off, each-unread, one-unread, all-unread}
@@ -45,6 +42,7 @@ use Rattle.rawtags.specs.Raw.{activeRows, activeColumns, tagsReading}
 use Rattle.rawtags.specs.declared.frame.Dimensions.{Dimensions}
 use Rattle.rawtags.specs.declared.layout.Layout.{Layout}
 use Rattle.rawtags.specs.declared.repeat.Repeat.{Repeat}
+use Rattle.rawtags.proofs.AcceptedFrame.{frame-in}
 
 -- the tags of the raw directory whose values are read with them: all that document 01 names but the list, OpcodeList2
 abbrev pub rawTags : List ℕ
@@ -52,32 +50,6 @@ rawTags =
     imageWidth ∷ imageLength ∷ photometricInterpretation ∷ samplesPerPixel ∷ bitsPerSample ∷ compression ∷ planarConfiguration ∷
     sampleFormat ∷ rowInterleaveFactor ∷ columnInterleaveFactor ∷ rowsPerStrip ∷ stripOffsets ∷ stripByteCounts ∷ activeArea
     ∷ linearizationTable ∷ blackLevelRepeatDim ∷ blackLevel ∷ blackLevelDeltaH ∷ blackLevelDeltaV ∷ whiteLevel ∷ []
-
--- ---- a frame has a plane
-planes-some : (f : List ℕ) (d : Ifd) (s : ℕ) → is s ≡ run f (planesReading d) → 1 ≤ s
-unfolding planesReading pick
-planes-some f d s e =
-    let i = bind-inverse f (oneReading d (required photometricInterpretation kinds.Short 1) 0 (range 0 0 65535)) _ s e in
-    go (i .0) (eqb (samplesOf (i .0)) 0) refl (i .2)
-  where
-    go :
-        (p : ℕ) (b : Bool) → eqb (samplesOf p) 0 ≡ b →
-        is s ≡ run f (pick b (answer (refused 8 photometricInterpretation))
-        (oneReading d (optional samplesPerPixel kinds.Short 1) 1 (range 0 (samplesOf p) (samplesOf p)))) →
-        1 ≤ s
-    go p true q h = absurd (not-refused s 8 photometricInterpretation (h ∙ run-answer f _))
-    go p false q h =
-        let z : samplesOf p ≡ 0 → ⊥ = eqb-false _ _ q in
-        omega (arith, one-in f d (optional samplesPerPixel kinds.Short 1) 1 (range 0 (samplesOf p) (samplesOf p)) s h .from)
-
-frame-some : (f : List ℕ) (d : Ifd) (v : Dimensions) → is v ≡ run f (frameReading d) → 1 ≤ v .samples
-unfolding frameReading
-frame-some f d v e =
-    let a = bind-inverse f (dimensionReading d imageWidth) _ v e in
-    let b = bind-inverse f (dimensionReading d imageLength) _ v (a .2) in
-    let c = bind-inverse f (planesReading d) _ v (b .2) in
-    let s = same-value v _ (c .2 ∙ run-answer f _) in
-    subst (λ (u : Dimensions). 1 ≤ u .samples) (sym s) (planes-some f d (c .0) (c .1))
 
 -- as many values as the rule says, where there are any
 exact-off :
@@ -283,7 +255,7 @@ module _ (f : List ℕ) (d : Ifd) (j : ℕ) (heads : reads (headsOf d) j ≡ fal
       (frame-unread (value imageWidth refl) (value imageLength refl) (value photometricInterpretation refl)
       (value samplesPerPixel refl)) (λ v ev.
       unread-bind f j (layoutReading d (v .samples)) _
-      (layout-unread (v .samples) (frame-some f d v ev) (value bitsPerSample refl) (value compression refl) (value planarConfiguration refl)
+      (layout-unread (v .samples) (frame-in f d v ev .some-samples) (value bitsPerSample refl) (value compression refl) (value planarConfiguration refl)
       (value sampleFormat refl)
       (value rowInterleaveFactor refl) (value columnInterleaveFactor refl) (value rowsPerStrip refl)) (λ l _.
       unread-bind f j (stripsReading size d v l) _ (strips-unread size v l (value stripOffsets refl) (value stripByteCounts refl)) (λ s _.

@@ -1,26 +1,28 @@
--- The active area of whatever the raw directory's tests accept lies in its frame, by the definitions alone.
+-- The frame of whatever the raw directory's tests accept, and its active area, by the definitions alone.
 -- Assumes nothing.
-use Rattle.directory.specs.Names.{activeArea, imageLength, imageWidth}
+use Rattle.directory.specs.Names.{activeArea, imageLength, imageWidth, photometricInterpretation, samplesPerPixel}
 use mathlib.Core.Path.{_≡_, refl, sym, subst, _∙_}
 use mathlib.Core.Bool.{Bool, true, false}
 use mathlib.Core.List.{List}
+use mathlib.Core.Logic.{_⊎_, inl, inr, ⊎-elim}
 use Prim.Native.Nat.{ℕ, _≤_}
 use native.Mathlib.Omega.{arith}
 use lib.Dec.{eqb, leb, ltb}
 use borrow.Author.Tests.{eqb-true, eqb-false, leb-true, leb-false, ltb-true, ltb-false}
-use Rattle.reading.specs.Reading.{run}
+use Rattle.reading.specs.Reading.{Reading.answer, pick, run}
 use Rattle.reading.proofs.Reading.{run-answer}
-use Rattle.directory.specs.Out.{Out.is}
-use Rattle.directory.specs.Tag.{valuesReading, required, optional}
+use Rattle.directory.specs.Out.{Out.refused, Out.is}
+use Rattle.directory.specs.Tag.{valuesReading, oneReading, required, optional, range}
 use Rattle.directory.specs.declared.Ifd.{Ifd}
 use Rattle.directory.specs.declared.tag.Kinds.the-variants as kinds
 use Rattle.directory.specs.declared.tag.Values.{Values}
 use Rattle.directory.proofs.Outs.{bind-inverse, not-refused, same-value}
 use Rattle.directory.proofs.Accepted.{one-in}
-use Rattle.rawtags.specs.Frame.{dimensionRange, dimensionReading, planesReading, frameReading}
+use Rattle.rawtags.specs.Frame.{dimensionRange, dimensionReading, samplesOf, planesReading, frameReading}
 use Rattle.rawtags.specs.Layout.{layoutReading}
 use Rattle.rawtags.specs.Strips.{stripsReading}
 use Rattle.rawtags.specs.Area.{area, croppedOf, fourReading, areaReading}
+use Rattle.rawtags.specs.Facts.Frame.{Dimensions-in}
 use Rattle.rawtags.specs.Facts.Area.{Area-in}
 use Rattle.rawtags.specs.LevelTags.{levelTagsReading}
 use Rattle.rawtags.specs.Lists.{listTagReading}
@@ -60,21 +62,58 @@ area-in f d v rows columns a e =
         (record { rows = omega arith; columns = omega arith; bottom = omega arith; right = omega arith })
     go x q false z = cropped-in v _ a (q ∙ sym (four-is f (d .order) v x (eqb-false _ _ z) _ _ _ _ refl refl refl refl))
 
--- a row and a column at least
-frame-in : (f : List ℕ) (d : Ifd) (v : Dimensions) → is v ≡ run f (frameReading d) → (1 ≤ v .length) × (1 ≤ v .width)
+-- one plane or three
+samples-known : (p : ℕ) → (samplesOf p ≡ 0) ⊎ ((samplesOf p ≡ 1) ⊎ (samplesOf p ≡ 3))
+unfolding samplesOf pick
+samples-known p = go (eqb p 32803) (eqb p 34892)
+  where
+    go : (a b : Bool) →
+        let n : ℕ = pick a 1 (pick b 3 0) in (n ≡ 0) ⊎ ((n ≡ 1) ⊎ (n ≡ 3))
+    go true b = inr (inl refl)
+    go false true = inr (inr refl)
+    go false false = inl refl
+
+planes-in : (f : List ℕ) (d : Ifd) (s : ℕ) → is s ≡ run f (planesReading d) → (s ≡ 1) ⊎ (s ≡ 3)
+unfolding planesReading pick
+planes-in f d s e =
+    let i = bind-inverse f (oneReading d (required photometricInterpretation kinds.Short 1) 0 (range 0 0 65535)) _ s e in
+    go (i .0) (eqb (samplesOf (i .0)) 0) refl (i .2)
+  where
+    go :
+        (p : ℕ) (b : Bool) → eqb (samplesOf p) 0 ≡ b →
+        is s ≡ run f (pick b (answer (refused 8 photometricInterpretation))
+        (oneReading d (optional samplesPerPixel kinds.Short 1) 1 (range 0 (samplesOf p) (samplesOf p)))) →
+        (s ≡ 1) ⊎ (s ≡ 3)
+    go p true q h = absurd (not-refused s 8 photometricInterpretation (h ∙ run-answer f _))
+    go p false q h =
+        let i = one-in f d (optional samplesPerPixel kinds.Short 1) 1 (range 0 (samplesOf p) (samplesOf p)) s h in
+        let n : s ≡ samplesOf p = omega (arith, i .from, i .to) in
+        ⊎-elim (λ z. absurd (eqb-false _ _ q z)) (λ z. subst (λ (k : ℕ). (k ≡ 1) ⊎ (k ≡ 3)) (sym n) z) (samples-known p)
+
+pub frame-in : (f : List ℕ) (d : Ifd) (v : Dimensions) → is v ≡ run f (frameReading d) → Dimensions-in v
 unfolding frameReading dimensionReading
 frame-in f d v e =
     let a = bind-inverse f (dimensionReading d imageWidth) _ v e in
     let b = bind-inverse f (dimensionReading d imageLength) _ v (a .2) in
     let c = bind-inverse f (planesReading d) _ v (b .2) in
-    subst (λ (x : Dimensions). (1 ≤ x .length) × (1 ≤ x .width)) (sym (same-value v _ (c .2 ∙ run-answer f _))) (
-      one-in f d (required imageLength kinds.ShortOrLong 1) 0 dimensionRange (b .0) (b .1) .from,
-      one-in f d (required imageWidth kinds.ShortOrLong 1) 0 dimensionRange (a .0) (a .1) .from,
-    )
+    let columns = one-in f d (required imageWidth kinds.ShortOrLong 1) 0 dimensionRange (a .0) (a .1) in
+    let rows = one-in f d (required imageLength kinds.ShortOrLong 1) 0 dimensionRange (b .0) (b .1) in
+    let planes : (c .0 ≡ 1) ⊎ (c .0 ≡ 3) = planes-in f d (c .0) (c .1) in
+    subst Dimensions-in (sym (same-value v _ (c .2 ∙ run-answer f _)))
+    (record {
+      some-columns = columns .from;
+      columns = columns .to;
+      some-rows = rows .from;
+      rows = rows .to;
+      some-samples = ⊎-elim (λ e. omega arith) (λ e. omega arith) planes;
+      samples = ⊎-elim (λ e. omega arith) (λ e. omega arith) planes;
+      planes = planes;
+    })
 
-pub tags-area : (f : List ℕ) (size : ℕ) (d : Ifd) (t : Tags) → is t ≡ run f (tagsReading size d) → Area-in (t .frame) (t .area)
+pub tags-frame : (f : List ℕ) (size : ℕ) (d : Ifd) (t : Tags) → is t ≡ run f (tagsReading size d) →
+    Dimensions-in (t .frame) × Area-in (t .frame) (t .area)
 unfolding tagsReading
-tags-area f size d t e =
+tags-frame f size d t e =
     let v = bind-inverse f (frameReading d) _ t e in
     let l = bind-inverse f (layoutReading d (v .0 .samples)) _ t (v .2) in
     let s = bind-inverse f (stripsReading size d (v .0) (l .0)) _ t (l .2) in
@@ -82,5 +121,5 @@ tags-area f size d t e =
     let x = bind-inverse f (levelTagsReading d (v .0 .samples) (activeRows (a .0)) (activeColumns (a .0))) _ t (a .2) in
     let o = bind-inverse f (listTagReading d) _ t (x .2) in
     let h = frame-in f d (v .0) (v .1) in
-    subst (λ (y : Tags). Area-in (y .frame) (y .area)) (sym (same-value t _ (o .2 ∙ run-answer f _)))
-    (area-in f d (v .0) (h .0) (h .1) (a .0) (a .1))
+    subst (λ (y : Tags). Dimensions-in (y .frame) × Area-in (y .frame) (y .area)) (sym (same-value t _ (o .2 ∙ run-answer f _)))
+    (h, area-in f d (v .0) (h .some-rows) (h .some-columns) (a .0) (a .1))
