@@ -1,7 +1,10 @@
 pub mod CardLaws
 pub mod Demands
+pub mod Accurate
 pub mod Linear
+pub mod Table
 pub mod Worked
 pub mod WorkedLinear
+pub mod WorkedTable
 pub mod Refusals
 pub mod Unread

@@ -1,26 +1,22 @@
 -- What is not read of an accepted file: a stored sample outside the active area for no active sample; a byte that is in no directory
 -- visited and in no value that is tested there for no test up to 9, nor for what every sample needs.
 -- Assumes nothing.
-use mathlib.Core.Path.{_≡_, sym, ap, subst, _∙_}
+use mathlib.Core.Path.{_≡_, sym, subst, _∙_}
 use mathlib.Core.Bool.{false}
 use mathlib.Core.List.{List}
 use Prim.Native.Nat.{ℕ, _+_, _≤_, _<_}
 use lib.ListN.{length}
-use Rattle.reading.specs.Reading.{run, trace, reads, traceWhole}
-use Rattle.reading.proofs.Reading.{run-answer}
+use Rattle.reading.specs.Reading.{trace, reads, traceWhole}
 use Rattle.reading.proofs.Unread.{Unread}
 use Rattle.directory.specs.Out.{Out.is}
 use Rattle.directory.specs.Tree.{treeReading}
 use Rattle.directory.specs.declared.tree.Roots.{Roots}
-use Rattle.directory.proofs.Outs.{bind-inverse, same-value}
+use Rattle.directory.proofs.Outs.{same-value}
 use Rattle.rawtags.specs.Facts.Area.{Area-in}
-use Rattle.rawtags.specs.Raw.{tagsReading}
 use Rattle.raw.specs.Stored.{storedReading}
-use Rattle.raw.specs.Front.{rawReading, frontReading}
+use Rattle.raw.specs.Front.{frontReading}
 use Rattle.raw.specs.Sample.{ActiveIn}
-use Rattle.raw.specs.declared.front.Raw.{Raw}
-use Rattle.raw.specs.declared.front.Picture.{Picture}
-use Rattle.raw.proofs.Accepted.{front-accepted}
+use Rattle.raw.proofs.Accepted.{Found, front-found, front-accepted}
 use Rattle.rawtags.proofs.AcceptedFrame.{tags-frame}
 use Rattle.raw.proofs.Unread as samples
 use Rattle.raw.proofs.FrontUnread.{Raw-clear, stored-unread, front-unread}
@@ -28,31 +24,9 @@ use Rattle.develop.specs.Calls.{Opened, opened, tagsOf}
 use Rattle.demand.specs.Demand.{storedPlace, Is-sample, Not-in-tags, Not-in-list, Not-in-sample, Unread-but-sample}
 use Rattle.demand.proofs.Demands.{open-inverse}
 
--- ---- how an accepted file's tags were found
-module _ (f : List ℕ) (o : Opened) (e : is o ≡ opened f) where
-  -- the tree and the raw directory's tags of an accepted file
-  record Found : Type 0 where
-    roots : Roots
-    tree : is roots ≡ run f (treeReading (length f))
-    directory : o .picture .directory ≡ roots .raw
-    tags : is (tagsOf o) ≡ run f (tagsReading (length f) (roots .raw))
-
-  found : Found
-  unfolding frontReading rawReading
-  found =
-      let a = bind-inverse f (treeReading (length f)) _ (o .picture) (open-inverse f o e .front) in
-      let b = bind-inverse f (rawReading (length f) (a .0 .raw)) _ (o .picture) (a .2) in
-      let p = same-value (o .picture) _ (b .2 ∙ run-answer f _) in
-      let c = bind-inverse f (tagsReading (length f) (a .0 .raw)) _ (b .0) (b .1) in
-      let d = bind-inverse f _ _ (b .0) (c .2) in
-      let q = same-value (b .0) _ (d .2 ∙ run-answer f _) in
-      let t : tagsOf o ≡ c .0 = ap (λ (x : Picture). x .raw .tags) p ∙ ap (λ (x : Raw). x .tags) q in
-      record {
-        roots = a .0;
-        tree = a .1;
-        directory = ap (λ (x : Picture). x .directory) p;
-        tags = ap is t ∙ c .1;
-      }
+-- how an accepted file's tags were found
+found : (f : List ℕ) (o : Opened) → is o ≡ opened f → Found f (o .picture)
+found f o e = front-found f (o .picture) (open-inverse f o e .front)
 
 -- ---- stored samples
 module _ (f : List ℕ) (o : Opened) (e : is o ≡ opened f) (apart : samples.Strips-apart (tagsOf o) (o .stored .offsets)) where

@@ -64,6 +64,7 @@ use Rattle.demand.specs.Demand.{opcodeStart, storedPlace, Not-in-tags, U
 use Rattle.demand.specs.Demand.{Same-elsewhere, Demand-3}
 use Rattle.develop.proofs.Views.{open-is}
 use Rattle.demand.proofs.Linear as linear
+use Rattle.demand.proofs.Table as table
 use Rattle.demand.proofs.Linear.{unitMatrix, unitColour}
 use Rattle.demand.proofs.Demands.{meets-demand-3}
 
@@ -153,10 +154,12 @@ pub record Computed {A : Type 0} (f : List ℕ) (p : Reading A) (a : A) (lo hi :
   pub answer : a ≡ run f p
   pub unread : clear lo hi (trace f p) ≡ true
 
--- from 256 on, the list and the samples, no byte is read for the tags; of the LinearRaw file, from 218 on, the samples
+-- from 256 on, the list and the samples, no byte is read for the tags; of the LinearRaw file, from 218 on, the samples; of the one with a
+-- table, from 110 on
 pub fronts :
     Computed file (frontReading (length file)) (is picture) 256 400
     × Computed linear.file (frontReading (length linear.file)) (is linear.picture) 218 230
+    × ((t u : ℕ) → Computed (table.file t u) (frontReading (length (table.file t u))) (is table.picture) 110 112)
 unfolding trace run andThen pick numberAt numberOf littleOf bigOf fractionOf valueOf bind kindOf plainOf kindWidth entryOf placeTest
     entryReading
     orderTest shapeFrom ifdReading findFrom wholeReading valueReading testedReading absentOf valuesReading notCarried rangeFault judgedOf
@@ -169,23 +172,27 @@ unfolding trace run andThen pick numberAt numberOf littleOf bigOf fractionOf val
     areaReading pairReading repeatReading kindFor blacksTest blackReading deltaReading tableReading whiteReading levelTagsReading
     listTagReading
     tagsReading numbersReading blacksReading whitesReading levelsReading spannedOf rawReading frontReading
-fronts = (record { answer = refl; unread = refl }, record { answer = refl; unread = refl })
+fronts = (record { answer = refl; unread = refl }, record { answer = refl; unread = refl }, λ t u. record { answer = refl; unread = refl })
 
--- the skipped opcode's parameters are not read; the LinearRaw file has no list
-pub lists : Computed file (opcodesOf picture) (is opcodes) 392 400 × Computed linear.file (opcodesOf linear.picture) (is []) 218 230
+-- the skipped opcode's parameters are not read; the other two files have no list
+pub lists :
+    Computed file (opcodesOf picture) (is opcodes) 392 400
+    × Computed linear.file (opcodesOf linear.picture) (is []) 218 230
+    × ((t u : ℕ) → Computed (table.file t u) (opcodesOf table.picture) (is []) 110 112)
 unfolding trace run pick bind andThen numberOf bigOf runOf realOf ofBits gridOf fitsOf OpcodeList.headerOf OpcodeList.classOf
     OpcodeList.formOf
     OpcodeList.refusedIn OpcodeList.plainFault OpcodeList.opcodeFault OpcodeList.opcodeKind OpcodeList.parametersOf OpcodeList.listFrom
     OpcodeList.listReading
-lists = (record { answer = refl; unread = refl }, record { answer = refl; unread = refl })
+lists = (record { answer = refl; unread = refl }, record { answer = refl; unread = refl }, λ t u. record { answer = refl; unread = refl })
 
 pub values :
     Computed file (storedReading Little found) stored 256 400
     × Computed linear.file (storedReading Little linear.found) linear.stored 218 230
+    × ((t u : ℕ) → Computed (table.file t u) (storedReading Little table.found) (table.stored t u) 110 112)
 unfolding trace run andThen pick numberOf littleOf fractionOf valueOf runOf blackOf blackAt kindFor numbersReading blacksReading
     whitesReading
     levelsReading storedReading
-values = (record { answer = refl; unread = refl }, record { answer = refl; unread = refl })
+values = (record { answer = refl; unread = refl }, record { answer = refl; unread = refl }, λ t u. record { answer = refl; unread = refl })
 
 -- red, green, green, blue; the unit matrix and a neutral of ones
 abbrev half : Half

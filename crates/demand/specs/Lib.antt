@@ -1,2 +1,3 @@
 pub mod Card
 pub mod Demand
+pub mod Accuracy

@@ -2,6 +2,7 @@
 ghost use mathlib.Core.Path.{_≡_};
 ghost use Rattle.demand.specs.Card.{cardCall};
 ghost use Rattle.demand.specs.Demand.{Meets-demand-3};
+ghost use Rattle.demand.specs.Accuracy.{Has-accurate-levels};
 use develop::Opening;
 
 // Document 01's number, detail and five values.
@@ -18,6 +19,7 @@ pub struct CardAnswer {
 pub fn card(file: &[u8]) -> CardAnswer
     ensures { λ r. ⌜ r ≡ cardCall (now (file .entry)) ⌝ }
     ensures { λ r. ⌜ Meets-demand-3 (now (file .entry)) ⌝ }
+    ensures { λ r. ⌜ Has-accurate-levels (now (file .entry)) ⌝ }
 {
     match develop::open(file) {
         Opening::Refused { number, detail } => CardAnswer {

@@ -5,7 +5,7 @@ use mathlib.Core.Bool.{Bool, true, false, cond, true≢false}
 use mathlib.Core.List.{List, [], _∷_}
 use Prim.Native.Nat.{ℕ, zero, suc, _+_, _-_, _*_, _≤_, _<_, zero-le, suc-le-suc, min}
 use native.Mathlib.Nat.{mul-left-comm, mul-comm, mul-assoc, div-mul-le-self, lt-div-mul-add, zero-mul, le-div-iff-mul-le, mul-le-mul, mul-sub, mul-add}
-use native.Mathlib.Nat.{le-refl, le-trans, le-min, min-le-left, min-le-right}
+use native.Mathlib.Nat.{le-refl, le-trans, not-suc-le-zero, le-min, min-le-left, min-le-right}
 use native.Mathlib.Omega.{arith}
 use lib.Dec.{T, ltb}
 use lib.IntN.{ℤ, pos, negsuc, negℤ, natAbs, _-ℤ_, _*ℤ_}
@@ -50,7 +50,7 @@ distance a (suc b) s h k = go (ltb a (suc b)) refl
 pub level-within : (d s : ℤ) → Within-half-a-step d s (levelOf d s)
 level-within (pos d) (pos s) z h =
     let n = level-near d s (leb-true d s h) in
-    le-leb _ s (distance (levelOf (pos d) (pos s) * s) (65535 * d) s (n .0) (n .1))
+    le-leb _ s (omega (arith, distance (levelOf (pos d) (pos s) * s) (65535 * d) s (n .0) (n .1)))
 level-within (pos d) (negsuc s) z h = absurd (true≢false (sym h))
 level-within (negsuc d) s z h = absurd (true≢false (sym z))
 
@@ -119,6 +119,10 @@ level-ordered d e s h =
 -- a larger v never gives a smaller D
 pub difference-ordered : (v w : ℕ) (b : ℤ) → v ≤ w → leZ (differenceOf v b) (differenceOf w b) ≡ true
 difference-ordered v w b h = leZ-add (pos (256 * v)) (pos (256 * w)) (negℤ b) (le-leb (256 * v) (256 * w) (omega arith))
+
+-- an absent table never falls
+pub ascending-none : Ascending []
+ascending-none i j h k = absurd (not-suc-le-zero k)
 
 -- nor a larger stored sample a smaller v
 pub through-ordered : (t : List ℕ) → Ascending t → (a b : ℕ) → a ≤ b → throughOf t a ≤ throughOf t b

@@ -4,6 +4,7 @@ use Rattle.demand.specs.Card.{cardOf}
 use Rattle.develop.specs.Facts.View.{OpeningIs}
 use Rattle.demand.proofs.CardLaws.{card-viewed}
 use Rattle.demand.proofs.Demands.{meets-demand-3}
+use Rattle.demand.proofs.Accurate.{has-accurate-levels}
 use borrow.Author.Needs.{needs}
 use Rattle.demand.proofs.card.card.Statement.{statement}
 use Rattle.demand.proofs.card.card.Tie as tie
@@ -23,7 +24,7 @@ returns c =
     let open-call = c .before .before .before .«open» in
     let f = now (a .file) in
     let e = subst (OpeningIs f) (c .before .number .given .1) (open-call .ensures) in
-    (ap cardOf e, meets-demand-3 f)
+    (ap cardOf e, (meets-demand-3 f, has-accurate-levels f))
 
 returns-2 : tie.Need-returns-2
 returns-2 c =
@@ -31,7 +32,7 @@ returns-2 c =
     let open-call = c .before .before .before .«open» in
     let f = now (a .file) in
     let v = subst (OpeningIs f) (c .before .view .given .1) (open-call .ensures) in
-    (card-viewed f _ v, meets-demand-3 f)
+    (card-viewed f _ v, (meets-demand-3 f, has-accurate-levels f))
 
 pub card-spec : {M : Type 1} → statement M
 card-spec = tie.close (tie.spec open-requires enum-known-number enum-known-view returns returns-2)
