@@ -50,7 +50,7 @@ distance a (suc b) s h k = go (ltb a (suc b)) refl
 pub level-within : (d s : ℤ) → Within-half-a-step d s (levelOf d s)
 level-within (pos d) (pos s) z h =
     let n = level-near d s (leb-true d s h) in
-    le-leb _ s (omega (arith, distance (levelOf (pos d) (pos s) * s) (65535 * d) s (n .0) (n .1)))
+    omega (arith, distance (levelOf (pos d) (pos s) * s) (65535 * d) s (n .0) (n .1))
 level-within (pos d) (negsuc s) z h = absurd (true≢false (sym h))
 level-within (negsuc d) s z h = absurd (true≢false (sym z))
 

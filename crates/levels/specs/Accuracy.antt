@@ -8,10 +8,9 @@ use lib.ListN.{length, getD}
 use lib.Signed.{leZ}
 use Rattle.levels.specs.Levels.{Levels, levelAt}
 
--- "where 0 <= D <= S, .. twice the distance between L x S and 65535 x D is at most S"
+-- "where 0 <= D <= S, .. twice the distance between L x S and 65535 x D is at most S" (which is not negative there)
 abbrev pub Within-half-a-step : ℤ → ℤ → ℕ → Type 0
-Within-half-a-step d s l =
-    leZ (pos 0) d ≡ true → leZ d s ≡ true → leZ (pos (2 * natAbs (pos l *ℤ s -ℤ pos 65535 *ℤ d))) s ≡ true
+Within-half-a-step d s l = leZ (pos 0) d ≡ true → leZ d s ≡ true → 2 * natAbs (pos l *ℤ s -ℤ pos 65535 *ℤ d) ≤ natAbs s
 
 -- a table that "never falls": no entry is smaller than one before it. An absent table, the identity, has no entries
 abbrev pub Ascending : List ℕ → Type 0
