@@ -2,6 +2,7 @@
 //! the answer that they give. Both programs must give that answer, and where
 //! nothing else is said they must give it in both layouts.
 
+mod accuracy;
 mod blacks;
 mod colour;
 mod gain_map;
@@ -66,6 +67,7 @@ pub fn check(tally: &mut Tally) {
     tags::check(tally);
     blacks::check(tally);
     levels::check(tally);
+    accuracy::check(tally);
     parts::check(tally);
     wide::check(tally);
     lists::check(tally);

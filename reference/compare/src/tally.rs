@@ -67,6 +67,25 @@ impl Tally {
     /// time. They must answer the same in every bit, and what is stated, where
     /// something is. Gives the independent program's outcome.
     pub fn ask(&mut self, label: &str, file: &[u8], call: &Call, stated: Option<Stated>) -> Outcome {
+        let asked = self.expect(file, call, stated);
+        let expected = asked.expected.clone();
+        if file.len() > WAITING {
+            // Not worth a copy that waits.
+            self.ask_at_once(label, file, &asked);
+        } else {
+            self.wait(label, file, asked);
+        }
+        expected
+    }
+
+    /// The same, to both at once. Gives the core's outcome.
+    pub fn ask_now(&mut self, label: &str, file: &[u8], call: &Call, stated: Option<Stated>) -> Outcome {
+        let asked = self.expect(file, call, stated);
+        self.ask_at_once(label, file, &asked)
+    }
+
+    /// Puts one call to the independent program.
+    fn expect(&mut self, file: &[u8], call: &Call, stated: Option<Stated>) -> Asked {
         let expected = REFERENCE.ask(file, call);
         let answer = (expected.answer.number, expected.answer.detail);
         *self.met[index(call)].entry(answer).or_default() += 1;
@@ -74,15 +93,13 @@ impl Tally {
         self.values += values.len() as u64;
         let ends = [0, 1.0f64.to_bits()];
         self.between += values.iter().filter(|bits| !ends.contains(bits)).count() as u64;
-        let asked = Asked { call: *call, expected: expected.clone(), stated };
-        if file.len() > WAITING {
-            // Not worth a copy that waits.
-            let found = ask_core(iter::once((file, call)));
-            self.compare(label, &found[0], &asked);
-        } else {
-            self.wait(label, file, asked);
-        }
-        expected
+        Asked { call: *call, expected, stated }
+    }
+
+    fn ask_at_once(&mut self, label: &str, file: &[u8], asked: &Asked) -> Outcome {
+        let found = ask_core(iter::once((file, &asked.call))).swap_remove(0);
+        self.compare(label, &found, asked);
+        found
     }
 
     /// The same of a window whose values are stated.

@@ -12,7 +12,7 @@ use crate::questions::window;
 use crate::tally::Tally;
 
 /// The greatest L.
-const GREATEST: i64 = 65_535;
+pub const GREATEST: i64 = 65_535;
 
 /// The greatest S: a white level of 65,535 above a cell of 0 with a column's and
 /// a row's delta of -65,535.
@@ -40,21 +40,13 @@ pub struct Frame {
 }
 
 impl Frame {
-    /// In the 64-bit layout fractions stand in lowest terms, in the 32-bit one
-    /// over 256.
-    pub fn dng(&self, (order, widths): (ByteOrder, Widths)) -> Dng {
-        let (table, stored) = if self.table { self.through_table() } else { (Vec::new(), self.stored()) };
-        let [rows, columns] = self.levels.area;
-        let planes = self.levels.white.len() as u32;
-        let picture = Picture { stored, ..Picture::counting(columns, rows, planes, self.bits) };
-        let mut dng = Dng { widths, ..self.levels.set(Dng::new(order, &picture)) };
+    pub fn dng(&self, way: (ByteOrder, Widths)) -> Dng {
         if self.table {
-            dng = dng.with(Tag::shorts(50712, &table));
+            let (table, stored) = self.through_table();
+            dng_of(&self.levels, self.bits, stored, Some(&table), way)
+        } else {
+            dng_of(&self.levels, self.bits, self.stored(), None, way)
         }
-        if widths == Widths::BITS_64 {
-            in_lowest_terms(&mut dng);
-        }
-        dng
     }
 
     fn stored(&self) -> Vec<u16> {
@@ -75,6 +67,28 @@ impl Frame {
         let stored = self.stored().iter().map(index).collect();
         (table, stored)
     }
+}
+
+/// A file with these samples of the area, row by row, planes together, and this
+/// table. In the 64-bit layout fractions stand in lowest terms, in the 32-bit one
+/// over 256.
+pub fn dng_of(
+    levels: &Levels,
+    bits: u32,
+    stored: Vec<u16>,
+    table: Option<&[u16]>,
+    (order, widths): (ByteOrder, Widths),
+) -> Dng {
+    let [rows, columns] = levels.area;
+    let picture = Picture { stored, ..Picture::counting(columns, rows, levels.white.len() as u32, bits) };
+    let mut dng = Dng { widths, ..levels.set(Dng::new(order, &picture)) };
+    if let Some(entries) = table {
+        dng = dng.with(Tag::shorts(50712, entries));
+    }
+    if widths == Widths::BITS_64 {
+        in_lowest_terms(&mut dng);
+    }
+    dng
 }
 
 fn in_lowest_terms(dng: &mut Dng) {
