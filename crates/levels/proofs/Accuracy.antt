@@ -109,9 +109,9 @@ level-ordered d e s h =
     (λ x f. level-cases (λ (l : ℕ). roundedOf (65535 * natAbs d) (natAbs s) ≤ l) e s (λ y. absurd (above x y))
     (λ y g. rounded-most (natAbs d) (natAbs s) (not-le s d f (not-le-zero d x .0) .1))
     (λ y g.
-        let m = magnitudes-ordered d e (not-le-zero d x .0) h in
-        let z = not-le s e g (not-le-zero e y .0) .1 in
-        rounded-ordered (65535 * natAbs d) (65535 * natAbs e) (natAbs s) (omega arith) (omega arith)))
+    let m = magnitudes-ordered d e (not-le-zero d x .0) h in
+    let z = not-le s e g (not-le-zero e y .0) .1 in
+    rounded-ordered (65535 * natAbs d) (65535 * natAbs e) (natAbs s) (omega arith) (omega arith)))
   where
     above : leZ d (pos 0) ≡ false → leZ e (pos 0) ≡ true → ⊥
     above x y = true≢false (sym (leZ-trans d e (pos 0) h y) ∙ x)
