@@ -8,6 +8,7 @@ use Rattle.directory.specs.Widths.{classic}
 use Rattle.directory.specs.Shape.{ifd}
 use Rattle.directory.specs.Tag.{noValues}
 use Rattle.directory.specs.declared.entry.Kind.the-variants as entryKind
+use Rattle.levels.specs.Plain.{plainThrough}
 use Rattle.rawtags.specs.Area.{area}
 use Rattle.raw.specs.Spans.{spans}
 use Rattle.raw.specs.Stored.{Stored}
@@ -60,19 +61,7 @@ abbrev pub stored : ℕ → ℕ → Stored
 stored t u =
     record {
       offsets = 110 ∷ [];
-      levels =
-          record {
-            rows = 1;
-            columns = 2;
-            table = numberOf Little (t ∷ 0 ∷ []) ∷ numberOf Little (u ∷ 0 ∷ []) ∷ [];
-            repeat-rows = 1;
-            repeat-columns = 1;
-            samples = 1;
-            cells = [];
-            column-deltas = [];
-            row-deltas = [];
-            whites = 255 ∷ [];
-          };
+      levels = plainThrough (numberOf Little (t ∷ 0 ∷ []) ∷ numberOf Little (u ∷ 0 ∷ []) ∷ []) 1 2 [] 255;
     }
 
 abbrev pub held : ℕ → ℕ → Opened

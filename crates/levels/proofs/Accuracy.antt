@@ -102,19 +102,27 @@ magnitudes-ordered (negsuc d) e n h = absurd n
 
 -- a larger D never gives a smaller L
 pub level-ordered : (d e s : ℤ) → leZ d e ≡ true → levelOf d s ≤ levelOf e s
-level-ordered d e s h =
-    level-cases (λ (l : ℕ). l ≤ levelOf e s) d s (λ x. zero-le)
-    (λ x f. level-cases (λ (l : ℕ). 65535 ≤ l) e s (λ y. absurd (above x y)) (λ y g. le-refl 65535)
-    (λ y g. absurd (true≢false (sym (leZ-trans s d e f h) ∙ g))))
-    (λ x f. level-cases (λ (l : ℕ). roundedOf (65535 * natAbs d) (natAbs s) ≤ l) e s (λ y. absurd (above x y))
-    (λ y g. rounded-most (natAbs d) (natAbs s) (not-le s d f (not-le-zero d x .0) .1))
-    (λ y g.
-    let m = magnitudes-ordered d e (not-le-zero d x .0) h in
-    let z = not-le s e g (not-le-zero e y .0) .1 in
-    rounded-ordered (65535 * natAbs d) (65535 * natAbs e) (natAbs s) (omega arith) (omega arith)))
+level-ordered d e s h = level-cases (λ (l : ℕ). l ≤ levelOf e s) d s (λ x. zero-le) full between
   where
     above : leZ d (pos 0) ≡ false → leZ e (pos 0) ≡ true → ⊥
     above x y = true≢false (sym (leZ-trans d e (pos 0) h y) ∙ x)
+
+    full : leZ d (pos 0) ≡ false → leZ s d ≡ true → 65535 ≤ levelOf e s
+    full x f =
+        level-cases (λ (l : ℕ). 65535 ≤ l) e s (λ y. absurd (above x y)) (λ y g. le-refl 65535)
+        (λ y g. absurd (true≢false (sym (leZ-trans s d e f h) ∙ g)))
+
+    rounded : leZ d (pos 0) ≡ false → leZ e (pos 0) ≡ false → leZ s e ≡ false →
+        roundedOf (65535 * natAbs d) (natAbs s) ≤ roundedOf (65535 * natAbs e) (natAbs s)
+    rounded x y g =
+        let m = magnitudes-ordered d e (not-le-zero d x .0) h in
+        let z = not-le s e g (not-le-zero e y .0) .1 in
+        rounded-ordered (65535 * natAbs d) (65535 * natAbs e) (natAbs s) (omega arith) (omega arith)
+
+    between : leZ d (pos 0) ≡ false → leZ s d ≡ false → roundedOf (65535 * natAbs d) (natAbs s) ≤ levelOf e s
+    between x f =
+        level-cases (λ (l : ℕ). roundedOf (65535 * natAbs d) (natAbs s) ≤ l) e s (λ y. absurd (above x y))
+        (λ y g. rounded-most (natAbs d) (natAbs s) (not-le s d f (not-le-zero d x .0) .1)) (λ y g. rounded x y g)
 
 -- a larger v never gives a smaller D
 pub difference-ordered : (v w : ℕ) (b : ℤ) → v ≤ w → leZ (differenceOf v b) (differenceOf w b) ≡ true
@@ -124,7 +132,7 @@ difference-ordered v w b h = leZ-add (pos (256 * v)) (pos (256 * w)) (negℤ b) 
 pub ascending-none : Ascending []
 ascending-none i j h k = absurd (not-suc-le-zero k)
 
--- nor a larger stored sample a smaller v
+-- where the table never falls, a larger stored sample never gives a smaller v
 pub through-ordered : (t : List ℕ) → Ascending t → (a b : ℕ) → a ≤ b → throughOf t a ≤ throughOf t b
 unfolding throughOf
 through-ordered [] n a b h = h
@@ -132,7 +140,7 @@ through-ordered (x ∷ xs) n a b h =
     let m = length xs in
     n (min a m) (min b m) (le-min (le-trans (min-le-left a m) h) (min-le-right a m)) (suc-le-suc (min-le-right b m))
 
--- and so at one place, of any levels
+-- both claims, of any levels
 pub levels-in-order : (l : Levels) (r c p : ℕ) → In-stored-order l r c p
 unfolding levelAt
 levels-in-order l r c p n a b h =
