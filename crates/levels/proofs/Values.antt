@@ -308,7 +308,7 @@ le-values (fin false m e) (fin false n g) a c b d h k l =
 abbrev pub Shape : Bool → Float → Type 0
 Shape s x = (x ≡ inf s) ⊎ ((m : ℕ) × (e : ℤ) × (x ≡ fin s m e))
 
-pub odd-shape : (d : ℕ) (s : Bool) (q k l : ℕ) → (m : ℕ) × (e : ℤ) × (odd d s q k l ≡ fin s m e)
+odd-shape : (d : ℕ) (s : Bool) (q k l : ℕ) → (m : ℕ) × (e : ℤ) × (odd d s q k l ≡ fin s m e)
 unfolding odd
 odd-shape d s zero k l = (_, _, refl)
 odd-shape d s (suc q) k l = (_, _, refl)

@@ -3,22 +3,22 @@
 use mathlib.Core.Path.{_≡_, refl, sym, ap, _∙_, subst}
 use mathlib.Core.Bool.{Bool, true, false, cond, not, Bool·beq, _&&_, _||_, true≢false}
 use mathlib.Core.Logic.{⊎-elim}
-use Prim.Native.Nat.{ℕ, zero, suc, _+_, _*_, _-_, _/_, _%_, _^_, _≤_, _<_}
+use Prim.Native.Nat.{ℕ, zero, suc, _+_, _*_, _-_, _/_, _^_, _≤_, _<_}
 use native.Mathlib.Nat.{div-lt-iff-lt-mul, lt-of-mul-lt-mul-right, mul-le-mul, le-refl, zero-mul, mul-lt-mul-of-pos-right}
 use native.Mathlib.Nat.{le-div-iff-mul-le}
 use native.Mathlib.Omega.{arith}
 use borrow.Author.Tests.{lt-ltb, le-ltb, ltb-true, ltb-false, eqb-false, ne-eqb, eq-eqb}
 use lib.IntN.{ℤ, pos}
-use lib.Dec.{T, leb, ltb, eqb, ltb→lt, lt→ltb}
-use lib.Ieee.{Float, nan, inf, fin, Format, binary64, prec, low, up, down, hid, ones, top, odd, round, unlike, lt, le}
-use lib.Ieee.{neg, sum, add, sub, div, toUnsigned, ofFields, ofBits, isNan, inFloat}
+use lib.Dec.{T, ltb, eqb, ltb→lt, lt→ltb}
+use lib.Ieee.{Float, nan, inf, fin, Format, binary64, up, down, round, unlike, lt, le}
+use lib.Ieee.{neg, sum, add, sub, div, toUnsigned, ofBits, isNan, inFloat}
 use lib.Ieee.Fits.{down-pos}
 use lib.Ieee.Exact.{HasValue}
 use lib.Ieee.Scale.{finite}
 use lib.Ieee.Positive.{positive, positive-of-value, first-pos}
 use Rattle.reading.specs.Real.{refusedPattern, realOf}
 use Rattle.reading.specs.declared.real.Real.{Real}
-use Rattle.reading.proofs.Pattern.{is-refused, is-value}
+use Rattle.reading.proofs.Pattern.{is-refused, is-value, bits-finite}
 use Rattle.reading.proofs.Wholes.{in-float, int-value}
 use Rattle.levels.specs.Clip.{plusZero}
 use Rattle.opcodes.specs.Step.{half, valueOf}
@@ -26,7 +26,7 @@ use Rattle.opcodes.specs.OpcodeList.{refusedReal}
 use Rattle.opcodes.specs.GainMap.{floatOf, placeOf, wholeOf}
 use Rattle.opcodes.specs.Facts.Bracket.{Axis-in}
 use Rattle.opcodes.specs.declared.gain_map.Axis.{Axis}
-use Rattle.levels.proofs.Values.{odd-shape, round-shape}
+use Rattle.levels.proofs.Values.{round-shape}
 
 -- ---- a whole number as f64
 pub float-exact : (n : ℕ) → n ≤ 65536 → T (inFloat binary64 (pos n))
@@ -35,23 +35,12 @@ float-exact n h = in-float (pos n) (omega arith)
 float-value : (n : ℕ) → n ≤ 65536 → HasValue (floatOf n) false n 1
 float-value n h = int-value (pos n) (omega arith)
 
--- ---- the number of an accepted pattern is finite
-odd-finite : (d : ℕ) (s : Bool) (q k l : ℕ) → T (finite (odd d s q k l))
-odd-finite d s q k l = let (m, e, h) = odd-shape d s q k l in subst (λ (x : Float). T (finite x)) (sym h) tt
-
+-- two tests that both fail
 pub or-false : (a b : Bool) → (a || b) ≡ false → (a ≡ false) × (b ≡ false)
 or-false true b h = absurd (true≢false h)
 or-false false b h = (refl, h)
 
-fields-finite : (f : Format) (s : Bool) (x t : ℕ) → eqb x (ones f) ≡ false → T (finite (ofFields f s x t))
-unfolding ofFields
-fields-finite f s zero t h = odd-finite (prec f) s t 0 (low f)
-fields-finite f s (suc x) t h = rw h (odd-finite (prec f) s (hid f + t) x (low f))
-
-bits-finite : (f : Format) (b : ℕ) → refusedPattern f b ≡ false → T (finite (ofBits f b))
-unfolding ofBits
-bits-finite f b h = fields-finite f (leb (top f) b) (b % top f / hid f) (b % hid f) (or-false (eqb (b % top f / hid f) (ones f)) _ h .0)
-
+-- ---- the number of an accepted pattern is finite
 pub real-finite : (f : Format) (b : ℕ) → T (finite (valueOf (realOf f b)))
 real-finite f b = go (refusedPattern f b) refl
   where
