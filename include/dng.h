@@ -11,7 +11,8 @@ extern "C" {
 
 /* A caller need test no file and no number before a call: any bytes and any arguments are answered. No call reads outside its
    file or writes outside what it is lent. A pointer is good for its length, aligned as its elements and not NULL, also where
-   the length is 0, and what is written does not overlap the file. */
+   the length is 0, and what is written does not overlap the file. The floating-point modes are those that a program starts with:
+   rounding to nearest, denormals kept (-ffast-math may change that where the program is linked). */
 
 /* The places of a card's numbers: number and detail, active rows, active columns, samples per pixel, opcodes kept, opcodes
    skipped. */

@@ -66,7 +66,7 @@ formOf g id n =
     pick (eqb id 7) (tableForm n)
     (pick (eqb id 8) (polynomialForm n) (pick (eqb id 10 || eqb id 12) (linesForm (rowsOf g) n) (linesForm (columnsOf g) n)))
 
--- a FLOAT or a DOUBLE is "infinite, NaN or denormal"
+-- a FLOAT or a DOUBLE is infinite or NaN (12)
 abbrev pub refusedReal : Real → Bool
 refusedReal real.Refused = true
 refusedReal (real.Value x) = false
