@@ -8,7 +8,7 @@ use reference::develop::{accept, Accepted};
 use reference::directory::walk;
 use reference::gain_map::{Axis, GainMap};
 use reference::generate::{generate, generate_valid};
-use reference::opcodes::{Action, Grid, Opcode};
+use reference::opcodes::{Action, FrameSize, Grid, Opcode};
 use reference::pattern;
 use reference::tag_test::{fine, Tags, LONG, RATIONAL, SHORT, SRATIONAL};
 use reference::{card, colour_window, half_window, spot, window, Answer};
@@ -31,8 +31,8 @@ fn answer(file: &[u8], call: &Call) -> Answer {
 }
 
 /// Of the first 3,000 cases of seed 1: their files and calls, their answers.
-const FILES: Fingerprint = Fingerprint(17517845584835061728);
-const ANSWERS: Fingerprint = Fingerprint(8403833826180534967);
+const FILES: Fingerprint = Fingerprint(11025926590502616366);
+const ANSWERS: Fingerprint = Fingerprint(8418464339651778358);
 
 #[test]
 fn the_first_cases_have_a_known_fingerprint() {
@@ -244,6 +244,87 @@ fn gain_maps_of_every_kind_are_accepted_and_refused() {
     println!("{counts:?}, {faulty:?}");
     assert!(counts.len() == 20 && counts.values().all(|count| *count >= 10), "{counts:?}");
     assert!([0, 10, 12].iter().all(|number| faulty[number] >= 3), "{faulty:?}");
+}
+
+/// A kind of number, and whether it is below 0.
+type Signed = (&'static str, bool);
+
+fn denormals(kind: &'static str, numbers: &[f64], denormal: fn(f64) -> bool) -> Vec<Signed> {
+    let found = numbers.iter().filter(|number| denormal(**number));
+    found.map(|number| (kind, *number < 0.0)).collect()
+}
+
+/// The kinds of denormal numbers that an opcode has.
+fn kinds_of_denormals(action: &Action) -> Vec<Signed> {
+    let of_floats = |kind, numbers: &[f64]| denormals(kind, numbers, |number| (number as f32).is_subnormal());
+    let of_doubles = |kind, numbers: &[f64]| denormals(kind, numbers, f64::is_subnormal);
+    match action {
+        Action::MapTable(_) => Vec::new(),
+        Action::MapPolynomial(coefficients) => of_doubles("coefficient", coefficients),
+        Action::DeltaPerRow(deltas) => of_floats("row delta", deltas),
+        Action::DeltaPerColumn(deltas) => of_floats("column delta", deltas),
+        Action::ScalePerRow(factors) => of_floats("row factor", factors),
+        Action::ScalePerColumn(factors) => of_floats("column factor", factors),
+        Action::GainMap(map) => {
+            let gains: Vec<f64> = map.gains.iter().copied().map(f64::from).collect();
+            let mut kinds = of_floats("gain", &gains);
+            for axis in [&map.vertical, &map.horizontal] {
+                let spacing = if axis.points > 1 { "spacing of points" } else { "spacing of one point" };
+                kinds.extend(of_doubles(spacing, &[axis.spacing]));
+                kinds.extend(of_doubles("origin", &[axis.origin]));
+            }
+            kinds
+        }
+    }
+}
+
+/// In the files that are accepted every kind occurs with both signs, but for a
+/// spacing below 0 of several points; developed values are denormal too.
+#[test]
+fn denormals_of_every_kind_are_accepted() {
+    let mut counts: BTreeMap<Signed, u32> = BTreeMap::new();
+    let mut refused: BTreeMap<u32, u32> = BTreeMap::new();
+    for index in 0..4_000 {
+        let case = generate(9, index);
+        if case.label == "opcode numbers" {
+            *refused.entry(card(&case.file).number).or_default() += 1;
+        }
+        let Ok(accepted) = accept(&case.file) else { continue };
+        let mut kinds: BTreeSet<Signed> = BTreeSet::new();
+        for opcode in &accepted.opcodes {
+            if let Opcode::Kept(_, action) = opcode {
+                kinds.extend(kinds_of_denormals(action));
+            }
+        }
+        let FrameSize { rows, columns, samples } = accepted.size();
+        if rows * columns * samples <= 3_000 {
+            let frame = accepted.whole_frame();
+            kinds.extend(denormals("value", &frame, f64::is_subnormal));
+            kinds.extend(denormals("least value", &frame, |value| value.to_bits() == 1));
+        }
+        kinds.into_iter().for_each(|kind| *counts.entry(kind).or_default() += 1);
+    }
+    println!("{counts:?}, {refused:?}");
+    for (kind, signs) in [
+        ("coefficient", 2),
+        ("row delta", 2),
+        ("column delta", 2),
+        ("row factor", 2),
+        ("column factor", 2),
+        ("gain", 2),
+        ("spacing of points", 1),
+        ("spacing of one point", 2),
+        ("origin", 2),
+        ("value", 1),
+        ("least value", 1),
+    ] {
+        for below_0 in [false, true] {
+            let count = counts.get(&(kind, below_0)).copied().unwrap_or(0);
+            let wanted = if below_0 && signs == 1 { count == 0 } else { count >= 10 };
+            assert!(wanted, "{kind}, below 0: {below_0}: {counts:?}");
+        }
+    }
+    assert!([0, 12].iter().all(|number| refused[number] >= 10), "{refused:?}");
 }
 
 /// What the level tags of an accepted file say, in 256ths.
