@@ -1,77 +1,19 @@
-//! Document 02, T-07: "A denormal FLOAT or DOUBLE is now read at its exact value."
-//! Numbers by their bits, worked out by hand; results that are denormal; the
-//! order of what is still refused.
+//! Document 02, T-07: denormal FLOATs and DOUBLEs are read at their exact value,
+//! results may be denormal, and 12 is for infinite and NaN alone. The module
+//! `denormals` has the numbers, worked out by hand.
 
 mod common;
 
 use common::*;
 use reference::builder::{Area, Dng, GainMap, Opcode, OpcodeList, Picture, Tag, MAP_GAINS, MAP_SPACING};
 use reference::bytes::ByteOrder;
+use reference::denormals::{
+    self, doubles, floats, gain, least, one, Worked, FLOAT_SIGN, FULL, GREATEST, GREATEST_FLOAT, SIGN, TINY,
+    TINY_BITS,
+};
 use reference::develop::accept;
 use reference::listing;
 use reference::opcodes::{Action, Opcode as Read};
-
-const FLOAT_SIGN: u32 = 1 << 31;
-const SIGN: u64 = 1 << 63;
-
-/// FLOATs without their sign, and the f64 of equal value: the exponent's field
-/// of 2^-n is 3FF - n.
-const FLOATS: [(u32, u64); 9] = [
-    (0x0000_0000, 0),
-    // 2^-149, and thrice as much.
-    (0x0000_0001, 0x36A0_0000_0000_0000),
-    (0x0000_0003, 0x36B8_0000_0000_0000),
-    // 2^-127.
-    (0x0040_0000, 0x3800_0000_0000_0000),
-    // The greatest denormal, 2^-126 - 2^-149: 23 ones, the first of them 2^-127.
-    (0x007F_FFFF, 0x380F_FFFF_C000_0000),
-    // The least normal, 2^-126, and the next.
-    (0x0080_0000, 0x3810_0000_0000_0000),
-    (0x0080_0001, 0x3810_0000_2000_0000),
-    (0x3F00_0000, 0x3FE0_0000_0000_0000),
-    // 24 ones, the first of them 2^127.
-    (0x7F7F_FFFF, 0x47EF_FFFF_E000_0000),
-];
-
-/// DOUBLEs without their sign.
-const DOUBLES: [u64; 8] = [
-    0,
-    1,
-    3,
-    0x0008_0000_0000_0000,
-    0x000F_FFFF_FFFF_FFFF,
-    0x0010_0000_0000_0000,
-    0x0010_0000_0000_0001,
-    0x7FEF_FFFF_FFFF_FFFF,
-];
-
-fn floats() -> impl Iterator<Item = (u32, u64)> {
-    FLOATS.into_iter().flat_map(|(bits, value)| [(bits, value), (bits | FLOAT_SIGN, value | SIGN)])
-}
-
-fn doubles() -> impl Iterator<Item = u64> {
-    DOUBLES.into_iter().flat_map(|bits| [bits, bits | SIGN])
-}
-
-/// The least f64 above 0, so many times.
-fn least(times: u64) -> f64 {
-    f64::from_bits(times)
-}
-
-/// The least FLOAT above 0.
-const TINY: f32 = f32::from_bits(1);
-const TINY_VALUE: u64 = 0x36A0_0000_0000_0000;
-/// 2^-1022 - 2^-1074.
-const GREATEST: u64 = 0x000F_FFFF_FFFF_FFFF;
-
-fn one() -> Area {
-    Area::whole(1, 1, 1)
-}
-
-/// A frame that holds x.
-fn constant(x: f64) -> Opcode {
-    Opcode::map_polynomial(one(), &[x])
-}
 
 /// What an opcode does on one sample, as the list's reader gives it.
 fn read(opcode: Opcode) -> Action {
@@ -82,15 +24,16 @@ fn read(opcode: Opcode) -> Action {
     }
 }
 
-/// The bits of one sample, by the window and the spot.
-fn developed(stored: u16, opcodes: &[Opcode]) -> u64 {
-    let file = row_of(&[stored]).with_opcodes(opcodes).file();
-    let bits = frame_of(&file)[0].to_bits();
-    assert_eq!(spot_value(&file, 0, 0, 0).to_bits(), bits);
-    bits
+/// The window, and the spot, of one sample.
+#[track_caller]
+fn hold(worked: Vec<Worked>) {
+    assert!(!worked.is_empty());
+    for Worked { stored, list, bits } in worked {
+        let file = row_of(&[stored]).with_opcodes(&list).file();
+        let [of_window, of_spot] = [frame_of(&file)[0], spot_value(&file, 0, 0, 0)].map(f64::to_bits);
+        assert_eq!((of_window, of_spot), (bits, bits), "{list:x?}");
+    }
 }
-
-const FULL: u16 = 65_535;
 
 // The numbers.
 
@@ -107,7 +50,7 @@ fn a_float_is_read_at_its_exact_value() {
             };
             assert_eq!(found.to_bits(), value, "{bits:08x} in opcode {id}");
         }
-        match read(Opcode::gain_map(one(), &GainMap::spread(&[[f32::from_bits(bits)]]))) {
+        match read(gain(f32::from_bits(bits))) {
             Action::GainMap(map) => assert_eq!(map.gain(0, 0, 0).to_bits(), value, "{bits:08x}"),
             other => panic!("{other:?}"),
         }
@@ -145,156 +88,35 @@ fn a_double_is_read_at_its_exact_value() {
 
 // What the opcodes make of them.
 
-/// Of 1.0 a factor leaves its own value, clipped; a delta adds to 0 its own.
 #[test]
-fn a_float_shows_at_its_exact_value() {
-    for (bits, value) in floats() {
-        let number = f32::from_bits(bits);
-        let shown = if number >= 1.0 {
-            1.0f64.to_bits()
-        } else if number > 0.0 {
-            value
-        } else {
-            0
-        };
-        let gain = Opcode::gain_map(one(), &GainMap::spread(&[[number]]));
-        assert_eq!(developed(FULL, &[gain]), shown, "gain {bits:08x}");
-        for id in [12, 13] {
-            assert_eq!(developed(FULL, &[Opcode::per_line(id, one(), &[number])]), shown, "{id}, {bits:08x}");
-        }
-        for id in [10, 11] {
-            assert_eq!(developed(0, &[Opcode::per_line(id, one(), &[number])]), shown, "{id}, {bits:08x}");
-        }
-    }
-}
-
-#[test]
-fn a_constant_polynomial_shows_its_double() {
-    for bits in doubles() {
-        let number = f64::from_bits(bits);
-        let shown = if bits == 0x7FEF_FFFF_FFFF_FFFF {
-            1.0f64.to_bits()
-        } else if bits & SIGN == 0 {
-            bits
-        } else {
-            0
-        };
-        assert_eq!(developed(FULL, &[constant(number)]), shown, "{bits:016x}");
-    }
+fn a_number_shows_at_its_exact_value() {
+    hold(denormals::shown());
 }
 
 #[test]
 fn a_denormal_delta_is_added_and_rounded() {
-    for id in [10, 11] {
-        let delta = |number: f32| Opcode::per_line(id, one(), &[number]);
-        assert_eq!(developed(0, &[delta(TINY)]), TINY_VALUE);
-        assert_eq!(developed(0, &[delta(-TINY)]), 0);
-        // 2^-149 twice is 2^-148; less 2^-149 it is +0.0.
-        assert_eq!(developed(0, &[delta(TINY), delta(TINY)]), 0x36B0_0000_0000_0000);
-        assert_eq!(developed(0, &[delta(TINY), delta(-TINY)]), 0);
-        // Next to 1 nothing is left of it; a step of 1/65535 is as far off.
-        assert_eq!(developed(FULL, &[delta(TINY)]), 1.0f64.to_bits());
-        assert_eq!(developed(FULL, &[delta(-TINY)]), 1.0f64.to_bits());
-        assert_eq!(developed(1, &[delta(TINY)]), (1.0f64 / 65535.0).to_bits());
-        // On 2^-201, a 2^-52 of 2^-149, it is the next number, and one more is a
-        // tie that goes to the even one.
-        let step = 2f64.powi(-201);
-        assert_eq!(developed(0, &[constant(step), delta(TINY)]), TINY_VALUE + 1);
-        assert_eq!(developed(0, &[constant(step / 2.0), delta(TINY)]), TINY_VALUE);
-    }
+    hold(denormals::sums());
 }
 
-/// Ties go to the even number, of denormals too.
 #[test]
-fn denormal_results_are_rounded_once() {
-    for id in [12, 13] {
-        let scaled =
-            |x: f64, factor: f32| developed(0, &[constant(x), Opcode::per_line(id, one(), &[factor])]);
-        for (times, factor, expected) in [
-            (1, 0.5, 0),
-            (1, 0.5 + f32::EPSILON, 1),
-            (1, 0.75, 1),
-            (1, 0.25, 0),
-            (1, 1.0, 1),
-            (1, 1.25, 1),
-            (1, 1.5, 2),
-            (1, 2.0, 2),
-            (1, 3.0, 3),
-            (1, -1.0, 0),
-            (2, 0.5, 1),
-            (3, 0.5, 2),
-            (5, 0.5, 2),
-            (7, 0.5, 4),
-            (GREATEST, 0.5, 1 << 51),
-            (GREATEST, 2.0, 0x001F_FFFF_FFFF_FFFE),
-            (GREATEST + 1, 0.5, 1 << 51),
-            (GREATEST + 2, 0.5, 1 << 51),
-        ] {
-            assert_eq!(scaled(least(times), factor), expected, "{times} x {factor}");
-        }
-    }
+fn denormal_products_are_rounded_once() {
+    hold(denormals::products());
 }
 
-/// 149 x 7 is 1043: seven factors of 2^-149 leave 2^-1043, the eighth nothing.
 #[test]
 fn factors_of_the_least_float_one_after_another() {
-    let factors = |count: usize| vec![Opcode::per_line(12, one(), &[TINY]); count];
-    for (count, expected) in
-        [(1, TINY_VALUE), (2, (1023 - 298) << 52), (6, (1023 - 894) << 52), (7, 1 << 31), (8, 0)]
-    {
-        assert_eq!(developed(FULL, &factors(count)), expected, "{count}");
-    }
-    // 2^-31 of 2^-1043 is the least number, and a half of that is 0.
-    let after =
-        |factor: f32| developed(FULL, &[factors(7), vec![Opcode::per_line(13, one(), &[factor])]].concat());
-    let least = 2f32.powi(-31);
-    assert_eq!((after(least), after(least / 2.0), after(1.5 * least)), (1, 0, 2));
-    // 1/65535 is about 2^-16.
-    let of_one = developed(1, &factors(7));
-    assert_eq!(of_one, (1 << 15) + 1, "2^31 / 65535 is 32768.5 and a bit");
+    hold(denormals::chains());
 }
 
-/// Two roundings: the product is rounded before the sum.
+/// The product is rounded before the sum.
 #[test]
 fn a_polynomial_of_denormals() {
-    let polynomial = |x: f64, coefficients: &[f64]| {
-        developed(0, &[constant(x), Opcode::map_polynomial(one(), coefficients)])
-    };
-    let steps = |numbers: &[i64]| -> Vec<f64> {
-        numbers.iter().map(|n| least(n.unsigned_abs()).copysign(*n as f64)).collect()
-    };
-    for (x, coefficients, expected) in [
-        (1.0, &[1, 1][..], 2),
-        (0.5, &[1, 1], 1),
-        (0.75, &[1, 1], 2),
-        // 1.5 is 2, and 2 + 1 is 3; in one step 2.5 would be 2.
-        (0.5, &[1, 3], 3),
-        (0.5, &[0, 5], 2),
-        (1.0, &[1, -1], 0),
-        (1.0, &[-1, 2], 1),
-        (1.0, &[-2, 1], 0),
-        (1.0, &[0, 0, 0, 0, 0, 0, 0, 0, 1], 1),
-        (1.0, &[1, 1, 1, 1, 1, 1, 1, 1, 1], 9),
-        (0.5, &[0, 0, 0, 0, 0, 0, 0, 0, 256], 1),
-        (0.5, &[1, 1, 1, 1, 1, 1, 1, 1, 1], 1),
-        (0.0, &[1, 9, 9], 1),
-        (0.0, &[-1, 9, 9], 0),
-    ] {
-        assert_eq!(polynomial(x, &steps(coefficients)), expected, "{coefficients:?} at {x}");
-    }
-    // The sum of the greatest denormal and the least is the least normal.
-    assert_eq!(polynomial(1.0, &[least(GREATEST), least(1)]), GREATEST + 1);
-    // 2^-1074 times 2^1023 is 2^-51, and more than 1 is left of the greatest.
-    assert_eq!(polynomial(least(1), &[0.0, 2f64.powi(1023)]), (1023 - 51) << 52);
-    assert_eq!(polynomial(least(GREATEST), &[0.0, f64::MAX]), 1.0f64.to_bits());
+    hold(denormals::polynomials());
 }
 
 #[test]
 fn a_table_takes_a_denormal_for_0() {
-    let table = Opcode::map_table(one(), &[7, 8, 9]);
-    for x in [least(1), least(GREATEST)] {
-        assert_eq!(developed(FULL, &[constant(x), table.clone()]), (7.0f64 / 65535.0).to_bits());
-    }
+    hold(denormals::table_entries());
 }
 
 // GainMap.
@@ -351,18 +173,13 @@ fn a_denormal_origin_is_as_good_as_0() {
 /// Places 0.25 and 0.75 between 2^-149 and a greater gain; every number is exact.
 #[test]
 fn denormal_gains() {
-    let tiny = f64::from_bits(TINY_VALUE);
+    let tiny = f64::from_bits(TINY_BITS);
     assert_eq!(mapped_row(2, 1.0, 0.0, &[TINY, TINY]), [tiny; 2]);
     assert_eq!(mapped_row(2, 1.0, 0.0, &[0.0, TINY]), [0.25 * tiny, 0.75 * tiny]);
     assert_eq!(mapped_row(2, 1.0, 0.0, &[TINY, -TINY]), [0.5 * tiny, 0.0]);
     let greatest = f64::from_bits(0x380F_FFFF_C000_0000);
     let between = [0.75 * tiny + 0.25 * greatest, 0.25 * tiny + 0.75 * greatest];
-    assert_eq!(mapped_row(2, 1.0, 0.0, &[TINY, f32::from_bits(0x007F_FFFF)]), between);
-    // On a denormal sample: 2^-1074 by 0.75 is 2^-1074, by 0.5 and 2^-149 it is 0,
-    // by 24 ones from 2^127 on it is 24 ones from 2^-947 on.
-    let of =
-        |gain: f32| developed(0, &[constant(least(1)), Opcode::gain_map(one(), &GainMap::spread(&[[gain]]))]);
-    assert_eq!([0.75, 0.5, TINY, 1.5, f32::MAX].map(of), [1, 0, 0, 2, 0x04CF_FFFF_E000_0000]);
+    assert_eq!(mapped_row(2, 1.0, 0.0, &[TINY, f32::from_bits(GREATEST_FLOAT)]), between);
 }
 
 // The other calls.
@@ -371,7 +188,7 @@ fn denormal_gains() {
 fn the_listing_prints_a_denormal() {
     let dng = row_of(&[0, FULL]).with_opcodes(&[
         Opcode::map_polynomial(Area { right: 1, ..Area::whole(1, 2, 1) }, &[least(1)]),
-        Opcode::map_polynomial(Area { left: 1, ..Area::whole(1, 2, 1) }, &[least(GREATEST)]),
+        Opcode::map_polynomial(Area { left: 1, ..Area::whole(1, 2, 1) }, &[f64::from_bits(GREATEST)]),
     ]);
     assert_eq!(listing(&dng.file()), "frame 1 2 1\n0000000000000001 000fffffffffffff\n");
 }
@@ -400,7 +217,7 @@ fn colours_of_denormals() {
 
 #[test]
 fn blocks_of_denormals() {
-    let four = [(0, 0, 3), (0, 1, 1), (1, 0, 4), (1, 1, GREATEST)].map(|(top, left, times)| {
+    let four = [(0, 0, 3), (0, 1, 1), (1, 0, 4), (1, 1, GREATEST as i64)].map(|(top, left, times)| {
         let area = Area { top, left, bottom: top + 1, right: left + 1, ..Area::whole(2, 2, 1) };
         Opcode::map_polynomial(area, &[least(times)])
     });
@@ -438,8 +255,12 @@ fn the_first_fault_behind_a_denormal_answers() {
     };
     let malformed = Opcode::map_table(one(), &[1]).with_long(6, 0);
     let unknown = Opcode::new(14, 0, vec![]);
-    let denormals =
-        [(1, 1), (0x007F_FFFF, GREATEST), (FLOAT_SIGN | 1, SIGN | 1), (0x807F_FFFF, SIGN | GREATEST)];
+    let denormals = [
+        (1, 1),
+        (GREATEST_FLOAT, GREATEST),
+        (FLOAT_SIGN | 1, SIGN | 1),
+        (FLOAT_SIGN | GREATEST_FLOAT, SIGN | GREATEST),
+    ];
     for (float, double) in denormals {
         for denormal in &of_each_kind(float, double) {
             accepts(&listed(&[denormal, denormal]));

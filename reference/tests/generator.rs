@@ -4,6 +4,7 @@ use std::collections::{BTreeMap, BTreeSet};
 
 use reference::bytes::{ByteOrder, Widths};
 use reference::cases::{answer_line, Call, Fingerprint};
+use reference::denormals::{self, Signed};
 use reference::develop::{accept, Accepted};
 use reference::directory::walk;
 use reference::gain_map::{Axis, GainMap};
@@ -246,38 +247,6 @@ fn gain_maps_of_every_kind_are_accepted_and_refused() {
     assert!([0, 10, 12].iter().all(|number| faulty[number] >= 3), "{faulty:?}");
 }
 
-/// A kind of number, and whether it is below 0.
-type Signed = (&'static str, bool);
-
-fn denormals(kind: &'static str, numbers: &[f64], denormal: fn(f64) -> bool) -> Vec<Signed> {
-    let found = numbers.iter().filter(|number| denormal(**number));
-    found.map(|number| (kind, *number < 0.0)).collect()
-}
-
-/// The kinds of denormal numbers that an opcode has.
-fn kinds_of_denormals(action: &Action) -> Vec<Signed> {
-    let of_floats = |kind, numbers: &[f64]| denormals(kind, numbers, |number| (number as f32).is_subnormal());
-    let of_doubles = |kind, numbers: &[f64]| denormals(kind, numbers, f64::is_subnormal);
-    match action {
-        Action::MapTable(_) => Vec::new(),
-        Action::MapPolynomial(coefficients) => of_doubles("coefficient", coefficients),
-        Action::DeltaPerRow(deltas) => of_floats("row delta", deltas),
-        Action::DeltaPerColumn(deltas) => of_floats("column delta", deltas),
-        Action::ScalePerRow(factors) => of_floats("row factor", factors),
-        Action::ScalePerColumn(factors) => of_floats("column factor", factors),
-        Action::GainMap(map) => {
-            let gains: Vec<f64> = map.gains.iter().copied().map(f64::from).collect();
-            let mut kinds = of_floats("gain", &gains);
-            for axis in [&map.vertical, &map.horizontal] {
-                let spacing = if axis.points > 1 { "spacing of points" } else { "spacing of one point" };
-                kinds.extend(of_doubles(spacing, &[axis.spacing]));
-                kinds.extend(of_doubles("origin", &[axis.origin]));
-            }
-            kinds
-        }
-    }
-}
-
 /// In the files that are accepted every kind occurs with both signs, but for a
 /// spacing below 0 of several points; developed values are denormal too.
 #[test]
@@ -293,28 +262,28 @@ fn denormals_of_every_kind_are_accepted() {
         let mut kinds: BTreeSet<Signed> = BTreeSet::new();
         for opcode in &accepted.opcodes {
             if let Opcode::Kept(_, action) = opcode {
-                kinds.extend(kinds_of_denormals(action));
+                kinds.extend(denormals::of_action(action));
             }
         }
         let FrameSize { rows, columns, samples } = accepted.size();
         if rows * columns * samples <= 3_000 {
             let frame = accepted.whole_frame();
-            kinds.extend(denormals("value", &frame, f64::is_subnormal));
-            kinds.extend(denormals("least value", &frame, |value| value.to_bits() == 1));
+            kinds.extend(denormals::denormals("value", &frame, f64::is_subnormal));
+            kinds.extend(denormals::denormals("least value", &frame, |value| value.to_bits() == 1));
         }
         kinds.into_iter().for_each(|kind| *counts.entry(kind).or_default() += 1);
     }
     println!("{counts:?}, {refused:?}");
     for (kind, signs) in [
-        ("coefficient", 2),
-        ("row delta", 2),
-        ("column delta", 2),
-        ("row factor", 2),
-        ("column factor", 2),
-        ("gain", 2),
-        ("spacing of points", 1),
-        ("spacing of one point", 2),
-        ("origin", 2),
+        ("denormal coefficient", 2),
+        ("denormal row delta", 2),
+        ("denormal column delta", 2),
+        ("denormal row factor", 2),
+        ("denormal column factor", 2),
+        ("denormal gain", 2),
+        ("denormal spacing", 1),
+        ("denormal spacing of one point", 2),
+        ("denormal origin", 2),
         ("value", 1),
         ("least value", 1),
     ] {
