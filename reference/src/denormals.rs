@@ -61,7 +61,7 @@ pub fn least(times: i64) -> f64 {
 }
 
 /// One 16-bit sample without levels, the opcodes on it, and the bits that they
-/// leave. The sample is the same in either byte order, or does not matter.
+/// leave.
 pub struct Worked {
     pub stored: u16,
     pub list: Vec<Opcode>,
@@ -193,8 +193,8 @@ pub fn chains() -> Vec<Worked> {
             Worked { stored: FULL, list, bits }
         })
     });
-    // 257 is 1 / 255 of 65535, and 2^31 / 255 is 8421504.502; of 514 twice as much.
-    let levels = [(257, 8_421_505), (514, 16_843_009)];
+    // 2^31 / 65535 is 32768.50000763; of 2 twice as much, and of 257 it is 2^31 / 255.
+    let levels = [(1, 32_769), (2, 65_537), (257, 8_421_505)];
     let levels = levels.map(|(stored, bits)| Worked { stored, list: factors(7), bits });
     plain.into_iter().chain(behind).chain(levels).collect()
 }

@@ -142,7 +142,7 @@ fn a_denormal_spacing_leaves_the_first_and_the_last_point() {
     }
 }
 
-/// It is below 0 as much as 1 is; with one point it does not matter.
+/// Above 0 it is carried, below it is 10; with one point it does not matter.
 #[test]
 fn a_denormal_spacing_has_its_sign() {
     for (bits, axis) in [1, GREATEST].into_iter().flat_map(|bits| [(bits, 0), (bits, 1)]) {

@@ -1,8 +1,7 @@
 //! Denormal numbers (document 02, T-07): what opcodes make of them, with the values
 //! stated; spacings of a GainMap; colours and blocks; the faults behind them.
 
-use reference::builder::{Area, GainMap, Opcode, OpcodeList, Picture, Tag};
-use reference::bytes::ByteOrder;
+use reference::builder::{Area, Dng, GainMap, Opcode, OpcodeList, Picture, Tag};
 use reference::cases::Call;
 use reference::denormals::{
     self, least, Worked, FLOAT_SIGN, GREATEST, GREATEST_FLOAT, SIGN, TINY, TINY_BITS,
@@ -11,7 +10,7 @@ use reference::denormals::{
 use super::colour::{MATRIX, NEUTRAL};
 use super::gain_map::{filled, ones, values};
 use super::lists::{every_place, good, in_both, opcodes, whole};
-use super::{each_way, Dng, COLUMNS, DONE, LINEAR, MAX, MOSAIC, ROWS};
+use super::{each_way, COLUMNS, DONE, LINEAR, MAX, MOSAIC, ROWS, WAYS};
 use crate::questions::{colour_window, half_window, window};
 use crate::tally::Tally;
 
@@ -39,10 +38,10 @@ fn worked(tally: &mut Tally) {
     ] {
         for (number, Worked { stored, list, bits }) in worked.into_iter().enumerate() {
             let picture = Picture { stored: vec![stored], ..Picture::counting(1, 1, 1, 16) };
-            let dng = Dng::new(ByteOrder::Little, &picture).with_opcodes(&list);
-            for dng in each_way(&dng) {
+            for (order, widths) in WAYS {
                 tally.files += 1;
-                let (label, file) = (format!("denormal {group} {number}"), dng.file());
+                let file = Dng { widths, ..Dng::new(order, &picture).with_opcodes(&list) }.file();
+                let label = format!("denormal {group} {number}");
                 for call in [window([0, 0, 1, 1], 1), Call::Spot { row: 0, column: 0, plane: 0 }] {
                     tally.ask_values(&label, &file, &call, &[f64::from_bits(bits)]);
                 }
