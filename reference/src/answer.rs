@@ -62,7 +62,7 @@ impl Answer {
         Answer { number: 11, detail: place }
     }
 
-    /// "infinite, NaN or denormal number"
+    /// "12 narrows to infinite and NaN" (document 02, T-07).
     pub fn bad_number(place: u32) -> Answer {
         Answer { number: 12, detail: place }
     }

@@ -1,8 +1,8 @@
 //! An independent reference for document 01, "From stored DNG samples to
 //! developed values", with half-size colour (T-01), the greatest black (T-02),
-//! GainMap (T-05) and the 64-bit layout (T-09) of document 02. The modules
-//! follow document 01's sections; each rule stands once, beside the words of
-//! the document that demand it.
+//! GainMap (T-05), denormal numbers (T-07) and the 64-bit layout (T-09) of
+//! document 02. The modules follow document 01's sections; each rule stands
+//! once, beside the words of the document that demand it.
 
 #![forbid(unsafe_code)]
 
@@ -23,6 +23,7 @@ pub mod tag_test;
 pub mod blocks;
 pub mod builder;
 pub mod cases;
+pub mod denormals;
 pub mod generate;
 pub mod random;
 

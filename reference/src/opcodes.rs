@@ -158,7 +158,7 @@ fn read_numbers(id: u64, parameters: &[u8], grid: &Grid) -> Option<Vec<u64>> {
     Some(bytes.chunks_exact(size as usize).map(|number| ByteOrder::Big.number(number)).collect())
 }
 
-/// Refusal 12: "infinite, NaN or denormal number". Zero of either sign is good.
+/// Of a FLOAT or DOUBLE by its bits; a table has no such numbers.
 fn good_number(id: u64, bits: u64) -> bool {
     match id {
         7 => true,
@@ -167,12 +167,14 @@ fn good_number(id: u64, bits: u64) -> bool {
     }
 }
 
+/// Refusal 12, as document 02's T-07 narrows it: "infinite and NaN". Zero of
+/// either sign and a denormal are good.
 pub fn good_category(category: FpCategory) -> bool {
-    matches!(category, FpCategory::Normal | FpCategory::Zero)
+    !matches!(category, FpCategory::Infinite | FpCategory::Nan)
 }
 
 fn action(id: u64, numbers: &[u64]) -> Action {
-    // "A FLOAT becomes the f64 of equal value."
+    // "A FLOAT becomes the f64 of equal value", a denormal among them.
     let floats = || numbers.iter().map(|bits| f64::from(f32::from_bits(*bits as u32))).collect();
     match id {
         7 => Action::MapTable(numbers.iter().map(|entry| *entry as u16).collect()),

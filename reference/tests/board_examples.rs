@@ -87,7 +87,8 @@ fn example_9_floats() {
         row_of(&[65535]).with_opcodes(&[scale])
     };
     assert_eq!(frame(&scaled_by(0x3F00_0000)), [0.5]);
-    assert_eq!(answer(&scaled_by(0x0000_0001)), refusal(12, 0));
+    // 2^-149, as document 02 has it.
+    assert_eq!(bits(&frame(&scaled_by(0x0000_0001))), [0x36A0_0000_0000_0000]);
     assert_eq!(answer(&scaled_by(0x7F80_0000)), refusal(12, 0));
 }
 

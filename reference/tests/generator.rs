@@ -4,11 +4,12 @@ use std::collections::{BTreeMap, BTreeSet};
 
 use reference::bytes::{ByteOrder, Widths};
 use reference::cases::{answer_line, Call, Fingerprint};
+use reference::denormals::{self, Signed};
 use reference::develop::{accept, Accepted};
 use reference::directory::walk;
 use reference::gain_map::{Axis, GainMap};
 use reference::generate::{generate, generate_valid};
-use reference::opcodes::{Action, Grid, Opcode};
+use reference::opcodes::{Action, FrameSize, Grid, Opcode};
 use reference::pattern;
 use reference::tag_test::{fine, Tags, LONG, RATIONAL, SHORT, SRATIONAL};
 use reference::{card, colour_window, half_window, spot, window, Answer};
@@ -31,8 +32,8 @@ fn answer(file: &[u8], call: &Call) -> Answer {
 }
 
 /// Of the first 3,000 cases of seed 1: their files and calls, their answers.
-const FILES: Fingerprint = Fingerprint(17517845584835061728);
-const ANSWERS: Fingerprint = Fingerprint(8403833826180534967);
+const FILES: Fingerprint = Fingerprint(11025926590502616366);
+const ANSWERS: Fingerprint = Fingerprint(8418464339651778358);
 
 #[test]
 fn the_first_cases_have_a_known_fingerprint() {
@@ -244,6 +245,55 @@ fn gain_maps_of_every_kind_are_accepted_and_refused() {
     println!("{counts:?}, {faulty:?}");
     assert!(counts.len() == 20 && counts.values().all(|count| *count >= 10), "{counts:?}");
     assert!([0, 10, 12].iter().all(|number| faulty[number] >= 3), "{faulty:?}");
+}
+
+/// In the files that are accepted every kind occurs with both signs, but for a
+/// spacing below 0 of several points; developed values are denormal too.
+#[test]
+fn denormals_of_every_kind_are_accepted() {
+    let mut counts: BTreeMap<Signed, u32> = BTreeMap::new();
+    let mut refused: BTreeMap<u32, u32> = BTreeMap::new();
+    for index in 0..4_000 {
+        let case = generate(9, index);
+        if case.label == "opcode numbers" {
+            *refused.entry(card(&case.file).number).or_default() += 1;
+        }
+        let Ok(accepted) = accept(&case.file) else { continue };
+        let mut kinds: BTreeSet<Signed> = BTreeSet::new();
+        for opcode in &accepted.opcodes {
+            if let Opcode::Kept(_, action) = opcode {
+                kinds.extend(denormals::of_action(action));
+            }
+        }
+        let FrameSize { rows, columns, samples } = accepted.size();
+        if rows * columns * samples <= 3_000 {
+            let frame = accepted.whole_frame();
+            kinds.extend(denormals::denormals("value", &frame, f64::is_subnormal));
+            kinds.extend(denormals::denormals("least value", &frame, |value| value.to_bits() == 1));
+        }
+        kinds.into_iter().for_each(|kind| *counts.entry(kind).or_default() += 1);
+    }
+    println!("{counts:?}, {refused:?}");
+    for (kind, signs) in [
+        ("denormal coefficient", 2),
+        ("denormal row delta", 2),
+        ("denormal column delta", 2),
+        ("denormal row factor", 2),
+        ("denormal column factor", 2),
+        ("denormal gain", 2),
+        ("denormal spacing", 1),
+        ("denormal spacing of one point", 2),
+        ("denormal origin", 2),
+        ("value", 1),
+        ("least value", 1),
+    ] {
+        for below_0 in [false, true] {
+            let count = counts.get(&(kind, below_0)).copied().unwrap_or(0);
+            let wanted = if below_0 && signs == 1 { count == 0 } else { count >= 10 };
+            assert!(wanted, "{kind}, below 0: {below_0}: {counts:?}");
+        }
+    }
+    assert!([0, 12].iter().all(|number| refused[number] >= 10), "{refused:?}");
 }
 
 /// What the level tags of an accepted file say, in 256ths.

@@ -105,12 +105,19 @@ fn the_list_is_big_endian_in_every_file() {
 
 #[test]
 fn the_floats_of_the_list_are_big_endian_too() {
-    // 0.5 is 3F000000; turned about it is a denormal that would be refused.
-    let scale = Opcode::per_line(12, Area::whole(1, 1, 1), &[0.5]);
-    let slipped = f32::from_bits(0x3F00_0000u32.swap_bytes());
-    assert!(slipped.is_subnormal());
-    let dng = Dng::new(ByteOrder::Little, &Picture::row(16, &[65_535])).with_opcodes(&[scale]);
-    assert_eq!(frame(&dng), [0.5]);
+    let scaled = |factor: f32| {
+        let scale = Opcode::per_line(12, Area::whole(1, 1, 1), &[factor]);
+        Dng::new(ByteOrder::Little, &Picture::row(16, &[65_535])).with_opcodes(&[scale])
+    };
+    let turned = |factor: f32| f32::from_bits(factor.to_bits().swap_bytes());
+    // 0.5 is 3F000000; turned about it is 0000003F, a denormal, another factor.
+    assert!(turned(0.5).is_subnormal());
+    assert_eq!(frame(&scaled(0.5)), [0.5]);
+    // 0000807F is a number; turned about it is 7F800000, which would be refused.
+    let small = f32::from_bits(0x807F);
+    assert!(turned(small).is_infinite());
+    assert_eq!(frame(&scaled(small)), [f64::from(small)]);
+    refuses(&scaled(turned(small)), 12, 0);
 }
 
 #[test]

@@ -5,6 +5,7 @@ use std::collections::BTreeMap;
 
 use reference::bytes::ByteOrder;
 use reference::colour;
+use reference::denormals;
 use reference::develop::{accept, Accepted};
 use reference::directory::{walk, Tree};
 use reference::gain_map::{Axis, GainMap};
@@ -13,7 +14,7 @@ use reference::pattern::{self, Pattern};
 use reference::tag_test::{fine, Fraction, Tags, IFD8, LONG, LONG8, SHORT, SLONG8, SRATIONAL};
 
 /// Every kind that must occur in each layout.
-const KINDS: [&str; 86] = [
+const KINDS: [&str; 95] = [
     "mosaic 8 II",
     "mosaic 8 MM",
     "mosaic 16 II",
@@ -100,6 +101,15 @@ const KINDS: [&str; 86] = [
     "above the last point",
     "GainMap between others",
     "GainMap beside a neighbour apart",
+    "denormal coefficient",
+    "denormal row delta",
+    "denormal column delta",
+    "denormal row factor",
+    "denormal column factor",
+    "denormal gain",
+    "denormal spacing",
+    "denormal spacing of one point",
+    "denormal origin",
 ];
 
 /// Where the kinds of mosaics' blocks begin.
@@ -212,6 +222,7 @@ fn of_list(accepted: &Accepted) -> Vec<&'static str> {
             Opcode::Kept(grid, action) => {
                 kept += 1;
                 kinds.push(of_action(action));
+                kinds.extend(denormals::of_action(action).into_iter().map(|(kind, _)| kind));
                 kinds.extend(of_grid(grid, accepted.size().samples));
             }
         }

@@ -5,6 +5,7 @@
 mod accuracy;
 mod blacks;
 mod colour;
+mod denormals;
 mod gain_map;
 mod headers;
 mod levels;
@@ -75,6 +76,7 @@ pub fn check(tally: &mut Tally) {
     numbers::check(tally);
     values::check(tally);
     gain_map::check(tally);
+    denormals::check(tally);
     colour::check(tally);
     pattern::check(tally);
     places::check(tally);

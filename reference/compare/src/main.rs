@@ -60,18 +60,21 @@ fn missing(tally: &Tally) -> Vec<String> {
     .concat();
     let numbers = tally.missing_numbers();
     let details = details.into_iter().map(|(name, (number, detail))| format!("{name} {number} {detail}"));
-    details.chain(numbers.into_iter().map(|(name, number)| format!("{name} {number}"))).collect()
+    let numbers = numbers.into_iter().map(|(name, number)| format!("{name} {number}"));
+    let values = (tally.denormal == 0).then(|| "denormal values".to_string());
+    details.chain(numbers).chain(values).collect()
 }
 
 /// Prints what came of it, and gives how many differences there are.
 fn report(title: &str, tally: &mut Tally) -> u64 {
     let differences = tally.differences();
     println!(
-        "{title}: {} files, {} calls, {} values ({} neither 0 nor 1), {differences} differences",
+        "{title}: {} files, {} calls, {} values ({} neither 0 nor 1, {} denormal), {differences} differences",
         tally.files,
         tally.calls(),
         tally.values,
-        tally.between
+        tally.between,
+        tally.denormal
     );
     tally.print_numbers();
     differences

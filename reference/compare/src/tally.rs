@@ -47,9 +47,11 @@ pub struct Tally {
     waiting: Vec<Waiting>,
     waiting_bytes: usize,
     differences: u64,
-    /// Samples and colours compared, and how many of them were neither 0 nor 1.
+    /// Samples and colours compared, and how many of them were neither 0 nor 1,
+    /// and denormal.
     pub values: u64,
     pub between: u64,
+    pub denormal: u64,
 }
 
 fn index(call: &Call) -> usize {
@@ -93,6 +95,7 @@ impl Tally {
         self.values += values.len() as u64;
         let ends = [0, 1.0f64.to_bits()];
         self.between += values.iter().filter(|bits| !ends.contains(bits)).count() as u64;
+        self.denormal += values.iter().filter(|bits| f64::from_bits(**bits).is_subnormal()).count() as u64;
         Asked { call: *call, expected, stated }
     }
 

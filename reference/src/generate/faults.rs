@@ -422,26 +422,22 @@ fn opcode_area(random: &mut Random, draft: &mut Draft) {
     list.opcodes[i] = list.opcodes[i].clone().with_long(long, random.pick(&edges));
 }
 
-/// A FLOAT or DOUBLE that is or is not infinite, NaN or denormal.
+/// A FLOAT or DOUBLE that is infinite or NaN, or one next to these or to 0.
 fn opcode_numbers(random: &mut Random, draft: &mut Draft) {
     let list = list(random, draft);
     let i = random.index(list.opcodes.len());
     let opcode = &mut list.opcodes[i];
-    let (size, patterns): (usize, &[u64]) = match opcode.id {
-        8 => (8, &[0x7FF << 52, 0xFFF << 52, 0x7FF8 << 48, 1, (1 << 52) - 1, 1 << 52, 1 << 63, 0x7FEF << 48]),
-        9..=13 => (
-            4,
-            &[0x7F80_0000, 0xFF80_0000, 0x7FC0_0000, 1, 0x007F_FFFF, 0x0080_0000, 0x8000_0000, 0x8000_0001],
-        ),
+    let bytes = match opcode.id {
+        8 => random.pick(&lists::DOUBLES).to_be_bytes().to_vec(),
+        9..=13 => random.pick(&lists::FLOATS).to_be_bytes().to_vec(),
         _ => return,
     };
     let first = if opcode.id == 9 { MAP_GAINS } else { 36 };
-    if opcode.parameters.len() < first + size {
-        return;
+    let numbers = opcode.parameters.len().saturating_sub(first) / bytes.len();
+    if numbers > 0 {
+        let place = first + bytes.len() * random.index(numbers);
+        opcode.parameters[place..place + bytes.len()].copy_from_slice(&bytes);
     }
-    let place = first + size * random.index((opcode.parameters.len() - first) / size);
-    let bytes = ByteOrder::Big.spell(random.pick(patterns), size);
-    opcode.parameters[place..place + size].copy_from_slice(&bytes);
 }
 
 /// A stated size at its limit, with exactly as many bytes.

@@ -55,14 +55,21 @@ fn axis_of(random: &mut Random, points: u32, lines: u32) -> (f64, f64) {
         // From the middle of one line to that of another.
         6..=8 if first < other => ((middle(other) - middle(first)) / last, middle(first)),
         // Less than a line, and more than the frame.
-        9 => (random.pick(&[1e-9, 1e-300, f64::MIN_POSITIVE, 0.01]), middle(first)),
+        9 => {
+            let denormal = lists::denormal_double(random).abs();
+            (random.pick(&[1e-9, 1e-300, f64::MIN_POSITIVE, 0.01, denormal, denormal]), middle(first))
+        }
         10 => (random.pick(&[1.5, 1e9, 1e300, f64::MAX]), middle(first)),
         // Far away.
         11 => (part(random, 1, 4), random.pick(&[-1e300, 1e300, f64::MAX, f64::MIN, -3.0, 3.0, -1e-9])),
-        12 => (part(random, 1, 4), random.pick(&[0.0, -0.0, f64::MIN_POSITIVE, 1.0])),
+        12 => {
+            let denormal = lists::denormal_double(random);
+            (part(random, 1, 4), random.pick(&[0.0, -0.0, f64::MIN_POSITIVE, 1.0, denormal, denormal]))
+        }
         _ => (part(random, 1, 4), part(random, -4, 4)),
     };
-    let any = random.pick(&[0.0, -0.0, -1.0, f64::MIN, -f64::MIN_POSITIVE]);
+    let denormal = lists::denormal_double(random);
+    let any = random.pick(&[0.0, -0.0, -1.0, f64::MIN, -f64::MIN_POSITIVE, denormal]);
     (if points == 1 && random.one_in(2) { any } else { spacing }, origin)
 }
 
@@ -70,39 +77,6 @@ fn axis_of(random: &mut Random, points: u32, lines: u32) -> (f64, f64) {
 fn part(random: &mut Random, low: i64, high: i64) -> f64 {
     random.between(low << 50, high << 50) as f64 / (1u64 << 52) as f64
 }
-
-const SIGN: u64 = 1 << 63;
-/// Zero, negative, infinite, NaN, denormal, and next to them.
-const DOUBLES: [u64; 14] = [
-    0,
-    SIGN,
-    0xBFF << 52,
-    0x7FF << 52,
-    0xFFF << 52,
-    0x7FF8 << 48,
-    0xFFF8 << 48,
-    (0x7FF << 52) | 1,
-    1,
-    SIGN | 1,
-    (1 << 52) - 1,
-    1 << 52,
-    0x7FEF_FFFF_FFFF_FFFF,
-    0xFFEF_FFFF_FFFF_FFFF,
-];
-const FLOATS: [u32; 12] = [
-    0x7F80_0000,
-    0xFF80_0000,
-    0x7FC0_0000,
-    0xFFC0_0000,
-    0x7F80_0001,
-    1,
-    0x8000_0001,
-    0x007F_FFFF,
-    0x0080_0000,
-    0x8000_0000,
-    0x7F7F_FFFF,
-    0xFF7F_FFFF,
-];
 
 /// Points and planes whose gains would take as many bytes as the last number
 /// says but for 2^32 or 2^64.
@@ -151,13 +125,13 @@ fn spoil(random: &mut Random, map: &mut GainMap) {
             let (points, planes, bytes) = random.pick(&WRAPPING);
             (map.points, map.planes, map.gains) = (points, planes, vec![0.5; bytes / 4]);
         }
-        5..=7 => map.spacing[axis] = f64::from_bits(random.pick(&DOUBLES)),
-        8..=10 => map.origin[axis] = f64::from_bits(random.pick(&DOUBLES)),
+        5..=7 => map.spacing[axis] = f64::from_bits(random.pick(&lists::DOUBLES)),
+        8..=10 => map.origin[axis] = f64::from_bits(random.pick(&lists::DOUBLES)),
         _ if map.gains.is_empty() => (),
         _ => {
             let last = map.gains.len() - 1;
             let place = random.pick(&[0, last, last / 2]);
-            map.gains[place] = f32::from_bits(random.pick(&FLOATS));
+            map.gains[place] = f32::from_bits(random.pick(&lists::FLOATS));
         }
     }
 }

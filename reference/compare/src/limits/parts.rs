@@ -48,12 +48,19 @@ struct Kind {
     columns: bool,
     rows: bool,
     table: bool,
-    opcodes: bool,
+    list: List,
 }
 
-const BARE: Kind = Kind { repeat: [1, 1], columns: false, rows: false, table: false, opcodes: false };
+#[derive(Clone, Copy, Debug)]
+enum List {
+    Absent,
+    Common,
+    Denormal,
+}
 
-const KINDS: [Kind; 8] = [
+const BARE: Kind = Kind { repeat: [1, 1], columns: false, rows: false, table: false, list: List::Absent };
+
+const KINDS: [Kind; 9] = [
     BARE,
     Kind { repeat: [2, 2], ..BARE },
     Kind { columns: true, ..BARE },
@@ -61,7 +68,8 @@ const KINDS: [Kind; 8] = [
     Kind { repeat: [2, 7], columns: true, rows: true, ..BARE },
     Kind { repeat: [1, 3], table: true, ..BARE },
     Kind { columns: true, rows: true, table: true, ..BARE },
-    Kind { repeat: [2, 5], columns: true, opcodes: true, ..BARE },
+    Kind { repeat: [2, 5], columns: true, list: List::Common, ..BARE },
+    Kind { repeat: [3, 1], list: List::Denormal, ..BARE },
 ];
 
 /// Every case of a row's parts.
@@ -138,18 +146,25 @@ fn black_at(levels: &Levels, [row, column]: [u32; 2], plane: usize) -> i64 {
 
 fn dng(frame: &Frame, kind: Kind, way: (ByteOrder, Widths)) -> Dng {
     let dng = frame.dng(way);
-    if !kind.opcodes {
-        return dng;
-    }
     let ([rows, columns], planes) = (frame.levels.area, frame.levels.white.len() as u32);
     let whole = Area::whole(rows, columns, planes);
     let some = Area { left: columns / 3, plane: planes - 1, planes: 1, column_pitch: 2, ..whole };
+    match kind.list {
+        List::Absent => dng,
+        List::Common => dng.with_opcodes(&common(whole, some)),
+        List::Denormal => dng.with_opcodes(&denormal(whole, some)),
+    }
+}
+
+/// Opcodes of every kind on the whole frame and on some of its columns.
+fn common(whole: Area, some: Area) -> [Opcode; 8] {
+    let (rows, columns) = (whole.bottom, whole.right);
     let number = |column: u32| (column * 7 % 1_021) as f32 / 2_048.0;
     let deltas: Vec<f32> = (0..columns).map(|column| number(column) - 0.25).collect();
     let factors: Vec<f32> = (some.left..columns).step_by(2).map(|column| number(column) + 0.75).collect();
     let of_rows = |least: f32| (0..rows).map(|row| least + number(97 * row)).collect::<Vec<f32>>();
     let entries: Vec<u16> = (0..3_000).map(|i| (i * 21) as u16).collect();
-    dng.with_opcodes(&[
+    [
         Opcode::per_line(11, whole, &deltas),
         Opcode::map_polynomial(whole, &[0.01, 0.9, 0.05, -0.1]),
         Opcode::per_line(13, some, &factors),
@@ -158,7 +173,26 @@ fn dng(frame: &Frame, kind: Kind, way: (ByteOrder, Widths)) -> Dng {
         Opcode::per_line(12, whole, &of_rows(0.75)),
         Opcode::gain_map(whole, &GainMap::spread(&[[0.9, 1.5, 0.7], [1.1, 0.6, 1.2]])),
         Opcode::per_line(10, some, &of_rows(-0.25)),
-    ])
+    ]
+}
+
+/// Denormal numbers, of which no two columns have the same; they leave denormal
+/// values, but for some of the columns.
+fn denormal(whole: Area, some: Area) -> [Opcode; 5] {
+    let number = |line: u32| f32::from_bits(1 + line * 511);
+    let columns = |area: Area| (area.left..area.right).step_by(area.column_pitch as usize);
+    let factors: Vec<f32> = columns(whole).map(number).collect();
+    let deltas: Vec<f32> =
+        columns(some).map(|column| number(column) * [1.0, -1.0][column as usize / 2 % 2]).collect();
+    let of_rows: Vec<f32> = (0..whole.bottom).map(|row| [0.75, 1.5, 0.5][row as usize % 3]).collect();
+    let tiny = f64::from_bits(1);
+    [
+        Opcode::map_polynomial(whole, &[0.0, f64::from_bits((1023 - 900) << 52)]),
+        Opcode::per_line(13, whole, &factors),
+        Opcode::per_line(12, whole, &of_rows),
+        Opcode::map_polynomial(Area { planes: 1, row_pitch: 3, ..whole }, &[tiny, 0.75, tiny]),
+        Opcode::per_line(11, Area { row_pitch: 2, ..some }, &deltas),
+    ]
 }
 
 /// First columns and numbers of columns: all, all but the first, and parts that
