@@ -140,6 +140,10 @@ fn mosaics(stored: &[u8], run: Run) {
         add(repeat(f64::from(of_rows[row])), out);
         cubic(black_box(CUBIC), out);
     });
+    let small = CUBIC.map(|coefficient| coefficient * 2f64.powi(-1060));
+    job("with a cubic of denormals", with(Opcode::map_polynomial(area, &small)), [None; 2], &|_, out| {
+        cubic(black_box(small), out);
+    });
     job("with a MapTable", with(Opcode::map_table(area, &entries)), [None; 2], &|_, out| {
         map_table(&entries, out);
     });
