@@ -13,6 +13,8 @@ use Rattle.rawtags.specs.Area.{area}
 use Rattle.raw.specs.Spans.{spans}
 use Rattle.raw.specs.Stored.{Stored}
 use Rattle.raw.specs.Front.{rawWith, pictureOf}
+use Rattle.directory.specs.declared.tag.Values.{Values}
+use Rattle.rawtags.specs.declared.level_tags.LevelTags.{LevelTags}
 use Rattle.rawtags.specs.declared.Tags.{Tags}
 use Rattle.raw.specs.declared.front.Picture.{Picture}
 use Rattle.colour.specs.declared.Colour.{Colour}
@@ -72,6 +74,18 @@ file =
     ++ unitMatrix
     ++ (0 ∷ 1 ∷ 0 ∷ 2 ∷ 0 ∷ 3 ∷ 0 ∷ 4 ∷ 0 ∷ 5 ∷ 0 ∷ 6 ∷ [])
 
+-- the level tags of a file that has a table at the most
+abbrev pub levelTags : Values → LevelTags
+levelTags table =
+    record {
+      table = table;
+      repeat = record { rows = 1; columns = 1 };
+      black = noValues;
+      «column_deltas» = noValues;
+      «row_deltas» = noValues;
+      white = noValues;
+    }
+
 abbrev pub found : Tags
 found =
     record {
@@ -79,15 +93,7 @@ found =
       layout = record { bytes = 2; rows = 4294967295 };
       strips = record { place = 66; kind = entryKind.Short; size = 2; count = 1 };
       area = area 0 0 1 2;
-      levels =
-          record {
-            table = noValues;
-            repeat = record { rows = 1; columns = 1 };
-            black = noValues;
-            «column_deltas» = noValues;
-            «row_deltas» = noValues;
-            white = noValues;
-          };
+      levels = levelTags noValues;
       list = noValues;
     }
 

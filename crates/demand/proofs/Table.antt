@@ -16,6 +16,7 @@ use Rattle.raw.specs.Front.{rawWith, pictureOf}
 use Rattle.rawtags.specs.declared.Tags.{Tags}
 use Rattle.raw.specs.declared.front.Picture.{Picture}
 use Rattle.develop.specs.Calls.{Opened}
+use Rattle.demand.proofs.Linear.{levelTags}
 
 -- An 8-bit mosaic of 2 columns and 1 row. IFD 0 is the raw one: 256 (2), 257 (1), 258 (8), 262 (32803), 273 (110), 279 (2), 50706 (1.4.0.0),
 -- 50712 (t, u). The strip holds 0 and 1
@@ -39,15 +40,7 @@ found =
       layout = record { bytes = 1; rows = 4294967295 };
       strips = record { place = 66; kind = entryKind.Short; size = 2; count = 1 };
       area = area 0 0 1 2;
-      levels =
-          record {
-            table = record { place = 102; kind = entryKind.Short; size = 2; count = 2 };
-            repeat = record { rows = 1; columns = 1 };
-            black = noValues;
-            «column_deltas» = noValues;
-            «row_deltas» = noValues;
-            white = noValues;
-          };
+      levels = levelTags (record { place = 102; kind = entryKind.Short; size = 2; count = 2 });
       list = noValues;
     }
 

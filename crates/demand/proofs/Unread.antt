@@ -57,7 +57,8 @@ module _ (f : List ℕ) (o : Opened) (e : is o ≡ opened f) (apart : samples.St
   -- so what a change of one stored sample asks is that no tag's test and no list reads its bytes
   pub sample-alone :
       (r₀ c₀ p₀ : ℕ) → samples.Stored-in (tagsOf o) r₀ c₀ p₀ →
-      ((i : ℕ) → storedPlace o r₀ c₀ p₀ ≤ i → i < storedPlace o r₀ c₀ p₀ + tagsOf o .layout .bytes → Not-in-tags f o i × Not-in-list f o i) →
+      ((i : ℕ) → storedPlace o r₀ c₀ p₀ ≤ i → i < storedPlace o r₀ c₀ p₀ + tagsOf o .layout .bytes →
+      Not-in-tags f o i × Not-in-list f o i) →
       Unread-but-sample f o r₀ c₀ p₀
   sample-alone r₀ c₀ p₀ k h i l u = (h i l u .0, h i l u .1, other-sample-unread r₀ c₀ p₀ k i l u)
 

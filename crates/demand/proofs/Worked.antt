@@ -115,15 +115,7 @@ found =
       layout = record { bytes = 1; rows = 4294967295 };
       strips = record { place = 66; kind = entryKind.Short; size = 2; count = 1 };
       area = area 0 1 2 4;
-      levels =
-          record {
-            table = noValues;
-            repeat = record { rows = 1; columns = 1 };
-            black = noValues;
-            «column_deltas» = noValues;
-            «row_deltas» = noValues;
-            white = noValues;
-          };
+      levels = linear.levelTags noValues;
       list = record { place = 256; kind = entryKind.Undefined; size = 1; count = 138 };
     }
 

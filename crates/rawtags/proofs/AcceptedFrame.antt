@@ -62,7 +62,7 @@ area-in f d v rows columns a e =
         (record { rows = omega arith; columns = omega arith; bottom = omega arith; right = omega arith })
     go x q false z = cropped-in v _ a (q ∙ sym (four-is f (d .order) v x (eqb-false _ _ z) _ _ _ _ refl refl refl refl))
 
--- one plane or three
+-- none, one plane or three
 samples-known : (p : ℕ) → (samplesOf p ≡ 0) ⊎ ((samplesOf p ≡ 1) ⊎ (samplesOf p ≡ 3))
 unfolding samplesOf pick
 samples-known p = go (eqb p 32803) (eqb p 34892)
@@ -72,6 +72,11 @@ samples-known p = go (eqb p 32803) (eqb p 34892)
     go true b = inr (inl refl)
     go false true = inr (inr refl)
     go false false = inl refl
+
+-- samples that are those of an interpretation, and not none
+pub samples-in : (p s : ℕ) → s ≡ samplesOf p → (s ≡ 0 → ⊥) → (s ≡ 1) ⊎ (s ≡ 3)
+samples-in p s e z =
+    subst (λ (n : ℕ). (n ≡ 1) ⊎ (n ≡ 3)) (sym e) (⊎-elim (λ q. absurd (z (e ∙ q))) (λ q. q) (samples-known p))
 
 planes-in : (f : List ℕ) (d : Ifd) (s : ℕ) → is s ≡ run f (planesReading d) → (s ≡ 1) ⊎ (s ≡ 3)
 unfolding planesReading pick
@@ -88,7 +93,7 @@ planes-in f d s e =
     go p false q h =
         let i = one-in f d (optional samplesPerPixel kinds.Short 1) 1 (range 0 (samplesOf p) (samplesOf p)) s h in
         let n : s ≡ samplesOf p = omega (arith, i .from, i .to) in
-        ⊎-elim (λ z. absurd (eqb-false _ _ q z)) (λ z. subst (λ (k : ℕ). (k ≡ 1) ⊎ (k ≡ 3)) (sym n) z) (samples-known p)
+        samples-in p s n (λ z. eqb-false _ _ q (sym n ∙ z))
 
 pub frame-in : (f : List ℕ) (d : Ifd) (v : Dimensions) → is v ≡ run f (frameReading d) → Dimensions-in v
 unfolding frameReading dimensionReading

@@ -1,6 +1,5 @@
 // The frame: ImageWidth, ImageLength, PhotometricInterpretation, SamplesPerPixel.
 ghost use mathlib.Core.Path.{_≡_};
-ghost use mathlib.Core.Logic.{_⊎_};
 ghost use Rattle.reading.specs.Reading.{run};
 ghost use Rattle.directory.specs.Facts.Out.{numberOut};
 ghost use Rattle.directory.specs.Facts.Shape.{Tested};
@@ -29,7 +28,7 @@ pub enum DimensionsTest {
 
 // The samples per pixel of a mosaic and of LinearRaw; 0 of anything else.
 fn samples_of(photometric: usize) -> usize
-    ensures { λ r. ⌜ (r ≡ samplesOf photometric) × ((r ≡ 0) ⊎ ((r ≡ 1) ⊎ (r ≡ 3))) ⌝ }
+    ensures { λ r. ⌜ r ≡ samplesOf photometric ⌝ }
 {
     if photometric == 32803 {
         return 1;

@@ -28,7 +28,8 @@ scaled-requires : tie.Need-scaled-requires
 scaled-requires c κs = search needs
 
 -- what is read, as the table has it
-read : (f : List ℕ) (at n k l : ℕ) (x : Float) → n ≡ longOf f at → k ≡ indexOf x → l ≡ throughOf (tableOf Big f (at + 4) n) k → l ≤ 65535 →
+read : (f : List ℕ) (at n k l : ℕ) (x : Float) → n ≡ longOf f at → k ≡ indexOf x →
+    l ≡ throughOf (tableOf Big f (at + 4) n) k → l ≤ 65535 →
     scaledOf l ≡ clipOf (mappedOf (tableAt f at) x)
 read f at n k l x e h q b = sym (scaled-unit l b) ∙ ap (λ (m : ℕ). clipOf (scaledOf m)) (rw (← e, ← h) q)
 
