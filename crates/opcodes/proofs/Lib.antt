@@ -1,7 +1,7 @@
 pub mod Pad
 pub mod Polynomial
-pub mod Floor
-pub mod Whole
+pub mod IndexSum
+pub mod IndexBits
 pub mod Tables
 pub mod Frames
 pub mod OpcodeLists

@@ -160,7 +160,7 @@ minus-low zero b h = rw (eq-eqb 0 b (sym h)) (or-true (ltb 0 (0 + b)))
 minus-low (suc a) b h = rw (lt-ltb 0 (suc a + b) (omega arith))
 
 -- not at or above is below
-not-high : (a b : ℕ) → (ltb a b || (eqb a b && true)) ≡ false → b < a
+pub not-high : (a b : ℕ) → (ltb a b || (eqb a b && true)) ≡ false → b < a
 not-high a b h = go (ltb a b) (eqb a b) refl refl h
   where
     go : (x y : Bool) → ltb a b ≡ x → eqb a b ≡ y → (x || (y && true)) ≡ false → b < a

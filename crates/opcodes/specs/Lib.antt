@@ -1,5 +1,6 @@
 pub mod Grid
 pub mod Step
+pub mod TableIndex
 pub mod GainMap
 pub mod Opcode
 pub mod Frame

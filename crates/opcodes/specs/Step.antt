@@ -32,9 +32,13 @@ hornerOf [] x = plusZero
 hornerOf (c ∷ []) x = c
 hornerOf (c ∷ d ∷ cs) x = add binary64 (mul binary64 (hornerOf (d ∷ cs) x) x) c
 
+-- x * 65535.0 + 0.5
+abbrev pub sumOf : Float → Float
+sumOf x = add binary64 (mul binary64 x most) half
+
 -- k, "the greatest whole number <= x * 65535.0 + 0.5"
 unfoldable pub indexOf : Float → ℕ
-indexOf x = toUnsigned 64 (add binary64 (mul binary64 x most) half)
+indexOf x = toUnsigned 64 (sumOf x)
 
 -- "the entry at k, or the last if k is past it, divided by 65535.0"
 abbrev pub mappedOf : List ℕ → Float → Float

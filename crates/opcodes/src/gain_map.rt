@@ -40,11 +40,11 @@ pub struct Corners {
     pub lower_right: f64,
 }
 
-// Whether 8 bytes are a NaN's: the exponent's field is all ones, and the digits' field is not 0.
+// Whether 8 bytes are a NaN's: the exponent field is all ones, and the fraction field is not 0.
 fn nan_pattern(n: u64) -> bool
     ensures { λ r. ⌜ r ≡ nanBits binary64 n ⌝ }
 {
-    n % 0x8000_0000_0000_0000 / 0x10_0000_0000_0000 == 0x7FF && n % 0x10_0000_0000_0000 != 0
+    real::exponent_field(n) == 0x7FF && real::fraction_field(n) != 0
 }
 
 // Whether the DOUBLE at a place is above 0.

@@ -4,6 +4,7 @@ ghost use Prim.Native.Nat.{_+_, _*_, _≤_, _<_, min};
 ghost use lib.ListN.{getD, length};
 ghost use Rattle.levels.specs.Clip.{clipOf};
 ghost use Rattle.opcodes.specs.Step.{minusZero, indexOf, mappedOf, tableAt, appliedOf, valueOf, coefficientsOf, polynomialOf};
+ghost use Rattle.opcodes.specs.TableIndex.{Index-range, indexFromBits, Whole-part};
 ghost use Rattle.opcodes.specs.Facts.Step.{TableIn, StepIn};
 ghost use Rattle.opcodes.specs.Grid.{longOf};
 use crate::grid;
@@ -29,14 +30,28 @@ pub fn clip(x: f64) -> f64
     if y < 1.0 { y } else { 1.0 }
 }
 
-// The index into a table, or 65535 where it is above.
+// k of a v = x * 65535.0 + 0.5, from its exponent field and its fraction field. 2^52 is the hidden bit.
+pub fn index_from_bits(v: f64) -> u64
+    requires { ⌜ Index-range v ⌝ }
+    ensures { λ r. ⌜ (r ≡ indexFromBits v) × Whole-part v r ⌝ }
+{
+    let bits: u64 = f64::to_bits(v);
+    let exponent = real::exponent_field(bits);
+    if exponent < 1023 {
+        return 0;
+    }
+    let digits = 0x10_0000_0000_0000 + real::fraction_field(bits);
+    digits >> (1075 - exponent)
+}
+
+// The index into a table, or 65535 where it is above; 0 of a NaN.
 fn index(x: f64) -> u16
     ensures { λ r. ⌜ r ≡ min (indexOf x) 65535 ⌝ }
 {
     let v = x * 65535.0 + 0.5;
-    if v > -1.0 {
-        if v < 65536.0 {
-            return std::num::truncating_f64_to_u64(v) as u16;
+    if v >= 0.5 {
+        if v <= 65535.5 {
+            return index_from_bits(v) as u16;
         }
         return 65535;
     }
@@ -51,19 +66,12 @@ pub fn mapped(file: &[u8], at: usize, size: usize, x: f64) -> f64
     levels::scaled(table::through(file, Order::Big, at + 4, size, index(x)))
 }
 
-// The index of a number from 0 to 1: the digits of the sum that stand before its point, of which 1.0 has the first.
+// The index of a number from 0 to 1.
 fn unit_index(x: f64) -> u16
     requires { ⌜ clipOf x ≡ x ⌝ }
     ensures { λ r. ⌜ r ≡ indexOf x ⌝ }
 {
-    let sum = x * 65535.0 + 0.5;
-    if sum >= 1.0 {
-        let bits: u64 = f64::to_bits(sum);
-        let exponent: u64 = bits >> 52;
-        let digits: u64 = (bits & 0xf_ffff_ffff_ffff) | 0x10_0000_0000_0000;
-        return (digits >> (1075 - exponent)) as u16;
-    }
-    0
+    index_from_bits(x * 65535.0 + 0.5) as u16
 }
 
 // A number from 0 to 1 through the table; it needs no clip.

@@ -1,22 +1,23 @@
--- Of a clipped x, `indexOf x` is the greatest whole number not above x * 65535.0 + 0.5, and at most 65535.
+-- Of a clipped x, x * 65535.0 + 0.5 is an f64 from 0.5 to 65535.5.
 -- Assumes nothing.
 use mathlib.Core.Path.{_≡_, refl, sym, ap, _∙_, subst}
 use mathlib.Core.Bool.{Bool, true, false, _&&_, _||_}
 use mathlib.Core.Logic.{inl, inr}
-use Prim.Native.Nat.{ℕ, _+_, _-_, _*_, _/_, _≤_, _<_, min}
-use native.Mathlib.Nat.{mul-pos, zero-lt-suc, div-mul-le-self, lt-div-mul-add, div-lt-iff-lt-mul}
+use Prim.Native.Nat.{ℕ, _+_, _*_, _≤_, _<_}
+use native.Mathlib.Nat.{mul-pos, zero-lt-suc}
 use native.Mathlib.Omega.{arith}
 use lib.IntN.{ℤ, pos, negsuc}
 use lib.Dec.{T, ltb, ltb→lt, lt→ltb}
-use lib.Ieee.{Float, nan, inf, fin, binary64, up, down, round, lt, le, eq, add, mul, toUnsigned}
-use lib.Ieee.Fits.{down-pos, and-l, and-r}
+use lib.Ieee.{Float, nan, inf, fin, binary64, up, down, round, lt, le, eq, add, mul}
+use lib.Ieee.Fits.{down-pos, and-l, and-r, add-fits}
 use lib.Ieee.Order.{round-mono}
 use lib.Ieee.Positive.{positive, mul-mono, first-pos}
 use Rattle.levels.specs.Clip.{plusZero, one}
 use Rattle.levels.specs.Level.{most}
-use Rattle.opcodes.specs.Step.{indexOf, half}
 use Rattle.levels.proofs.Unit.{unit, clip-elim}
 use Rattle.levels.proofs.Values.{Shape, round-shape, lt-or-eq}
+use Rattle.opcodes.specs.Step.{half, sumOf}
+use Rattle.opcodes.specs.TableIndex.{greatestSum, Index-range}
 
 -- not above a finite number
 cross : (m : ℕ) (e : ℤ) (n : ℕ) (d : ℤ) → T (le (fin false m e) (fin false n d)) → m * up e * down d ≤ n * up d * down e
@@ -81,63 +82,61 @@ product-under x h =
     plain-of-le (mul binary64 x most) 65535 (pos 0) (product-shape x p)
     (subst (λ (y : Float). T (le (mul binary64 x most) y)) mul-one-most (mul-mono binary64 x one most most p tt tt tt (le-one x h) most-le))
 
--- ---- and with 0.5 more at most 65535.5
+-- ---- and with 0.5 more from 0.5 to 65535.5
 add-opened : (m : ℕ) (e : ℤ) → add binary64 (fin false m e) half ≡ round binary64 false (m * up e * 2 + 1 * down e) (down e * 2)
 unfolding add
 add-opened m e = refl
 
-top-is : round binary64 false 131071 2 ≡ fin false 131071 (negsuc 0)
+least-is : round binary64 false 1 2 ≡ half
+unfolding round
+least-is = refl
+
+top-is : round binary64 false 131071 2 ≡ greatestSum
 unfolding round
 top-is = refl
 
-room : (a d : ℕ) → a * 1 ≤ 65535 * d → (a * 2 + 1 * d) * 2 ≤ 131071 * (d * 2)
-room a d h = omega arith
+least-room : (a d : ℕ) → 1 * (d * 2) ≤ (a * 2 + 1 * d) * 2
+least-room a d = omega arith
 
-sum-under : (y : Float) → Under y 65535 (pos 0) → Under (add binary64 y half) 131071 (negsuc 0)
-sum-under y (m, e, q, h) =
-    let r = round binary64 false (m * up e * 2 + 1 * down e) (down e * 2) in
+top-room : (a d : ℕ) → a * 1 ≤ 65535 * d → (a * 2 + 1 * d) * 2 ≤ 131071 * (d * 2)
+top-room a d h = omega arith
+
+sum-in : (y : Float) → Under y 65535 (pos 0) → Index-range (add binary64 y half)
+sum-in y (m, e, q, h) =
+    let a = m * up e * 2 + 1 * down e in
+    let d = down e * 2 in
+    let D : 0 < d = mul-pos (down-pos e) (zero-lt-suc 1) in
+    let r = round binary64 false a d in
     let is : add binary64 y half ≡ r = ap (λ (z : Float). add binary64 z half) q ∙ add-opened m e in
-    let l : T (le r (fin false 131071 (negsuc 0))) =
+    let low : T (le half r) =
+    subst (λ (z : Float). T (le z r)) least-is (round-mono binary64 1 2 a d (zero-lt-suc 1) D (least-room (m * up e) (down e))) in
+    let high : T (le r greatestSum) =
     subst (λ (z : Float). T (le r z)) top-is
-    (round-mono binary64 (m * up e * 2 + 1 * down e) (down e * 2) 131071 2 (mul-pos (down-pos e) (zero-lt-suc 1)) (zero-lt-suc 1)
-    (room (m * up e) (down e) h)) in
-    subst (λ (z : Float). Under z 131071 (negsuc 0)) (sym is)
-    (plain-of-le r 131071 (negsuc 0) (round-shape binary64 false (m * up e * 2 + 1 * down e) (down e * 2)) l)
-
--- ---- the index
--- k is the greatest whole number not above x, which is finite and not negative
-abbrev pub Floor : Float → ℕ → Type 0
-Floor x k = (m : ℕ) × (e : ℤ) × (x ≡ fin false m e) × (k * down e ≤ m * up e) × (m * up e < k * down e + down e)
-
-half-room : (a d : ℕ) → 0 < d → a * 2 ≤ 131071 * d → a < 65536 * d
-half-room a d p h = omega arith
-
-uncapped : (q : ℕ) → q < 65536 → min q (18446744073709551616 - 1) ≡ q
-uncapped q h = omega arith
-
-whole-is : (m : ℕ) (e : ℤ) → m * up e / down e < 65536 → toUnsigned 64 (fin false m e) ≡ m * up e / down e
-unfolding toUnsigned
-whole-is m e h = uncapped (m * up e / down e) h
-
-under-floor : (v : Float) → Under v 131071 (negsuc 0) → Floor v (toUnsigned 64 v) × (toUnsigned 64 v ≤ 65535)
-under-floor v (m, e, q, h) =
-    let small : m * up e / down e < 65536 = div-lt-iff-lt-mul (down-pos e) .1 (half-room (m * up e) (down e) (down-pos e) h) in
-    let is : toUnsigned 64 v ≡ m * up e / down e = ap (toUnsigned 64) q ∙ whole-is m e small in
-    rw is ((m, e, q, div-mul-le-self (m * up e) (down e), lt-div-mul-add (down-pos e)), omega arith)
-
-abbrev sumOf : Float → Float
-sumOf x = add binary64 (mul binary64 x most) half
+    (round-mono binary64 a d 131071 2 D (zero-lt-suc 1) (top-room (m * up e) (down e) h)) in
+    record {
+      held = add-fits binary64 y half;
+      from = subst (λ (z : Float). T (le half z)) (sym is) low;
+      to = subst (λ (z : Float). T (le z greatestSum)) (sym is) high;
+    }
 
 mul-zero-most : mul binary64 plusZero most ≡ plusZero
 unfolding mul
 mul-zero-most = refl
 
-pub index-floor : (x : Float) → unit x → Floor (sumOf x) (indexOf x) × (indexOf x ≤ 65535)
-unfolding indexOf
-index-floor x u =
-    subst (λ (y : Float). Floor (sumOf y) (toUnsigned 64 (sumOf y)) × (toUnsigned 64 (sumOf y) ≤ 65535)) u
-    (clip-elim (λ (y : Float). Floor (sumOf y) (toUnsigned 64 (sumOf y)) × (toUnsigned 64 (sumOf y) ≤ 65535))
-    (under-floor (sumOf one) (sum-under (mul binary64 one most) (65535, pos 0, mul-one-most, omega arith)))
-    (under-floor (sumOf plusZero) (sum-under (mul binary64 plusZero most) (0, pos 0, mul-zero-most, omega arith)))
-    (λ y h. under-floor (sumOf y) (sum-under (mul binary64 y most) (product-under y h)))
+pub sum-range : (x : Float) → unit x → Index-range (sumOf x)
+sum-range x u =
+    subst (λ (y : Float). Index-range (sumOf y)) u
+    (clip-elim (λ (y : Float). Index-range (sumOf y))
+    (sum-in (mul binary64 one most) (65535, pos 0, mul-one-most, omega arith))
+    (sum-in (mul binary64 plusZero most) (0, pos 0, mul-zero-most, omega arith))
+    (λ y h. sum-in (mul binary64 y most) (product-under y h))
     x)
+
+-- of any x, by two tests
+pub tested-range : (x : Float) → le half (sumOf x) ≡ true → le (sumOf x) greatestSum ≡ true → Index-range (sumOf x)
+tested-range x a b =
+    record {
+      held = add-fits binary64 (mul binary64 x most) half;
+      from = subst T (sym a) tt;
+      to = subst T (sym b) tt;
+    }

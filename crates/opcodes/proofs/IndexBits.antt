@@ -1,0 +1,215 @@
+-- Of an f64 from 0.5 to 65535.5, `indexFromBits` is the greatest whole number not above it; and of a sum in this range it is `indexOf`.
+-- Assumes nothing.
+use mathlib.Core.Path.{_≡_, refl, sym, ap, _∙_, subst}
+use mathlib.Core.Bool.{Bool, true, false, not, true≢false}
+use mathlib.Core.Logic.{⊎-elim}
+use Prim.Native.Nat.{ℕ, zero, suc, _+_, _-_, _*_, _/_, _%_, _^_, _≤_, _<_, min}
+use native.Mathlib.Nat.{mul-one, mul-assoc, mul-pos, zero-lt-suc, mod-lt, lt-of-lt-of-le, lt-of-le-of-lt, le-of-eq}
+use native.Mathlib.Nat.{mul-le-mul-right, mul-lt-mul-of-pos-right, not-le-of-lt, le-trans, le-add-right, lt-of-mul-lt-mul-right, le-of-mul-le-mul-right}
+use native.Mathlib.Nat.{div-mul-le-self, lt-div-mul-add, div-lt-iff-lt-mul, le-div-iff-mul-le}
+use native.Mathlib.Omega.{arith}
+use borrow.Author.Tests.{lt-ltb, le-ltb, ltb-false}
+use lib.IntN.{ℤ, pos, negsuc}
+use lib.Dec.{T, leb, lt→ltb, ltb→lt}
+use lib.Pow.{pow-pos, pow-add, pow-mono, pow-lt, shl-lt}
+use lib.Ieee.{Float, nan, inf, fin, binary64, top, up, down, isNan, lt, le, ofBits, toBits, toUnsigned}
+use lib.Ieee.Bits.{ofBits-toBits}
+use lib.Ieee.Exact.{HasValue}
+use lib.Ieee.Fits.{down-pos}
+use lib.Ieee.Order.{le-of-values}
+use lib.Ieee.Positive.{num, den, positive, between, den-pos, own-value, positive-finite}
+use lib.Ieee.Scale.{finite}
+use Rattle.reading.specs.Reading.{pick}
+use Rattle.reading.specs.Real.{exponentField, fractionField, refusedPattern}
+use Rattle.reading.proofs.Pattern.{unitsOf, exact-value, finite-pattern}
+use Rattle.reading.proofs.Wholes.{le-or-lt}
+use Rattle.levels.proofs.Values.{lt-fractions, le-values}
+use Rattle.opcodes.specs.Step.{half, sumOf, indexOf}
+use Rattle.opcodes.proofs.Places.{or-false, not-high}
+use Rattle.opcodes.specs.TableIndex.{greatestSum, Index-range, indexFromBits, wholeNumber, Whole-part}
+
+-- ---- the whole part of a fraction
+whole-value : (n : ℕ) → HasValue (wholeNumber n) false n 1
+whole-value n = (refl, mul-one (n * 1))
+
+fraction-whole : (v : Float) (k a c : ℕ) → 0 < c → HasValue v false a c → k * c ≤ a → a < (k + 1) * c → Whole-part v k
+fraction-whole v k a c C h lo hi =
+    record {
+      not-above = le-of-values (wholeNumber k) v k 1 a c (zero-lt-suc 0) C (whole-value k) h (omega arith);
+      below-next =
+          subst T (sym (lt-fractions v (wholeNumber (k + 1)) a c (k + 1) 1 C (zero-lt-suc 0) h (whole-value (k + 1))))
+          (lt→ltb (a * 1) ((k + 1) * c) (omega arith));
+    }
+
+-- ---- (2^52 + F) / 2^(1075 - e) is v: both in units of 2^-1074
+small : (x t : ℕ) → t < 2 ^ 52 → x < 1023 → unitsOf binary64 x t < 2 ^ 1074
+small zero t h l = lt-of-lt-of-le h (pow-mono (let n : 52 ≤ 1074 = omega arith in n))
+small (suc j) t h l =
+    let digits : 2 ^ 52 + t < 2 ^ 53 = omega arith in
+    let few : 53 + j ≤ 1074 = omega arith in
+    lt-of-lt-of-le (shl-lt 53 j digits) (pow-mono few)
+
+under-one : (u c : ℕ) → u < c → (0 * c ≤ u) × (u < (0 + 1) * c)
+under-one u c h = (omega arith, omega arith)
+
+cut : (q c d : ℕ) → 0 < c → 0 < d → (q / c * (c * d) ≤ q * d) × (q * d < (q / c + 1) * (c * d))
+cut q c d C D =
+    let lo : q / c * c * d ≤ q * d = mul-le-mul-right d (div-mul-le-self q c) in
+    let hi : q * d < (q / c * c + c) * d = mul-lt-mul-of-pos-right (lt-div-mul-add C) D in
+    let e : (q / c + 1) * (c * d) ≡ (q / c * c + c) * d =
+    sym (mul-assoc (q / c + 1) c d) ∙ ap (λ (n : ℕ). n * d) (let w : (q / c + 1) * c ≡ q / c * c + c = omega arith in w) in
+    (subst (λ (n : ℕ). n ≤ q * d) (mul-assoc (q / c) c d) lo, subst (λ (n : ℕ). q * d < n) (sym e) hi)
+
+large : (x t : ℕ) → 1023 ≤ x → x ≤ 1075 →
+    ((2 ^ 52 + t) / 2 ^ (1075 - x) * 2 ^ 1074 ≤ unitsOf binary64 x t)
+    × (unitsOf binary64 x t < ((2 ^ 52 + t) / 2 ^ (1075 - x) + 1) * 2 ^ 1074)
+large zero t a b = absurd (let n : 1023 ≤ 0 = a in omega arith)
+large (suc j) t a b =
+    let q = 2 ^ 52 + t in
+    let n = 1075 - suc j in
+    let places : n + j ≡ 1074 = omega arith in
+    let joined : 2 ^ n * 2 ^ j ≡ 2 ^ 1074 = sym (pow-add 2 n j) ∙ ap (λ (i : ℕ). 2 ^ i) places in
+    subst (λ (w : ℕ). (q / 2 ^ n * w ≤ q * 2 ^ j) × (q * 2 ^ j < (q / 2 ^ n + 1) * w)) joined
+    (cut q (2 ^ n) (2 ^ j) (pow-pos n) (pow-pos j))
+
+-- below 65536 the exponent field is at most 1038
+field-most : (x t : ℕ) → unitsOf binary64 x t * 2 ≤ 131071 * 2 ^ 1074 → x ≤ 1038
+field-most zero t h = omega arith
+field-most (suc j) t h = ⊎-elim (λ l. omega arith) (λ l. absurd (high l)) (le-or-lt j 1037)
+  where
+    under : (2 ^ 52 + t) * 2 ^ j < 2 ^ 1090
+    under = lt-of-mul-lt-mul-right 2 (lt-of-le-of-lt h (ltb→lt (131071 * 2 ^ 1074) (2 ^ 1090 * 2) tt))
+
+    high : 1037 < j → ⊥
+    high l =
+        let far : 52 + 1038 ≤ 52 + j = omega arith in
+        let lead : 2 ^ (52 + j) ≤ (2 ^ 52 + t) * 2 ^ j =
+        le-trans (le-of-eq (pow-add 2 52 j)) (mul-le-mul-right (2 ^ j) (le-add-right (2 ^ 52) t)) in
+        not-le-of-lt under (le-trans (pow-mono far) lead)
+
+halves-most : (k u c : ℕ) → 0 < c → k * c ≤ u * 1 → u * 2 ≤ 131071 * c → k ≤ 65535
+halves-most k u c C lo hi =
+    let h : k * 2 * c ≤ 131071 * c = omega arith in
+    let n : k * 2 ≤ 131071 = le-of-mul-le-mul-right h C in
+    omega arith
+
+-- ---- the two cases of `indexFromBits`, by the numbers in its fields
+pub index-low : (v : Float) (x : ℕ) → x ≡ exponentField binary64 (toBits binary64 v) → x < 1023 → 0 ≡ indexFromBits v
+unfolding indexFromBits pick
+index-low v x e h = rw (← e) (simp (lt-ltb _ _ h))
+
+pub index-high : (v : Float) (x t : ℕ) → x ≡ exponentField binary64 (toBits binary64 v) → t ≡ fractionField binary64 (toBits binary64 v) →
+    1023 ≤ x → (2 ^ 52 + t) / 2 ^ (1075 - x) ≡ indexFromBits v
+unfolding indexFromBits pick
+index-high v x t e f h = rw (← e, ← f) (simp (le-ltb _ _ h))
+
+-- ---- an f64 from 0.5 to 65535.5
+plain : (x : Float) (s : Bool) (a c : ℕ) → T (positive x) → HasValue x s a c → HasValue x false a c
+plain nan s a c p h = absurd p
+plain (inf t) s a c p h = absurd p
+plain (fin true m e) s a c p h = absurd p
+plain (fin false m e) s a c p h = (refl, h .1)
+
+no-nan : (x : Float) → T (positive x) → T (not (isNan x))
+unfolding isNan
+no-nan nan p = absurd p
+no-nan (inf s) p = tt
+no-nan (fin s m e) p = tt
+
+whole-is : (x : Float) → T (positive x) → toUnsigned 64 x ≡ min (num x / den x) (2 ^ 64 - 1)
+unfolding toUnsigned
+whole-is nan p = absurd p
+whole-is (inf s) p = absurd p
+whole-is (fin true m e) p = absurd p
+whole-is (fin false m e) p = refl
+
+module _ (v : Float) (r : Index-range v) where
+  abbrev e : ℕ
+  e = exponentField binary64 (toBits binary64 v)
+
+  abbrev F : ℕ
+  F = fractionField binary64 (toBits binary64 v)
+
+  above-zero : T (positive v)
+  above-zero = between half v greatestSum tt tt (r .from) (r .to)
+
+  pub index-number : T (not (isNan v))
+  index-number = no-nan v above-zero
+
+  value : HasValue v false (unitsOf binary64 e F) (2 ^ 1074)
+  value =
+      let bits = toBits binary64 v in
+      let back : ofBits binary64 bits ≡ v = ofBits-toBits binary64 v (r .held) in
+      let kept : refusedPattern binary64 bits ≡ false =
+      finite-pattern binary64 bits (subst (λ (x : Float). T (finite x)) (sym back) (positive-finite v above-zero)) in
+      plain v (leb (top binary64) bits) (unitsOf binary64 e F) (2 ^ 1074) above-zero
+      (subst (λ (x : Float). HasValue x (leb (top binary64) bits) (unitsOf binary64 e F) (2 ^ 1074)) back (exact-value binary64 bits kept))
+
+  at-most : unitsOf binary64 e F * 2 ≤ 131071 * 2 ^ 1074
+  at-most = le-values v greatestSum (unitsOf binary64 e F) (2 ^ 1074) 131071 2 value (refl, refl) (r .to)
+
+  pub exponent-most : e ≤ 1038
+  exponent-most = field-most e F at-most
+
+  -- k <= v and v < k + 1
+  pub index-whole : Whole-part v (indexFromBits v)
+  index-whole = ⊎-elim
+      (λ l.
+          let b = large e F l (omega (arith, exponent-most)) in
+          subst (Whole-part v) (index-high v e F refl refl l) (fraction-whole v _ (unitsOf binary64 e F) (2 ^ 1074) (pow-pos 1074) value (b .0) (b .1)))
+      (λ l.
+          let b = under-one (unitsOf binary64 e F) (2 ^ 1074) (small e F (mod-lt _ (pow-pos 52)) l) in
+          subst (Whole-part v) (index-low v e refl l)
+          (fraction-whole v 0 (unitsOf binary64 e F) (2 ^ 1074) (pow-pos 1074) value (b .0) (b .1)))
+      (le-or-lt 1023 e)
+
+  pub index-most : indexFromBits v ≤ 65535
+  index-most =
+      let k = indexFromBits v in
+      let h : k * 2 ^ 1074 ≤ unitsOf binary64 e F * 1 =
+      le-values (wholeNumber k) v k 1 (unitsOf binary64 e F) (2 ^ 1074) (whole-value k) value (index-whole .not-above) in
+      halves-most k (unitsOf binary64 e F) (2 ^ 1074) (pow-pos 1074) h at-most
+
+  -- the whole part is one number
+  pub index-unique : toUnsigned 64 v ≡ indexFromBits v
+  index-unique =
+      let k = indexFromBits v in
+      let own = own-value v above-zero in
+      let lo : k * den v ≤ num v * 1 = le-values (wholeNumber k) v k 1 (num v) (den v) (whole-value k) own (index-whole .not-above) in
+      let hi : num v * 1 < (k + 1) * den v = ltb→lt (num v * 1) ((k + 1) * den v)
+      (subst T (lt-fractions v (wholeNumber (k + 1)) (num v) (den v) (k + 1) 1 (den-pos v) (zero-lt-suc 0) own (whole-value (k + 1)))
+      (index-whole .below-next)) in
+      let ge : k ≤ num v / den v = le-div-iff-mul-le (den-pos v) .1 (omega (arith, lo)) in
+      let le : num v / den v < k + 1 = div-lt-iff-lt-mul (den-pos v) .1 (omega (arith, hi)) in
+      let most = index-most in
+      whole-is v above-zero ∙ (let m : min (num v / den v) (2 ^ 64 - 1) ≡ k = omega (arith, ge, le, most) in m)
+
+-- the index is the one in the bits
+pub index-in-bits : (x : Float) → Index-range (sumOf x) → indexOf x ≡ indexFromBits (sumOf x)
+unfolding indexOf
+index-in-bits x r = index-unique (sumOf x) r
+
+-- ---- on either side of the range
+pub whole-below : (v : Float) → le half v ≡ false → toUnsigned 64 v ≡ 0
+unfolding le toUnsigned
+whole-below nan h = refl
+whole-below (inf true) h = refl
+whole-below (inf false) h = absurd (true≢false h)
+whole-below (fin true m e) h = refl
+whole-below (fin false m e) h =
+    let l : m * up e * 2 < 1 * 1 * down e = not-high (1 * 1 * down e) (m * up e * 2) h in
+    let z : m * up e / down e < 1 = div-lt-iff-lt-mul (down-pos e) .1 (omega (arith, l)) in
+    omega (arith, z)
+
+pub whole-above : (v : Float) → le half v ≡ true → le v greatestSum ≡ false → 65535 ≤ toUnsigned 64 v
+unfolding le toUnsigned
+whole-above nan g h = absurd (true≢false (sym g))
+whole-above (inf true) g h = absurd (true≢false h)
+whole-above (inf false) g h = omega arith
+whole-above (fin true m e) g h =
+    let k : m * up e * 2 + 131071 * 1 * down e ≤ 0 = ltb-false 0 (m * up e * 2 + 131071 * 1 * down e) (or-false _ _ h .0) in
+    absurd (omega (arith, k, down-pos e))
+whole-above (fin false m e) g h =
+    let l : 131071 * 1 * down e < m * up e * 2 = not-high (m * up e * 2) (131071 * 1 * down e) h in
+    let q : 65535 ≤ m * up e / down e = le-div-iff-mul-le (down-pos e) .1 (omega (arith, l)) in
+    omega (arith, q)
