@@ -17,7 +17,8 @@ use lib.Ieee.Bits.{ofBits-toBits}
 use lib.Ieee.Exact.{HasValue}
 use lib.Ieee.Fits.{down-pos}
 use lib.Ieee.Order.{le-of-values}
-use lib.Ieee.Positive.{num, den, positive, between, den-pos, own-value, positive-finite}
+use lib.Ieee.Nearest.{div-same}
+use lib.Ieee.Positive.{num, den, positive, between, den-pos, positive-finite, value→cross}
 use lib.Ieee.Scale.{finite}
 use Rattle.reading.specs.Reading.{pick}
 use Rattle.reading.specs.Real.{exponentField, fractionField, refusedPattern}
@@ -26,7 +27,7 @@ use Rattle.reading.proofs.Wholes.{le-or-lt}
 use Rattle.levels.proofs.Values.{lt-fractions, le-values}
 use Rattle.opcodes.specs.Step.{half, sumOf, indexOf}
 use Rattle.opcodes.proofs.Places.{or-false, not-high}
-use Rattle.opcodes.specs.TableIndex.{greatestSum, Index-range, indexFromBits, wholeNumber, Whole-part}
+use Rattle.opcodes.specs.TableIndex.{greatestSum, Index-range, shiftedOf, indexFromBits, wholeNumber, Whole-part}
 
 -- ---- the whole part of a fraction
 whole-value : (n : ℕ) → HasValue (wholeNumber n) false n 1
@@ -60,17 +61,16 @@ cut q c d C D =
     sym (mul-assoc (q / c + 1) c d) ∙ ap (λ (n : ℕ). n * d) (let w : (q / c + 1) * c ≡ q / c * c + c = omega arith in w) in
     (subst (λ (n : ℕ). n ≤ q * d) (mul-assoc (q / c) c d) lo, subst (λ (n : ℕ). q * d < n) (sym e) hi)
 
-large : (x t : ℕ) → 1023 ≤ x → x ≤ 1075 →
-    ((2 ^ 52 + t) / 2 ^ (1075 - x) * 2 ^ 1074 ≤ unitsOf binary64 x t)
-    × (unitsOf binary64 x t < ((2 ^ 52 + t) / 2 ^ (1075 - x) + 1) * 2 ^ 1074)
-large zero t a b = absurd (let n : 1023 ≤ 0 = a in omega arith)
-large (suc j) t a b =
-    let q = 2 ^ 52 + t in
-    let n = 1075 - suc j in
-    let places : n + j ≡ 1074 = omega arith in
-    let joined : 2 ^ n * 2 ^ j ≡ 2 ^ 1074 = sym (pow-add 2 n j) ∙ ap (λ (i : ℕ). 2 ^ i) places in
+placed : (q n j : ℕ) → n + j ≡ 1074 → (q / 2 ^ n * 2 ^ 1074 ≤ q * 2 ^ j) × (q * 2 ^ j < (q / 2 ^ n + 1) * 2 ^ 1074)
+placed q n j h =
+    let joined : 2 ^ n * 2 ^ j ≡ 2 ^ 1074 = sym (pow-add 2 n j) ∙ ap (λ (i : ℕ). 2 ^ i) h in
     subst (λ (w : ℕ). (q / 2 ^ n * w ≤ q * 2 ^ j) × (q * 2 ^ j < (q / 2 ^ n + 1) * w)) joined
     (cut q (2 ^ n) (2 ^ j) (pow-pos n) (pow-pos j))
+
+large : (x t : ℕ) → 1023 ≤ x → x ≤ 1038 →
+    (shiftedOf x t * 2 ^ 1074 ≤ unitsOf binary64 x t) × (unitsOf binary64 x t < (shiftedOf x t + 1) * 2 ^ 1074)
+large zero t a b = absurd (let n : 1023 ≤ 0 = a in omega arith)
+large (suc j) t a b = placed _ _ j (omega arith)
 
 -- below 65536 the exponent field is at most 1038
 field-most : (x t : ℕ) → unitsOf binary64 x t * 2 ≤ 131071 * 2 ^ 1074 → x ≤ 1038
@@ -87,7 +87,16 @@ field-most (suc j) t h = ⊎-elim (λ l. omega arith) (λ l. absurd (high l)) (l
         le-trans (le-of-eq (pow-add 2 52 j)) (mul-le-mul-right (2 ^ j) (le-add-right (2 ^ 52) t)) in
         not-le-of-lt under (le-trans (pow-mono far) lead)
 
-halves-most : (k u c : ℕ) → 0 < c → k * c ≤ u * 1 → u * 2 ≤ 131071 * c → k ≤ 65535
+next : (n k u c : ℕ) → n * c ≤ u * 1 → u < (k + 1) * c → n ≤ k
+next n k u c lo hi =
+    let h : n * c < (k + 1) * c = omega arith in
+    let l : n < k + 1 = lt-of-mul-lt-mul-right c h in
+    omega arith
+
+capped : (a b k : ℕ) → a ≡ b → k ≤ b → b < k + 1 → k ≤ 65535 → min a (2 ^ 64 - 1) ≡ k
+capped a b k e lo hi most = omega arith
+
+halves-most : (k u c : ℕ) → 0 < c → k * c ≤ u → u * 2 ≤ 131071 * c → k ≤ 65535
 halves-most k u c C lo hi =
     let h : k * 2 * c ≤ 131071 * c = omega arith in
     let n : k * 2 ≤ 131071 = le-of-mul-le-mul-right h C in
@@ -99,7 +108,7 @@ unfolding indexFromBits pick
 index-low v x e h = rw (← e) (simp (lt-ltb _ _ h))
 
 pub index-high : (v : Float) (x t : ℕ) → x ≡ exponentField binary64 (toBits binary64 v) → t ≡ fractionField binary64 (toBits binary64 v) →
-    1023 ≤ x → (2 ^ 52 + t) / 2 ^ (1075 - x) ≡ indexFromBits v
+    1023 ≤ x → shiftedOf x t ≡ indexFromBits v
 unfolding indexFromBits pick
 index-high v x t e f h = rw (← e, ← f) (simp (le-ltb _ _ h))
 
@@ -151,38 +160,36 @@ module _ (v : Float) (r : Index-range v) where
   pub exponent-most : e ≤ 1038
   exponent-most = field-most e F at-most
 
+  bounds : (indexFromBits v * 2 ^ 1074 ≤ unitsOf binary64 e F) × (unitsOf binary64 e F < (indexFromBits v + 1) * 2 ^ 1074)
+  bounds = ⊎-elim
+      (λ l. subst Around (index-high v e F refl refl l) (large e F l exponent-most))
+      (λ l. subst Around (index-low v e refl l) (under-one (unitsOf binary64 e F) (2 ^ 1074) (small e F (mod-lt _ (pow-pos 52)) l)))
+      (le-or-lt 1023 e)
+    where
+      Around : ℕ → Type 0
+      Around k = (k * 2 ^ 1074 ≤ unitsOf binary64 e F) × (unitsOf binary64 e F < (k + 1) * 2 ^ 1074)
+
   -- k <= v and v < k + 1
   pub index-whole : Whole-part v (indexFromBits v)
-  index-whole = ⊎-elim
-      (λ l.
-          let b = large e F l (omega (arith, exponent-most)) in
-          subst (Whole-part v) (index-high v e F refl refl l) (fraction-whole v _ (unitsOf binary64 e F) (2 ^ 1074) (pow-pos 1074) value (b .0) (b .1)))
-      (λ l.
-          let b = under-one (unitsOf binary64 e F) (2 ^ 1074) (small e F (mod-lt _ (pow-pos 52)) l) in
-          subst (Whole-part v) (index-low v e refl l)
-          (fraction-whole v 0 (unitsOf binary64 e F) (2 ^ 1074) (pow-pos 1074) value (b .0) (b .1)))
-      (le-or-lt 1023 e)
+  index-whole = fraction-whole v (indexFromBits v) (unitsOf binary64 e F) (2 ^ 1074) (pow-pos 1074) value (bounds .0) (bounds .1)
+
+  -- so no whole number that is not above v is greater
+  pub index-greatest : (n : ℕ) → T (le (wholeNumber n) v) → n ≤ indexFromBits v
+  index-greatest n h = next n (indexFromBits v) (unitsOf binary64 e F) (2 ^ 1074)
+      (le-values (wholeNumber n) v n 1 (unitsOf binary64 e F) (2 ^ 1074) (whole-value n) value h) (bounds .1)
 
   pub index-most : indexFromBits v ≤ 65535
-  index-most =
-      let k = indexFromBits v in
-      let h : k * 2 ^ 1074 ≤ unitsOf binary64 e F * 1 =
-      le-values (wholeNumber k) v k 1 (unitsOf binary64 e F) (2 ^ 1074) (whole-value k) value (index-whole .not-above) in
-      halves-most k (unitsOf binary64 e F) (2 ^ 1074) (pow-pos 1074) h at-most
+  index-most = halves-most (indexFromBits v) (unitsOf binary64 e F) (2 ^ 1074) (pow-pos 1074) (bounds .0) at-most
 
-  -- the whole part is one number
   pub index-unique : toUnsigned 64 v ≡ indexFromBits v
   index-unique =
       let k = indexFromBits v in
-      let own = own-value v above-zero in
-      let lo : k * den v ≤ num v * 1 = le-values (wholeNumber k) v k 1 (num v) (den v) (whole-value k) own (index-whole .not-above) in
-      let hi : num v * 1 < (k + 1) * den v = ltb→lt (num v * 1) ((k + 1) * den v)
-      (subst T (lt-fractions v (wholeNumber (k + 1)) (num v) (den v) (k + 1) 1 (den-pos v) (zero-lt-suc 0) own (whole-value (k + 1)))
-      (index-whole .below-next)) in
-      let ge : k ≤ num v / den v = le-div-iff-mul-le (den-pos v) .1 (omega (arith, lo)) in
-      let le : num v / den v < k + 1 = div-lt-iff-lt-mul (den-pos v) .1 (omega (arith, hi)) in
-      let most = index-most in
-      whole-is v above-zero ∙ (let m : min (num v / den v) (2 ^ 64 - 1) ≡ k = omega (arith, ge, le, most) in m)
+      let u = unitsOf binary64 e F in
+      let same : num v / den v ≡ u / 2 ^ 1074 =
+      div-same (num v) (den v) u (2 ^ 1074) (den-pos v) (pow-pos 1074) (value→cross v u (2 ^ 1074) value) in
+      let lo : k ≤ u / 2 ^ 1074 = le-div-iff-mul-le (pow-pos 1074) .1 (bounds .0) in
+      let hi : u / 2 ^ 1074 < k + 1 = div-lt-iff-lt-mul (pow-pos 1074) .1 (bounds .1) in
+      whole-is v above-zero ∙ capped (num v / den v) (u / 2 ^ 1074) k same lo hi index-most
 
 -- the index is the one in the bits
 pub index-in-bits : (x : Float) → Index-range (sumOf x) → indexOf x ≡ indexFromBits (sumOf x)

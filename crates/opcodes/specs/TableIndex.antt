@@ -18,13 +18,16 @@ pub record Index-range (v : Float) : Type 0 where
   pub from : T (le half v)
   pub to : T (le v greatestSum)
 
--- "take it from the exponent field e and the fraction field F of the f64":
--- "k is 0 where e is under 1023, else the whole part of (2^52 + F) / 2^(1075 - e)"
+-- "the whole part of (2^52 + F) / 2^(1075 - e)"
+abbrev pub shiftedOf : ℕ → ℕ → ℕ
+shiftedOf e F = (2 ^ 52 + F) / 2 ^ (1075 - e)
+
+-- "take it from the exponent field e and the fraction field F of the f64": "k is 0 where e is under 1023, else .."
 unfoldable pub indexFromBits : Float → ℕ
 indexFromBits v =
     let bits = toBits binary64 v in
     let e = exponentField binary64 bits in
-    pick (ltb e 1023) 0 ((2 ^ 52 + fractionField binary64 bits) / 2 ^ (1075 - e))
+    pick (ltb e 1023) 0 (shiftedOf e (fractionField binary64 bits))
 
 -- a whole number, n * 2^0
 abbrev pub wholeNumber : ℕ → Float
