@@ -6,7 +6,7 @@ use mathlib.Core.Logic.{⊎-elim}
 use Prim.Native.Nat.{ℕ, zero, suc, _+_, _-_, _*_, _/_, _%_, _^_, _≤_, _<_, min}
 use native.Mathlib.Nat.{mul-one, mul-assoc, mul-pos, zero-lt-suc, mod-lt, lt-of-lt-of-le, lt-of-le-of-lt, le-of-eq}
 use native.Mathlib.Nat.{mul-le-mul-right, mul-lt-mul-of-pos-right, not-le-of-lt, le-trans, le-add-right, lt-of-mul-lt-mul-right, le-of-mul-le-mul-right}
-use native.Mathlib.Nat.{div-mul-le-self, lt-div-mul-add, div-lt-iff-lt-mul, le-div-iff-mul-le}
+use native.Mathlib.Nat.{div-eq-of-lt, div-mul-le-self, lt-div-mul-add, div-lt-iff-lt-mul, le-div-iff-mul-le}
 use native.Mathlib.Omega.{arith}
 use borrow.Author.Tests.{lt-ltb, le-ltb, ltb-false}
 use lib.IntN.{ℤ, pos, negsuc}
@@ -43,11 +43,11 @@ fraction-whole v k a c C h lo hi =
     }
 
 -- ---- (2^52 + F) / 2^(1075 - e) is v: both in units of 2^-1074
-small : (x t : ℕ) → t < 2 ^ 52 → x < 1023 → unitsOf binary64 x t < 2 ^ 1074
-small zero t h l = lt-of-lt-of-le h (pow-mono (let n : 52 ≤ 1074 = omega arith in n))
-small (suc j) t h l =
+small : (x t n : ℕ) → t < 2 ^ 52 → 52 + x ≤ n → unitsOf binary64 x t < 2 ^ n
+small zero t n h l = lt-of-lt-of-le h (pow-mono l)
+small (suc j) t n h l =
     let digits : 2 ^ 52 + t < 2 ^ 53 = omega arith in
-    let few : 53 + j ≤ 1074 = omega arith in
+    let few : 53 + j ≤ n = omega arith in
     lt-of-lt-of-le (shl-lt 53 j digits) (pow-mono few)
 
 under-one : (u c : ℕ) → u < c → (0 * c ≤ u) × (u < (0 + 1) * c)
@@ -87,6 +87,13 @@ field-most (suc j) t h = ⊎-elim (λ l. omega arith) (λ l. absurd (high l)) (l
         le-trans (le-of-eq (pow-add 2 52 j)) (mul-le-mul-right (2 ^ j) (le-add-right (2 ^ 52) t)) in
         not-le-of-lt under (le-trans (pow-mono far) lead)
 
+-- and from 0.5 on at least 1022
+field-least : (x t : ℕ) → t < 2 ^ 52 → 1 * 2 ^ 1074 ≤ unitsOf binary64 x t * 2 → 1022 ≤ x
+field-least x t h l = ⊎-elim (λ k. k) (λ k. absurd (low k)) (le-or-lt 1022 x)
+  where
+    low : x < 1022 → ⊥
+    low k = not-le-of-lt (mul-lt-mul-of-pos-right (small x t 1073 h (omega arith)) (zero-lt-suc 1)) l
+
 next : (n k u c : ℕ) → n * c ≤ u * 1 → u < (k + 1) * c → n ≤ k
 next n k u c lo hi =
     let h : n * c < (k + 1) * c = omega arith in
@@ -102,15 +109,19 @@ halves-most k u c C lo hi =
     let n : k * 2 ≤ 131071 = le-of-mul-le-mul-right h C in
     omega arith
 
--- ---- the two cases of `indexFromBits`, by the numbers in its fields
-pub index-low : (v : Float) (x : ℕ) → x ≡ exponentField binary64 (toBits binary64 v) → x < 1023 → 0 ≡ indexFromBits v
+-- ---- the two cases of `indexFromBits`
+index-low : (v : Float) → exponentField binary64 (toBits binary64 v) < 1023 → 0 ≡ indexFromBits v
 unfolding indexFromBits pick
-index-low v x e h = rw (← e) (simp (lt-ltb _ _ h))
+index-low v h = simp (lt-ltb _ _ h)
 
-pub index-high : (v : Float) (x t : ℕ) → x ≡ exponentField binary64 (toBits binary64 v) → t ≡ fractionField binary64 (toBits binary64 v) →
-    1023 ≤ x → shiftedOf x t ≡ indexFromBits v
+index-high : (v : Float) → 1023 ≤ exponentField binary64 (toBits binary64 v) →
+    shiftedOf (exponentField binary64 (toBits binary64 v)) (fractionField binary64 (toBits binary64 v)) ≡ indexFromBits v
 unfolding indexFromBits pick
-index-high v x t e f h = rw (← e, ← f) (simp (le-ltb _ _ h))
+index-high v h = simp (le-ltb _ _ h)
+
+-- in 53 digits nothing stands left of the 53rd
+shifted-out : (x t : ℕ) → t < 2 ^ 52 → x < 1023 → 1022 ≤ x → shiftedOf x t ≡ 0
+shifted-out x t h l m = let e : x ≡ 1022 = omega arith in rw e (div-eq-of-lt (let d : 2 ^ 52 + t < 2 ^ 53 = omega arith in d))
 
 -- ---- an f64 from 0.5 to 65535.5
 plain : (x : Float) (s : Bool) (a c : ℕ) → T (positive x) → HasValue x s a c → HasValue x false a c
@@ -160,14 +171,27 @@ module _ (v : Float) (r : Index-range v) where
   pub exponent-most : e ≤ 1038
   exponent-most = field-most e F at-most
 
+  fraction-in : F < 2 ^ 52
+  fraction-in = mod-lt _ (pow-pos 52)
+
+  pub exponent-least : 1022 ≤ e
+  exponent-least = field-least e F fraction-in (le-values half v 1 2 (unitsOf binary64 e F) (2 ^ 1074) (refl, refl) value (r .from))
+
   bounds : (indexFromBits v * 2 ^ 1074 ≤ unitsOf binary64 e F) × (unitsOf binary64 e F < (indexFromBits v + 1) * 2 ^ 1074)
   bounds = ⊎-elim
-      (λ l. subst Around (index-high v e F refl refl l) (large e F l exponent-most))
-      (λ l. subst Around (index-low v e refl l) (under-one (unitsOf binary64 e F) (2 ^ 1074) (small e F (mod-lt _ (pow-pos 52)) l)))
+      (λ l. subst Around (index-high v l) (large e F l exponent-most))
+      (λ l. subst Around (index-low v l) (under-one (unitsOf binary64 e F) (2 ^ 1074) (small e F 1074 fraction-in (omega arith))))
       (le-or-lt 1023 e)
     where
       Around : ℕ → Type 0
       Around k = (k * 2 ^ 1074 ≤ unitsOf binary64 e F) × (unitsOf binary64 e F < (k + 1) * 2 ^ 1074)
+
+  -- one shift is both cases: where e is 1022, nothing is left
+  pub index-shifted : (x t : ℕ) → x ≡ e → t ≡ F → shiftedOf x t ≡ indexFromBits v
+  index-shifted x t p q = rw (p, q) (⊎-elim
+      (λ l. index-high v l)
+      (λ l. shifted-out e F fraction-in l exponent-least ∙ index-low v l)
+      (le-or-lt 1023 e))
 
   -- k <= v and v < k + 1
   pub index-whole : Whole-part v (indexFromBits v)

@@ -30,16 +30,14 @@ pub fn clip(x: f64) -> f64
     if y < 1.0 { y } else { 1.0 }
 }
 
-// k of a v = x * 65535.0 + 0.5, from its exponent field and its fraction field. 2^52 is the hidden bit.
+// k of a v = x * 65535.0 + 0.5, from its exponent field and its fraction field; 2^52 is the hidden bit. An exponent field under 1023
+// is 1022, as v is at least 0.5: then the shift is by 53, and leaves 0.
 pub fn index_from_bits(v: f64) -> u64
     requires { ⌜ Index-range v ⌝ }
     ensures { λ r. ⌜ (r ≡ indexFromBits v) × Whole-part v r ⌝ }
 {
     let bits: u64 = f64::to_bits(v);
     let exponent = real::exponent_field(bits);
-    if exponent < 1023 {
-        return 0;
-    }
     let digits = 0x10_0000_0000_0000 + real::fraction_field(bits);
     digits >> (1075 - exponent)
 }

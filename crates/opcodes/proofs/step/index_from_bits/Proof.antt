@@ -1,8 +1,8 @@
-use mathlib.Core.Path.{_≡_, sym, subst}
+use mathlib.Core.Path.{sym, subst}
 use native.Mathlib.Omega.{arith}
 use borrow.Author.Needs.{needs}
-use Rattle.opcodes.specs.TableIndex.{indexFromBits, Whole-part}
-use Rattle.opcodes.proofs.IndexBits.{index-number, index-low, index-high, index-whole, exponent-most}
+use Rattle.opcodes.specs.TableIndex.{Whole-part}
+use Rattle.opcodes.proofs.IndexBits.{index-number, index-shifted, index-whole, exponent-most, exponent-least}
 use Rattle.opcodes.proofs.step.index_from_bits.Statement.{statement}
 use Rattle.opcodes.proofs.step.index_from_bits.Tie as tie
 
@@ -12,13 +12,6 @@ float-to-bits-bits c = index-number (c .args .v) (c .pre)
 exponent-field-requires : tie.Need-exponent-field-requires
 exponent-field-requires c κs = search needs
 
-returns : tie.Need-returns
-returns c =
-    let s = c .before .before in
-    let v = s .args .v in
-    let is : 0 ≡ indexFromBits v = index-low v _ (c .before .exponent-field .ensures) (c .if1 .taken) in
-    (is, subst (Whole-part v) (sym is) (index-whole v (s .pre)))
-
 fraction-field-requires : tie.Need-fraction-field-requires
 fraction-field-requires c κs = search needs
 
@@ -27,18 +20,19 @@ add-digits c = search needs
 
 sub-result : tie.Need-sub-result
 sub-result c =
-    let f = c .before .before in
-    omega (arith, f .exponent-field .ensures, exponent-most (f .before .args .v) (f .before .pre))
+    let s = c .before .before in
+    omega (arith, c .before .exponent-field .ensures, exponent-most (s .args .v) (s .pre))
 
 shr-result : tie.Need-shr-result
-shr-result c = search needs
+shr-result c =
+    let s = c .before .before in
+    omega (arith, c .before .exponent-field .ensures, exponent-least (s .args .v) (s .pre))
 
-returns-2 : tie.Need-returns-2
-returns-2 c =
-    let f = c .before .before in
-    let s = f .before in
+returns : tie.Need-returns
+returns c =
+    let s = c .before .before in
     let v = s .args .v in
-    let is = index-high v _ _ (f .exponent-field .ensures) (c .fraction-field .ensures) (c .before .if1 .left) in
+    let is = index-shifted v (s .pre) _ _ (c .before .exponent-field .ensures) (c .fraction-field .ensures) in
     (is, subst (Whole-part v) (sym is) (index-whole v (s .pre)))
 
 pub index-from-bits-spec : {M : Type 1} → statement M
@@ -47,9 +41,8 @@ index-from-bits-spec =
     (tie.spec
     float-to-bits-bits
     exponent-field-requires
-    returns
     fraction-field-requires
     add-digits
     sub-result
     shr-result
-    returns-2)
+    returns)
