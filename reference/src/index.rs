@@ -3,7 +3,7 @@
 //! changes, and frames that hold them.
 
 use crate::builder::{Area, Dng, Opcode, Picture};
-use crate::bytes::ByteOrder;
+use crate::bytes::{ByteOrder, Widths};
 
 /// x * 65535.0 + 0.5: the product is rounded, and then the sum.
 pub fn v(x: f64) -> f64 {
@@ -60,10 +60,10 @@ pub fn own_indices(size: usize) -> Vec<u16> {
     (0..size).map(|i| i as u16).collect()
 }
 
-/// A 16-bit file without levels, and opcodes that leave its frame with numbers of
+/// 16-bit samples without levels, and opcodes that leave the frame with numbers of
 /// one's choice.
 pub struct Holding {
-    dng: Dng,
+    picture: Picture,
     opcodes: Vec<Opcode>,
     /// The whole frame.
     pub area: Area,
@@ -73,8 +73,7 @@ impl Holding {
     fn new(rows: usize, columns: usize, planes: usize, stored: Vec<u16>) -> Holding {
         let [rows, columns, planes] = [rows, columns, planes].map(|n| n as u32);
         let picture = Picture { stored, ..Picture::counting(columns, rows, planes, 16) };
-        let dng = Dng::new(ByteOrder::Little, &picture);
-        Holding { dng, opcodes: Vec::new(), area: Area::whole(rows, columns, planes) }
+        Holding { picture, opcodes: Vec::new(), area: Area::whole(rows, columns, planes) }
     }
 
     /// A row of these numbers, at most 31, and behind them of the scaled values of
@@ -107,8 +106,9 @@ impl Holding {
     }
 
     /// The file with these opcodes behind its own.
-    pub fn then(&self, last: &[Opcode]) -> Dng {
-        self.dng.clone().with_opcodes(&[&self.opcodes, last].concat())
+    pub fn then(&self, (order, widths): (ByteOrder, Widths), last: &[Opcode]) -> Dng {
+        let list = [&self.opcodes, last].concat();
+        Dng { widths, ..Dng::new(order, &self.picture).with_opcodes(&list) }
     }
 }
 

@@ -6,6 +6,7 @@ mod common;
 
 use common::*;
 use reference::builder::Opcode;
+use reference::bytes::{ByteOrder, Widths};
 use reference::index::{boundary, ends, fields, in_the_bits, index, own_indices, v, Holding};
 use reference::opcodes::{Action, OnGrid};
 use reference::random::Random;
@@ -13,6 +14,9 @@ use reference::random::Random;
 /// The least and the greatest v.
 const LEAST: f64 = 0.5;
 const GREATEST: f64 = 65535.5;
+
+/// The order and the layout of the files.
+const WAY: (ByteOrder, Widths) = (ByteOrder::Big, Widths::BITS_32);
 
 /// v in 2^-53rds, of which every f64 from 0.5 to 65535.5 is a whole number.
 fn units(v: f64) -> u128 {
@@ -137,12 +141,12 @@ fn holding() -> [(Vec<f64>, Holding); 2] {
 #[test]
 fn a_frame_holds_its_numbers_by_their_bits() {
     for (numbers, holding) in holding() {
-        assert_eq!(bits(&frame(&holding.then(&[]))), bits(&numbers));
+        assert_eq!(bits(&frame(&holding.then(WAY, &[]))), bits(&numbers));
     }
     let numbers = [0.0, 1.0, f64::from_bits(1), 1.0f64.next_down(), 0.1];
     let stored = [0, 65_535, 7];
     let all = [&numbers[..], &stored.map(|stored| f64::from(stored) / 65535.0)].concat();
-    assert_eq!(bits(&frame(&Holding::row(&numbers, &stored).then(&[]))), bits(&all));
+    assert_eq!(bits(&frame(&Holding::row(&numbers, &stored).then(WAY, &[]))), bits(&all));
 }
 
 /// Through tables that rise, fall and end early.
@@ -154,7 +158,7 @@ fn the_window_is_right_at_both_ends_of_every_index() {
         for entries in [&rising[..], &falling, &rising[..40_000], &falling[..2]] {
             let entry = |place: usize| f64::from(entries[(place / 2).min(entries.len() - 1)]);
             let expected: Vec<f64> = (0..numbers.len()).map(|place| entry(place) / 65535.0).collect();
-            let found = frame(&holding.then(&[Opcode::map_table(holding.area, entries)]));
+            let found = frame(&holding.then(WAY, &[Opcode::map_table(holding.area, entries)]));
             assert_eq!(bits(&found), bits(&expected), "{} entries", entries.len());
         }
     }
@@ -164,7 +168,7 @@ fn the_window_is_right_at_both_ends_of_every_index() {
 #[track_caller]
 fn calls_take(numbers: &[f64], indices: &[u64]) {
     let row = Holding::row(numbers, &[]);
-    let file = row.then(&[Opcode::map_table(row.area, &own_indices(65_536))]).file();
+    let file = row.then(WAY, &[Opcode::map_table(row.area, &own_indices(65_536))]).file();
     let expected: Vec<f64> = indices.iter().map(|k| *k as f64 / 65535.0).collect();
     let spots: Vec<f64> = (0..).zip(numbers).map(|(column, _)| spot_value(&file, 0, column, 0)).collect();
     assert_eq!(bits(&frame_of(&file)), bits(&expected));
