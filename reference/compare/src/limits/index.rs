@@ -3,12 +3,11 @@
 //! tables. Every value is stated.
 
 use reference::builder::{Area, Dng, Opcode, Picture, Tag};
-use reference::cases::Call;
 use reference::index::{self, own_indices, Holding};
 
 use super::colour::{MATRIX, NEUTRAL};
 use super::{DONE, WAYS};
-use crate::questions::{colour_window, half_window, window};
+use crate::questions::{colour_window, half_window, spot_of, window};
 use crate::tally::Tally;
 
 /// The entries of the greatest table.
@@ -38,20 +37,26 @@ fn value(entries: &[u16], k: u64) -> f64 {
     f64::from(entries[(k as usize).min(entries.len() - 1)]) / 65535.0
 }
 
-/// One row by the window and by every spot.
-fn ask_row(tally: &mut Tally, label: &str, file: &[u8], stated: &[f64]) {
+/// A whole frame by the window, and the spot of every so many places.
+fn ask_all(tally: &mut Tally, label: &str, file: &[u8], size: [usize; 2], step: usize, stated: &[f64]) {
+    let [rows, columns] = size.map(|lines| lines as u64);
+    let planes = stated.len() as u64 / rows / columns;
     tally.files += 1;
-    tally.ask_values(label, file, &window([0, 0, 1, stated.len() as u64], stated.len()), stated);
-    for (column, value) in (0..).zip(stated) {
-        let spot = Call::Spot { row: 0, column, plane: 0 };
-        tally.ask_values(label, file, &spot, std::slice::from_ref(value));
+    tally.ask_values(label, file, &window([0, 0, rows, columns], stated.len()), stated);
+    for (place, value) in (0..).zip(stated).step_by(step) {
+        tally.ask_values(label, file, &spot_of(place, columns, planes), std::slice::from_ref(value));
     }
+}
+
+/// A row with every spot.
+fn ask_row(tally: &mut Tally, label: &str, dng: &Dng, stated: &[f64]) {
+    ask_all(tally, label, &dng.file(), [1, stated.len()], 1, stated);
 }
 
 /// Both ends of 15 indices and, behind these numbers, their scaled values. As a rule
 /// the table ends one entry past the last of them: no other index has their entries.
 fn rows(tally: &mut Tally, ends: &[[f64; 2]]) {
-    let all: Vec<u16> = own_indices(WHOLE);
+    let all = own_indices(WHOLE);
     for (turn, (ends, indices)) in ends.chunks(15).zip(all.chunks(15)).enumerate() {
         let last = usize::from(indices[indices.len() - 1]);
         let size = if turn % 37 == 0 { WHOLE } else { WHOLE.min(last + 2) };
@@ -60,7 +65,7 @@ fn rows(tally: &mut Tally, ends: &[[f64; 2]]) {
         let dng = row.then(WAYS[turn % 4], &[Opcode::map_table(row.area, &entries)]);
         let twice = indices.iter().flat_map(|k| [k; 2]);
         let stated: Vec<f64> = twice.chain(indices).map(|k| value(&entries, (*k).into())).collect();
-        ask_row(tally, &format!("indices up to {last}, {size} entries"), &dng.file(), &stated);
+        ask_row(tally, &format!("indices up to {last}, {size} entries"), &dng, &stated);
     }
 }
 
@@ -76,9 +81,9 @@ fn sizes(tally: &mut Tally, ends: &[[f64; 2]]) {
         for (way, falling) in WAYS.into_iter().flat_map(|way| [(way, false), (way, true)]) {
             let entries = table(falling, size);
             let row = Holding::row(&numbers, &[]);
-            let file = row.then(way, &[Opcode::map_table(row.area, &entries)]).file();
+            let dng = row.then(way, &[Opcode::map_table(row.area, &entries)]);
             let stated: Vec<f64> = numbers.iter().map(|x| value(&entries, index::index(*x))).collect();
-            ask_row(tally, &format!("numbers in a table of {size}"), &file, &stated);
+            ask_row(tally, &format!("numbers in a table of {size}"), &dng, &stated);
         }
     }
 }
@@ -124,20 +129,19 @@ fn frames(tally: &mut Tally, numbers: &[f64]) {
     }
 }
 
-/// The whole frame by the window, and its colours, X, Y and Z of which are the planes'
-/// values, or its blocks.
+/// The same of a frame, and its blocks or its colours: by these tags X, Y and Z are the
+/// planes' values.
 fn ask_frame(tally: &mut Tally, label: &str, dng: Dng, size: [usize; 2], stated: &[f64]) {
     let identity = [1, 0, 0, 0, 1, 0, 0, 0, 1].map(|value| (value, 1));
     let dng = dng.with_pattern([0, 1, 1, 2]).with_first(Tag::srationals(MATRIX, &identity));
     let file = dng.with_first(Tag::shorts(NEUTRAL, &[1; 3])).file();
-    let [height, width] = size.map(|lines| lines as u64);
-    let whole = [0, 0, height, width];
-    tally.files += 1;
-    tally.ask_values(label, &file, &window(whole, stated.len()), stated);
-    if stated.len() > size[0] * size[1] {
-        tally.ask_values(label, &file, &colour_window(whole, stated.len()), stated);
+    ask_all(tally, label, &file, size, 6_553, stated);
+    let [rows, columns] = size.map(|lines| lines as u64);
+    if stated.len() as u64 == 3 * rows * columns {
+        tally.ask_values(label, &file, &colour_window([0, 0, rows, columns], stated.len()), stated);
     } else {
-        let blocks = half_window([0, 0, height / 2, width / 2], size[0] / 2 * (size[1] / 2) * 3);
+        let [height, width] = [rows / 2, columns / 2];
+        let blocks = half_window([0, 0, height, width], (3 * height * width) as usize);
         tally.ask(label, &file, &blocks, Some(DONE));
     }
 }
