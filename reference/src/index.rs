@@ -112,8 +112,9 @@ impl Holding {
     }
 }
 
-/// So many FLOATs make up any number at a boundary: each has 24 bits, an f64 53.
-const DELTAS: usize = 3;
+/// So many FLOATs, of 24 bits each, make up the half step from a scaled value to a
+/// boundary.
+const DELTAS: usize = 2;
 
 /// The sample whose scaled value is nearest to x, and the deltas that, added to that
 /// value one after another, leave x.

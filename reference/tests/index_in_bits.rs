@@ -175,10 +175,10 @@ fn calls_take(numbers: &[f64], indices: &[u64]) {
     assert_eq!(bits(&spots), bits(&expected));
 }
 
-/// Every 97th index, the first and the last among them.
+/// The first 20 indices, then every 97th, and the last.
 #[test]
 fn the_spot_is_right_at_both_ends_of_an_index() {
-    let indices: Vec<u64> = (0..65_535).step_by(97).chain([65_535]).collect();
+    let indices: Vec<u64> = (0..20).chain((20..65_535).step_by(97)).chain([65_535]).collect();
     let ends = ends();
     for indices in indices.chunks(15) {
         let numbers: Vec<[f64; 2]> = indices.iter().map(|k| ends[*k as usize]).collect();
