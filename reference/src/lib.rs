@@ -25,6 +25,7 @@ pub mod builder;
 pub mod cases;
 pub mod denormals;
 pub mod generate;
+pub mod index;
 pub mod random;
 
 pub use answer::{Answer, Card};

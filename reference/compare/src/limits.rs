@@ -8,6 +8,7 @@ mod colour;
 mod denormals;
 mod gain_map;
 mod headers;
+mod index;
 mod levels;
 mod lists;
 mod numbers;
@@ -75,6 +76,7 @@ pub fn check(tally: &mut Tally) {
     parameters::check(tally);
     numbers::check(tally);
     values::check(tally);
+    index::check(tally);
     gain_map::check(tally);
     denormals::check(tally);
     colour::check(tally);

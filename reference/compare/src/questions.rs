@@ -31,6 +31,12 @@ pub fn half_window([top, left, height, width]: Rectangle, slice: usize) -> Call 
     Call::HalfWindow { top, left, height, width, slice }
 }
 
+/// The spot that stands at this place of the window of a whole frame.
+pub fn spot_of(place: u64, columns: u64, planes: u64) -> Call {
+    let (pixel, plane) = (place / planes, place % planes);
+    Call::Spot { row: pixel / columns, column: pixel % columns, plane }
+}
+
 /// All calls but the card; the card is the independent program's. Of those
 /// that lie outside, every third is asked, and at the next turn the next one.
 pub fn questions(card: &Card, turn: u64) -> Vec<Call> {

@@ -105,11 +105,16 @@ impl Tally {
         found
     }
 
-    /// The same of a window whose values are stated.
+    /// The same of a window or a spot whose values are stated.
     pub fn ask_values(&mut self, label: &str, file: &[u8], call: &Call, stated: &[f64]) {
         let found = self.ask(label, file, call, Some((0, 0)));
-        if !found.values(call).iter().copied().eq(stated.iter().map(|value| value.to_bits())) {
-            self.differs(&format!("{label}: {call:?}: {:x?}, stated {stated:?}", found.values(call)));
+        let (found, stated) = (found.values(call), stated.iter().map(|value| value.to_bits()));
+        if found.len() != stated.len() {
+            self.differs(&format!("{label}: {call:?}: {} values, stated {}", found.len(), stated.len()));
+        }
+        let mut places = (0..).zip(found.iter().copied().zip(stated));
+        if let Some((place, (found, stated))) = places.find(|(_, (found, stated))| found != stated) {
+            self.differs(&format!("{label}: {call:?}: {found:016x} at place {place}, stated {stated:016x}"));
         }
     }
 

@@ -1,6 +1,7 @@
-//! `measure`: how long the core takes for whole frames, as ratios to plain loops
-//! and to the same in Rust with one 64-bit division for each level, timed in the
-//! same run; then spots and small windows. Run by hand, in a release build.
+//! `measure [NAME]`: how long the core takes for whole frames, as ratios to plain
+//! loops and to the same in Rust with one 64-bit division for each level, timed in
+//! the same run; then spots and small windows. With a NAME, only the frames that have
+//! it in theirs. Run by hand, in a release build.
 
 use std::hint::black_box;
 use std::iter::repeat;
@@ -278,16 +279,24 @@ fn print_small(name: &str, file: &[u8], rows: usize) {
 }
 
 fn main() {
+    let name = std::env::args().nth(1);
     let stored = stored();
     let (mut out, mut expected) = (vec![1.0; SAMPLES], vec![1.0; SAMPLES]);
     println!("{SAMPLES} samples, {REPETITIONS} repetitions; processor time: the best; (a) is the plain loop");
-    let mut run = |job: Job| job.run(&mut out, &mut expected);
+    let mut run = |job: Job| {
+        if name.as_ref().is_none_or(|name| job.name.contains(name)) {
+            job.run(&mut out, &mut expected);
+        }
+    };
     mosaics(&stored, &mut run);
     big_endian(&stored, &mut run);
     column_deltas(&stored, &mut run);
     linearized(&stored, &mut run);
     mosaic_8(&mut run);
     linear(&stored, &mut run);
+    if name.is_some() {
+        return;
+    }
     println!("microseconds a call");
     for rows in [ROWS, ROWS / 4] {
         print_small("    without opcodes,", &corrected(&stored, rows, false).file(), rows);

@@ -6,12 +6,11 @@
 
 use reference::builder::Dng;
 use reference::bytes::{ByteOrder, Widths};
-use reference::cases::Call;
 
 use super::blacks::Levels;
 use super::levels::{dng_of, GREATEST};
 use super::{DONE, WAYS};
-use crate::questions::window;
+use crate::questions::{spot_of, window};
 use crate::tally::Tally;
 
 /// Every case of how far off a level is.
@@ -154,9 +153,8 @@ impl<'a> Frame<'a> {
         let found = tally.ask_now(label, file, &whole, Some(DONE));
         self.check(tally, label, found.values(&whole));
         for place in (0..self.stored.len()).step_by(61).filter(|_| columns == 256) {
-            let (pixel, plane) = (place / planes, place % planes);
-            let [row, column, plane] = [pixel / columns, pixel % columns, plane].map(|n| n as u64);
-            tally.ask(label, file, &Call::Spot { row, column, plane }, Some(DONE));
+            let spot = spot_of(place as u64, columns as u64, planes as u64);
+            tally.ask(label, file, &spot, Some(DONE));
         }
     }
 

@@ -8,7 +8,7 @@ use reference::cases::Call;
 
 use super::blacks::{every_repeat, places, Levels, FULL};
 use super::{DONE, WAYS};
-use crate::questions::window;
+use crate::questions::{spot_of, window};
 use crate::tally::Tally;
 
 /// The greatest L.
@@ -425,9 +425,8 @@ fn ask_repeat(tally: &mut Tally, label: &str, frame: &Frame) {
             tally.ask(&label, &file, &part, Some(DONE));
         }
         for place in (0..rows * columns * planes).skip(turn).step_by(31) {
-            let (pixel, plane) = (place / planes, place % planes);
-            let [row, column, plane] = [pixel / columns, pixel % columns, plane].map(u64::from);
-            tally.ask(&label, &file, &Call::Spot { row, column, plane }, Some(DONE));
+            let spot = spot_of(place.into(), columns.into(), planes.into());
+            tally.ask(&label, &file, &spot, Some(DONE));
         }
     }
 }
