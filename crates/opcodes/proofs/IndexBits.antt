@@ -3,16 +3,16 @@
 use mathlib.Core.Path.{_≡_, refl, sym, ap, _∙_, subst}
 use mathlib.Core.Bool.{Bool, true, false, not, true≢false}
 use mathlib.Core.Logic.{⊎-elim}
-use Prim.Native.Nat.{ℕ, zero, suc, _+_, _-_, _*_, _/_, _%_, _^_, _≤_, _<_, min}
-use native.Mathlib.Nat.{mul-one, mul-assoc, mul-pos, zero-lt-suc, mod-lt, lt-of-lt-of-le, lt-of-le-of-lt, le-of-eq}
-use native.Mathlib.Nat.{mul-le-mul-right, mul-lt-mul-of-pos-right, not-le-of-lt, le-trans, le-add-right, lt-of-mul-lt-mul-right, le-of-mul-le-mul-right}
+use Prim.Native.Nat.{ℕ, zero, suc, _+_, _-_, _*_, _/_, _^_, _≤_, _<_, min}
+use native.Mathlib.Nat.{mul-one, mul-assoc, zero-lt-suc, mod-lt, lt-of-lt-of-le, lt-of-le-of-lt, le-of-eq}
+use native.Mathlib.Nat.{mul-le-mul-right, mul-lt-mul-of-pos-right, lt-of-mul-lt-mul-right, le-of-mul-le-mul-right}
+use native.Mathlib.Nat.{not-le-of-lt, le-trans, le-add-right}
 use native.Mathlib.Nat.{div-eq-of-lt, div-mul-le-self, lt-div-mul-add, div-lt-iff-lt-mul, le-div-iff-mul-le}
 use native.Mathlib.Omega.{arith}
 use borrow.Author.Tests.{lt-ltb, le-ltb, ltb-false}
-use lib.IntN.{ℤ, pos, negsuc}
 use lib.Dec.{T, leb, lt→ltb, ltb→lt}
-use lib.Pow.{pow-pos, pow-add, pow-mono, pow-lt, shl-lt}
-use lib.Ieee.{Float, nan, inf, fin, binary64, top, up, down, isNan, lt, le, ofBits, toBits, toUnsigned}
+use lib.Pow.{pow-pos, pow-add, pow-mono, shl-lt}
+use lib.Ieee.{Float, nan, inf, fin, binary64, top, up, down, isNan, le, ofBits, toBits, toUnsigned}
 use lib.Ieee.Bits.{ofBits-toBits}
 use lib.Ieee.Exact.{HasValue}
 use lib.Ieee.Fits.{down-pos}
@@ -26,8 +26,8 @@ use Rattle.reading.proofs.Pattern.{unitsOf, exact-value, finite-pattern}
 use Rattle.reading.proofs.Wholes.{le-or-lt}
 use Rattle.levels.proofs.Values.{lt-fractions, le-values}
 use Rattle.opcodes.specs.Step.{half, sumOf, indexOf}
-use Rattle.opcodes.proofs.Places.{or-false, not-high}
 use Rattle.opcodes.specs.TableIndex.{greatestSum, Index-range, shiftedOf, indexFromBits, wholeNumber, Whole-part}
+use Rattle.opcodes.proofs.Places.{or-false, not-high}
 
 -- ---- the whole part of a fraction
 whole-value : (n : ℕ) → HasValue (wholeNumber n) false n 1
@@ -119,7 +119,7 @@ index-high : (v : Float) → 1023 ≤ exponentField binary64 (toBits binary64 v)
 unfolding indexFromBits pick
 index-high v h = simp (le-ltb _ _ h)
 
--- in 53 digits nothing stands left of the 53rd
+-- 53 digits, shifted right by 53 places, leave 0
 shifted-out : (x t : ℕ) → t < 2 ^ 52 → x < 1023 → 1022 ≤ x → shiftedOf x t ≡ 0
 shifted-out x t h l m = let e : x ≡ 1022 = omega arith in rw e (div-eq-of-lt (let d : 2 ^ 52 + t < 2 ^ 53 = omega arith in d))
 
@@ -150,23 +150,27 @@ module _ (v : Float) (r : Index-range v) where
   abbrev F : ℕ
   F = fractionField binary64 (toBits binary64 v)
 
+  -- v in units of 2^-1074
+  abbrev u : ℕ
+  u = unitsOf binary64 e F
+
   above-zero : T (positive v)
   above-zero = between half v greatestSum tt tt (r .from) (r .to)
 
   pub index-number : T (not (isNan v))
   index-number = no-nan v above-zero
 
-  value : HasValue v false (unitsOf binary64 e F) (2 ^ 1074)
+  value : HasValue v false u (2 ^ 1074)
   value =
       let bits = toBits binary64 v in
       let back : ofBits binary64 bits ≡ v = ofBits-toBits binary64 v (r .held) in
       let kept : refusedPattern binary64 bits ≡ false =
       finite-pattern binary64 bits (subst (λ (x : Float). T (finite x)) (sym back) (positive-finite v above-zero)) in
-      plain v (leb (top binary64) bits) (unitsOf binary64 e F) (2 ^ 1074) above-zero
-      (subst (λ (x : Float). HasValue x (leb (top binary64) bits) (unitsOf binary64 e F) (2 ^ 1074)) back (exact-value binary64 bits kept))
+      plain v (leb (top binary64) bits) u (2 ^ 1074) above-zero
+      (subst (λ (x : Float). HasValue x (leb (top binary64) bits) u (2 ^ 1074)) back (exact-value binary64 bits kept))
 
-  at-most : unitsOf binary64 e F * 2 ≤ 131071 * 2 ^ 1074
-  at-most = le-values v greatestSum (unitsOf binary64 e F) (2 ^ 1074) 131071 2 value (refl, refl) (r .to)
+  at-most : u * 2 ≤ 131071 * 2 ^ 1074
+  at-most = le-values v greatestSum u (2 ^ 1074) 131071 2 value (refl, refl) (r .to)
 
   pub exponent-most : e ≤ 1038
   exponent-most = field-most e F at-most
@@ -175,16 +179,16 @@ module _ (v : Float) (r : Index-range v) where
   fraction-in = mod-lt _ (pow-pos 52)
 
   pub exponent-least : 1022 ≤ e
-  exponent-least = field-least e F fraction-in (le-values half v 1 2 (unitsOf binary64 e F) (2 ^ 1074) (refl, refl) value (r .from))
+  exponent-least = field-least e F fraction-in (le-values half v 1 2 u (2 ^ 1074) (refl, refl) value (r .from))
 
-  bounds : (indexFromBits v * 2 ^ 1074 ≤ unitsOf binary64 e F) × (unitsOf binary64 e F < (indexFromBits v + 1) * 2 ^ 1074)
+  bounds : (indexFromBits v * 2 ^ 1074 ≤ u) × (u < (indexFromBits v + 1) * 2 ^ 1074)
   bounds = ⊎-elim
       (λ l. subst Around (index-high v l) (large e F l exponent-most))
-      (λ l. subst Around (index-low v l) (under-one (unitsOf binary64 e F) (2 ^ 1074) (small e F 1074 fraction-in (omega arith))))
+      (λ l. subst Around (index-low v l) (under-one u (2 ^ 1074) (small e F 1074 fraction-in (omega arith))))
       (le-or-lt 1023 e)
     where
       Around : ℕ → Type 0
-      Around k = (k * 2 ^ 1074 ≤ unitsOf binary64 e F) × (unitsOf binary64 e F < (k + 1) * 2 ^ 1074)
+      Around k = (k * 2 ^ 1074 ≤ u) × (u < (k + 1) * 2 ^ 1074)
 
   -- one shift is both cases: where e is 1022, nothing is left
   pub index-shifted : (x t : ℕ) → x ≡ e → t ≡ F → shiftedOf x t ≡ indexFromBits v
@@ -195,20 +199,19 @@ module _ (v : Float) (r : Index-range v) where
 
   -- k <= v and v < k + 1
   pub index-whole : Whole-part v (indexFromBits v)
-  index-whole = fraction-whole v (indexFromBits v) (unitsOf binary64 e F) (2 ^ 1074) (pow-pos 1074) value (bounds .0) (bounds .1)
+  index-whole = fraction-whole v (indexFromBits v) u (2 ^ 1074) (pow-pos 1074) value (bounds .0) (bounds .1)
 
   -- so no whole number that is not above v is greater
   pub index-greatest : (n : ℕ) → T (le (wholeNumber n) v) → n ≤ indexFromBits v
-  index-greatest n h = next n (indexFromBits v) (unitsOf binary64 e F) (2 ^ 1074)
-      (le-values (wholeNumber n) v n 1 (unitsOf binary64 e F) (2 ^ 1074) (whole-value n) value h) (bounds .1)
+  index-greatest n h = next n (indexFromBits v) u (2 ^ 1074)
+      (le-values (wholeNumber n) v n 1 u (2 ^ 1074) (whole-value n) value h) (bounds .1)
 
   pub index-most : indexFromBits v ≤ 65535
-  index-most = halves-most (indexFromBits v) (unitsOf binary64 e F) (2 ^ 1074) (pow-pos 1074) (bounds .0) at-most
+  index-most = halves-most (indexFromBits v) u (2 ^ 1074) (pow-pos 1074) (bounds .0) at-most
 
   pub index-unique : toUnsigned 64 v ≡ indexFromBits v
   index-unique =
       let k = indexFromBits v in
-      let u = unitsOf binary64 e F in
       let same : num v / den v ≡ u / 2 ^ 1074 =
       div-same (num v) (den v) u (2 ^ 1074) (den-pos v) (pow-pos 1074) (value→cross v u (2 ^ 1074) value) in
       let lo : k ≤ u / 2 ^ 1074 = le-div-iff-mul-le (pow-pos 1074) .1 (bounds .0) in
