@@ -130,11 +130,11 @@ plain (inf t) s a c p h = absurd p
 plain (fin true m e) s a c p h = absurd p
 plain (fin false m e) s a c p h = (refl, h .1)
 
-no-nan : (x : Float) → T (positive x) → T (not (isNan x))
+positive-number : (x : Float) → T (positive x) → T (not (isNan x))
 unfolding isNan
-no-nan nan p = absurd p
-no-nan (inf s) p = tt
-no-nan (fin s m e) p = tt
+positive-number nan p = absurd p
+positive-number (inf s) p = tt
+positive-number (fin s m e) p = tt
 
 whole-is : (x : Float) → T (positive x) → toUnsigned 64 x ≡ min (num x / den x) (2 ^ 64 - 1)
 unfolding toUnsigned
@@ -154,19 +154,19 @@ module _ (v : Float) (r : Index-range v) where
   abbrev u : ℕ
   u = unitsOf binary64 e F
 
-  above-zero : T (positive v)
-  above-zero = between half v greatestSum tt tt (r .from) (r .to)
+  sum-positive : T (positive v)
+  sum-positive = between half v greatestSum tt tt (r .from) (r .to)
 
   pub index-number : T (not (isNan v))
-  index-number = no-nan v above-zero
+  index-number = positive-number v sum-positive
 
   value : HasValue v false u (2 ^ 1074)
   value =
       let bits = toBits binary64 v in
       let back : ofBits binary64 bits ≡ v = ofBits-toBits binary64 v (r .held) in
       let kept : refusedPattern binary64 bits ≡ false =
-      finite-pattern binary64 bits (subst (λ (x : Float). T (finite x)) (sym back) (positive-finite v above-zero)) in
-      plain v (leb (top binary64) bits) u (2 ^ 1074) above-zero
+      finite-pattern binary64 bits (subst (λ (x : Float). T (finite x)) (sym back) (positive-finite v sum-positive)) in
+      plain v (leb (top binary64) bits) u (2 ^ 1074) sum-positive
       (subst (λ (x : Float). HasValue x (leb (top binary64) bits) u (2 ^ 1074)) back (exact-value binary64 bits kept))
 
   at-most : u * 2 ≤ 131071 * 2 ^ 1074
@@ -216,7 +216,7 @@ module _ (v : Float) (r : Index-range v) where
       div-same (num v) (den v) u (2 ^ 1074) (den-pos v) (pow-pos 1074) (value→cross v u (2 ^ 1074) value) in
       let lo : k ≤ u / 2 ^ 1074 = le-div-iff-mul-le (pow-pos 1074) .1 (bounds .0) in
       let hi : u / 2 ^ 1074 < k + 1 = div-lt-iff-lt-mul (pow-pos 1074) .1 (bounds .1) in
-      whole-is v above-zero ∙ capped (num v / den v) (u / 2 ^ 1074) k same lo hi index-most
+      whole-is v sum-positive ∙ capped (num v / den v) (u / 2 ^ 1074) k same lo hi index-most
 
 -- the index is the one in the bits
 pub index-in-bits : (x : Float) → Index-range (sumOf x) → indexOf x ≡ indexFromBits (sumOf x)
@@ -224,26 +224,26 @@ unfolding indexOf
 index-in-bits x r = index-unique (sumOf x) r
 
 -- ---- on either side of the range
-pub whole-below : (v : Float) → le half v ≡ false → toUnsigned 64 v ≡ 0
+pub index-below : (v : Float) → le half v ≡ false → toUnsigned 64 v ≡ 0
 unfolding le toUnsigned
-whole-below nan h = refl
-whole-below (inf true) h = refl
-whole-below (inf false) h = absurd (true≢false h)
-whole-below (fin true m e) h = refl
-whole-below (fin false m e) h =
+index-below nan h = refl
+index-below (inf true) h = refl
+index-below (inf false) h = absurd (true≢false h)
+index-below (fin true m e) h = refl
+index-below (fin false m e) h =
     let l : m * up e * 2 < 1 * 1 * down e = not-high (1 * 1 * down e) (m * up e * 2) h in
     let z : m * up e / down e < 1 = div-lt-iff-lt-mul (down-pos e) .1 (omega (arith, l)) in
     omega (arith, z)
 
-pub whole-above : (v : Float) → le half v ≡ true → le v greatestSum ≡ false → 65535 ≤ toUnsigned 64 v
+pub index-above : (v : Float) → le half v ≡ true → le v greatestSum ≡ false → 65535 ≤ toUnsigned 64 v
 unfolding le toUnsigned
-whole-above nan g h = absurd (true≢false (sym g))
-whole-above (inf true) g h = absurd (true≢false h)
-whole-above (inf false) g h = omega arith
-whole-above (fin true m e) g h =
+index-above nan g h = absurd (true≢false (sym g))
+index-above (inf true) g h = absurd (true≢false h)
+index-above (inf false) g h = omega arith
+index-above (fin true m e) g h =
     let k : m * up e * 2 + 131071 * 1 * down e ≤ 0 = ltb-false 0 (m * up e * 2 + 131071 * 1 * down e) (or-false _ _ h .0) in
     absurd (omega (arith, k, down-pos e))
-whole-above (fin false m e) g h =
+index-above (fin false m e) g h =
     let l : 131071 * 1 * down e < m * up e * 2 = not-high (m * up e * 2) (131071 * 1 * down e) h in
     let q : 65535 ≤ m * up e / down e = le-div-iff-mul-le (down-pos e) .1 (omega (arith, l)) in
     omega (arith, q)

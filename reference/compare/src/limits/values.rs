@@ -1,5 +1,6 @@
-//! What the opcodes make of the numbers at their limits: both ends of the clip,
-//! sums and products that overflow or are denormal.
+//! What the opcodes make of the numbers at their limits: a table's index at
+//! each half, both ends of the clip, sums and products that overflow or are
+//! denormal.
 
 use reference::builder::Opcode;
 
@@ -9,6 +10,7 @@ use crate::tally::Tally;
 
 /// Every case of a value; both programs' bits are compared.
 pub fn check(tally: &mut Tally) {
+    table_indices(tally);
     clips(tally);
     polynomials(tally);
 }
@@ -24,6 +26,21 @@ fn around(x: f64) -> [f64; 3] {
 /// A frame that holds x everywhere.
 fn constant(x: f64) -> Opcode {
     Opcode::map_polynomial(whole(), &[x])
+}
+
+/// A frame of x through tables that hold their own indices.
+fn table_indices(tally: &mut Tally) {
+    for size in [1, 2, 4, 300, 65_535, 65_536] {
+        let entries: Vec<u16> = (0..size).map(|i| i as u16).collect();
+        let table = Opcode::map_table(whole(), &entries);
+        let steps =
+            [0.0, 0.25, 0.5, 1.0, 1.5, 2.5, 3.0, 3.5, 298.5, 299.5, 65_533.5, 65_534.0, 65_534.5, 65_535.0];
+        let near = steps.into_iter().flat_map(|step: f64| around(step.max(1e-300) / 65535.0));
+        for x in near.chain(DENORMALS).chain(around(f64::MIN_POSITIVE)) {
+            let label = format!("index of {x:e} in a table of {size}");
+            opcodes(tally, &label, &[constant(x), table.clone()], DONE);
+        }
+    }
 }
 
 /// Sums and products at 0 and 1 and next to them, and far beyond.

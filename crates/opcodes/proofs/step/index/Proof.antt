@@ -3,7 +3,7 @@ use lib.Ieee.{ofBits}
 use Rattle.opcodes.specs.Step.{indexOf, sumOf}
 use Rattle.opcodes.specs.TableIndex.{Index-range}
 use Rattle.opcodes.proofs.IndexSum.{tested-range}
-use Rattle.opcodes.proofs.IndexBits.{index-in-bits, index-most, whole-below, whole-above}
+use Rattle.opcodes.proofs.IndexBits.{index-in-bits, index-most, index-below, index-above}
 use Rattle.opcodes.proofs.step.index.Statement.{statement}
 use Rattle.opcodes.proofs.step.index.Tie as tie
 
@@ -29,11 +29,11 @@ returns c =
 
 returns-2 : tie.Need-returns-2
 unfolding indexOf ofBits
-returns-2 c = let w = whole-above _ (c .before .if1 .taken) (c .if2 .left) in omega (arith, w)
+returns-2 c = let w = index-above _ (c .before .if1 .taken) (c .if2 .left) in omega (arith, w)
 
 returns-3 : tie.Need-returns-3
 unfolding indexOf ofBits
-returns-3 c = let w = whole-below _ (c .if1 .left) in omega (arith, w)
+returns-3 c = let w = index-below _ (c .if1 .left) in omega (arith, w)
 
 pub index-spec : {M : Type 1} → statement M
 index-spec = tie.close (tie.spec index-from-bits-requires cast-result returns returns-2 returns-3)
