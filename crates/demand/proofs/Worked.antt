@@ -32,7 +32,7 @@ use Rattle.levels.specs.Levels.{maxFrom, maxOf, maxBelow, cellFor, blackFor, gr
 use Rattle.rawtags.specs.Frame.{dimensionReading, samplesOf, planesReading, frameReading}
 use Rattle.rawtags.specs.Layout.{bytesPer, depthFrom, depthReading, onlyOne, formatReading, stripRowsReading, layoutReading}
 use Rattle.rawtags.specs.Strips.{stripFrom, stripsReading}
-use Rattle.rawtags.specs.Area.{area, croppedOf, fourReading, areaReading}
+use Rattle.rawtags.specs.Area.{area, areaOf, fourReading, areaReading}
 use Rattle.rawtags.specs.Repeat.{pairReading, repeatReading}
 use Rattle.rawtags.specs.Black.{kindFor, blacksTest, blackReading, deltaReading}
 use Rattle.rawtags.specs.White.{tableReading, whiteReading}
@@ -159,7 +159,7 @@ unfolding trace run andThen pick numberAt numberOf littleOf bigOf fractionOf val
     oneReading eachReading allReading lookReading backwardReading versionReading walkReading rootReading offsetReading bigTiffReading
     treeReading
     runOf blackOf blackAt firstRefused maxFrom maxOf maxBelow cellFor blackFor greatestBlack spanOf dimensionReading samplesOf planesReading
-    frameReading bytesPer depthFrom depthReading onlyOne formatReading stripRowsReading layoutReading stripFrom stripsReading croppedOf
+    frameReading bytesPer depthFrom depthReading onlyOne formatReading stripRowsReading layoutReading stripFrom stripsReading areaOf
     fourReading
     areaReading pairReading repeatReading kindFor blacksTest blackReading deltaReading tableReading whiteReading levelTagsReading
     listTagReading

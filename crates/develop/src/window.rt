@@ -1,8 +1,6 @@
 // A window.
 ghost use mathlib.Core.Path.{_≡_};
-ghost use mathlib.Core.Bool.{_&&_};
-ghost use Prim.Native.Nat.{_+_, _≤_};
-ghost use lib.Dec.{leb};
+ghost use Prim.Native.Nat.{_≤_};
 ghost use Rattle.rows.specs.Facts.Part.{Sized-in};
 ghost use Rattle.develop.specs.Calls.{windowWith, windowCall};
 ghost use Rattle.develop.specs.Facts.View.{Viewed};
@@ -13,19 +11,7 @@ use crate::View;
 use crate::fill;
 use crate::fill::Rectangle;
 use opcodes::grid::Size;
-
-// Whether so many from a first one on are some and lie below an end. Nothing wraps.
-fn spans(first: usize, count: usize, end: usize) -> bool
-    ensures { λ r. ⌜ r ≡ (leb 1 count && leb (first + count) end) ⌝ }
-{
-    if count < 1 {
-        return false;
-    }
-    if end < count {
-        return false;
-    }
-    first <= end - count
-}
+use reading::number;
 
 // 13 and 14 of a window with so many values to a pixel; 0 where neither refuses.
 pub fn window_fault(
@@ -40,8 +26,8 @@ pub fn window_fault(
     requires { ⌜ Sized-in size × (values ≤ 3) ⌝ }
     ensures { λ r. ⌜ r ≡ windowFault size values top left height width len ⌝ }
 {
-    if spans(top, height, size.rows) {
-        if spans(left, width, size.columns) {
+    if number::spans(top, height, size.rows) {
+        if number::spans(left, width, size.columns) {
             return if len == height * width * values {
                 0
             } else {

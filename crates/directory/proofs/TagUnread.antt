@@ -19,7 +19,7 @@ use Rattle.reading.proofs.Unread.{Unread, Off, off-below, off-behind, off-insid
 use Rattle.reading.proofs.Unread.{off-right, unread-answer, unread-ask, unread-number, unread-then, unread-pick}
 use Rattle.directory.specs.Out.{Out.refused, Out.is}
 use Rattle.directory.specs.Widths.{headWidth, entryWidth}
-use Rattle.directory.specs.Entry.{codeOf, plainOf, bytesOf}
+use Rattle.directory.specs.Entry.{codeOf, plainOf, kindWidth, bytesOf}
 use Rattle.directory.specs.Tag.{findFrom, foundReading, allowsOf, valuesAt, noValues, wholeReading, valueReading, testedReading}
 use Rattle.directory.specs.Tag.{absentOf, valuesFound, valuesReading, notCarried, ifAbsent, judgedOf, firstReading, oneReading}
 use Rattle.directory.specs.Tag.{eachReading, allReading}
@@ -226,6 +226,7 @@ module _ (f : List ℕ) (d : Ifd) (j : ℕ) (heads : reads (headsOf d) j ≡ fal
 -- byte j is in none of them; and what the rule says of them
 pub record Values-off (j : ℕ) (r : Rule) (v : Values) : Type 0 where
   pub off : Off j (v .place) (v .size * v .count)
+  pub typed : 0 < v .count → v .size ≡ kindWidth (v .kind)
   pub sized : 0 < v .count → SizeIn (r .kinds) (v .size)
   pub enough : 0 < v .count → r .least ≤ v .count
   pub within : v .count ≤ r .most
@@ -242,6 +243,7 @@ module _ (f : List ℕ) (j : ℕ) (r : Rule) (v : Values) where
           subst (Values-off j r) (sym (same-value v noValues h))
           (record {
             off = off-behind j 0 0 zero-le;
+            typed = λ z. absurd (omega arith);
             sized = λ z. absurd (omega arith);
             enough = λ z. absurd (omega arith);
             within = omega arith;
@@ -270,6 +272,7 @@ module _ (f : List ℕ) (j : ℕ) (r : Rule) (v : Values) where
             (sym (same-value v _ (t ∙ sym (in-entry w f o r p e ek (leb-true _ _ el) (leb-true _ _ em) (leb-true _ _ eb)))))
             (record {
               off = off-first j (stretch p (bytesOf e)) [] g;
+              typed = λ _. refl;
               sized = λ _. size-in (r .kinds) (e .kind) ek;
               enough = λ _. leb-true _ _ el;
               within = leb-true _ _ em;
@@ -281,6 +284,7 @@ module _ (f : List ℕ) (j : ℕ) (r : Rule) (v : Values) where
             (sym (same-value v _ (t ∙ sym (elsewhere w f o r p e ek (leb-true _ _ el) (leb-true _ _ em) (leb-false _ _ eb) q refl))))
             (record {
               off = off-first j (stretch q (bytesOf e)) [] (off-rest j (stretch p (w .word)) _ g);
+              typed = λ _. refl;
               sized = λ _. size-in (r .kinds) (e .kind) ek;
               enough = λ _. leb-true _ _ el;
               within = leb-true _ _ em;

@@ -76,6 +76,12 @@ blackLevelDeltaV = 50716
 abbrev pub whiteLevel : ℕ
 whiteLevel = 50717
 
+abbrev pub defaultCropOrigin : ℕ
+defaultCropOrigin = 50719
+
+abbrev pub defaultCropSize : ℕ
+defaultCropSize = 50720
+
 abbrev pub cameraCalibration1 : ℕ
 cameraCalibration1 = 50723
 

@@ -50,6 +50,10 @@ pub const BLACK_LEVEL_DELTA_V: usize = 50716;
 
 pub const WHITE_LEVEL: usize = 50717;
 
+pub const DEFAULT_CROP_ORIGIN: usize = 50719;
+
+pub const DEFAULT_CROP_SIZE: usize = 50720;
+
 pub const CAMERA_CALIBRATION_1: usize = 50723;
 
 pub const ANALOG_BALANCE: usize = 50727;

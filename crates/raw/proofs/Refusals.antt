@@ -14,7 +14,7 @@ use Rattle.directory.proofs.Refusals.{values-small, not-carried-small, judged-s
 use Rattle.rawtags.specs.Frame.{dimensionReading, planesReading, frameReading}
 use Rattle.rawtags.specs.Layout.{depthFrom, depthReading, onlyOne, formatReading, stripRowsReading, layoutReading}
 use Rattle.rawtags.specs.Strips.{stripFrom, stripsReading}
-use Rattle.rawtags.specs.Area.{croppedOf, fourReading, areaReading}
+use Rattle.rawtags.specs.Area.{areaOf, fourReading, areaReading}
 use Rattle.rawtags.specs.Repeat.{sideReading, pairReading, repeatReading}
 use Rattle.rawtags.specs.Black.{blackOut, blacksTest, blackReading, deltaReading}
 use Rattle.rawtags.specs.White.{tableReading, whiteReading}
@@ -69,13 +69,13 @@ strips-small : (size : ℕ) (d : Ifd) (f : Dimensions) (l : Layout) → Small-re
 unfolding stripsReading
 strips-small size d f l = search (tags, strip-small) depth 10
 
-cropped-small : (f : Dimensions) (a : Area) → Small-refusal (croppedOf f a)
-unfolding croppedOf
-cropped-small f a = search smalls depth 8
+area-of-small : (f : Dimensions) (a : Area) → Small-refusal (areaOf f a)
+unfolding areaOf
+area-of-small f a = search smalls depth 8
 
 area-small : (d : Ifd) (f : Dimensions) → Small-refusals (areaReading d f)
 unfolding areaReading fourReading
-area-small d f = search (tags, cropped-small) depth 10
+area-small d f = search (tags, area-of-small) depth 10
 
 -- ---- levels
 

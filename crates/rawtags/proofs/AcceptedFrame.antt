@@ -21,32 +21,33 @@ use Rattle.directory.proofs.Accepted.{one-in}
 use Rattle.rawtags.specs.Frame.{dimensionRange, dimensionReading, samplesOf, planesReading, frameReading}
 use Rattle.rawtags.specs.Layout.{layoutReading}
 use Rattle.rawtags.specs.Strips.{stripsReading}
-use Rattle.rawtags.specs.Area.{area, croppedOf, fourReading, areaReading}
+use Rattle.rawtags.specs.Area.{area, areaOf, fourReading, areaReading}
 use Rattle.rawtags.specs.Facts.Frame.{Dimensions-in}
 use Rattle.rawtags.specs.Facts.Area.{Area-in}
 use Rattle.rawtags.specs.LevelTags.{levelTagsReading}
+use Rattle.rawtags.specs.Crop.{cropReading}
 use Rattle.rawtags.specs.Lists.{listTagReading}
 use Rattle.rawtags.specs.Raw.{activeRows, activeColumns, tagsReading}
 use Rattle.rawtags.specs.declared.Tags.{Tags}
 use Rattle.rawtags.specs.declared.frame.Dimensions.{Dimensions}
 use Rattle.rawtags.specs.declared.area.Area.{Area}
-use Rattle.rawtags.proofs.AreaLaws.{crop-rows, crop-bottom, crop-columns, crop-right, crop-is, four-whole, four-is}
+use Rattle.rawtags.proofs.AreaLaws.{area-rows, area-bottom, area-columns, area-right, area-is, four-whole, four-is}
 
-cropped-in : (v : Dimensions) (x a : Area) → is a ≡ croppedOf v x → Area-in v a
-cropped-in v x a e =
+area-of-in : (v : Dimensions) (x a : Area) → is a ≡ areaOf v x → Area-in v a
+area-of-in v x a e =
     go (ltb (x .top) (x .bottom)) refl (leb (x .bottom) (v .length)) refl (ltb (x .left) (x .right)) refl (leb (x .right) (v .width)) refl
   where
     go :
         (s : Bool) → ltb (x .top) (x .bottom) ≡ s → (t : Bool) → leb (x .bottom) (v .length) ≡ t →
         (y : Bool) → ltb (x .left) (x .right) ≡ y → (z : Bool) → leb (x .right) (v .width) ≡ z → Area-in v a
-    go false p t q y g z h = absurd (not-refused a 4 activeArea (e ∙ sym (crop-rows v x (ltb-false _ _ p))))
-    go true p false q y g z h = absurd (not-refused a 4 activeArea (e ∙ sym (crop-bottom v x (ltb-true _ _ p) (leb-false _ _ q))))
+    go false p t q y g z h = absurd (not-refused a 4 activeArea (e ∙ sym (area-rows v x (ltb-false _ _ p))))
+    go true p false q y g z h = absurd (not-refused a 4 activeArea (e ∙ sym (area-bottom v x (ltb-true _ _ p) (leb-false _ _ q))))
     go true p true q false g z h =
-        absurd (not-refused a 4 activeArea (e ∙ sym (crop-columns v x (ltb-true _ _ p) (leb-true _ _ q) (ltb-false _ _ g))))
+        absurd (not-refused a 4 activeArea (e ∙ sym (area-columns v x (ltb-true _ _ p) (leb-true _ _ q) (ltb-false _ _ g))))
     go true p true q true g false h =
-        absurd (not-refused a 4 activeArea (e ∙ sym (crop-right v x (ltb-true _ _ p) (leb-true _ _ q) (ltb-true _ _ g) (leb-false _ _ h))))
+        absurd (not-refused a 4 activeArea (e ∙ sym (area-right v x (ltb-true _ _ p) (leb-true _ _ q) (ltb-true _ _ g) (leb-false _ _ h))))
     go true p true q true g true h =
-        let i = crop-is v x (ltb-true _ _ p) (leb-true _ _ q) (ltb-true _ _ g) (leb-true _ _ h) in
+        let i = area-is v x (ltb-true _ _ p) (leb-true _ _ q) (ltb-true _ _ g) (leb-true _ _ h) in
         subst (Area-in v) (sym (same-value a x (e ∙ sym i)))
         (record { rows = ltb-true _ _ p; columns = ltb-true _ _ g; bottom = leb-true _ _ q; right = leb-true _ _ h })
 
@@ -60,7 +61,7 @@ area-in f d v rows columns a e =
     go x q true z =
         subst (Area-in v) (sym (same-value a (area 0 0 (v .length) (v .width)) (q ∙ sym (four-whole f (d .order) v x (eqb-true _ _ z)))))
         (record { rows = omega arith; columns = omega arith; bottom = omega arith; right = omega arith })
-    go x q false z = cropped-in v _ a (q ∙ sym (four-is f (d .order) v x (eqb-false _ _ z) _ _ _ _ refl refl refl refl))
+    go x q false z = area-of-in v _ a (q ∙ sym (four-is f (d .order) v x (eqb-false _ _ z) _ _ _ _ refl refl refl refl))
 
 -- none, one plane or three
 samples-known : (p : ℕ) → (samplesOf p ≡ 0) ⊎ ((samplesOf p ≡ 1) ⊎ (samplesOf p ≡ 3))
@@ -124,7 +125,8 @@ tags-frame f size d t e =
     let s = bind-inverse f (stripsReading size d (v .0) (l .0)) _ t (l .2) in
     let a = bind-inverse f (areaReading d (v .0)) _ t (s .2) in
     let x = bind-inverse f (levelTagsReading d (v .0 .samples) (activeRows (a .0)) (activeColumns (a .0))) _ t (a .2) in
-    let o = bind-inverse f (listTagReading d) _ t (x .2) in
+    let w = bind-inverse f (cropReading d (activeRows (a .0)) (activeColumns (a .0))) _ t (x .2) in
+    let o = bind-inverse f (listTagReading d) _ t (w .2) in
     let h = frame-in f d (v .0) (v .1) in
     subst (λ (y : Tags). Dimensions-in (y .frame) × Area-in (y .frame) (y .area)) (sym (same-value t _ (o .2 ∙ run-answer f _)))
     (h, area-in f d (v .0) (h .some-rows) (h .some-columns) (a .0) (a .1))

@@ -12,33 +12,33 @@ use Rattle.reading.specs.declared.number.Order.{Order}
 use Rattle.reading.proofs.Reading.{running, pick-yes, pick-no}
 use Rattle.directory.specs.Out.{Out.refused, Out.is}
 use Rattle.directory.specs.declared.tag.Values.{Values}
-use Rattle.rawtags.specs.Area.{area, croppedOf, fourReading}
+use Rattle.rawtags.specs.Area.{area, areaOf, fourReading}
 use Rattle.rawtags.specs.declared.frame.Dimensions.{Dimensions}
 use Rattle.rawtags.specs.declared.area.Area.{Area}
 
 module _ (f : Dimensions) (a : Area) where
-  pub crop-rows : a .bottom ≤ a .top → refused 4 activeArea ≡ croppedOf f a
-  unfolding croppedOf
-  crop-rows h = simp (le-ltb _ _ h, pick-no)
+  pub area-rows : a .bottom ≤ a .top → refused 4 activeArea ≡ areaOf f a
+  unfolding areaOf
+  area-rows h = simp (le-ltb _ _ h, pick-no)
 
   module _ (h : a .top < a .bottom) where
-    pub crop-bottom : f .length < a .bottom → refused 4 activeArea ≡ croppedOf f a
-    unfolding croppedOf
-    crop-bottom b = simp (lt-ltb _ _ h, lt-leb _ _ b, pick-yes, pick-no)
+    pub area-bottom : f .length < a .bottom → refused 4 activeArea ≡ areaOf f a
+    unfolding areaOf
+    area-bottom b = simp (lt-ltb _ _ h, lt-leb _ _ b, pick-yes, pick-no)
 
     module _ (b : a .bottom ≤ f .length) where
-      pub crop-columns : a .right ≤ a .left → refused 4 activeArea ≡ croppedOf f a
-      unfolding croppedOf
-      crop-columns l = simp (lt-ltb _ _ h, le-leb _ _ b, le-ltb _ _ l, pick-yes, pick-no)
+      pub area-columns : a .right ≤ a .left → refused 4 activeArea ≡ areaOf f a
+      unfolding areaOf
+      area-columns l = simp (lt-ltb _ _ h, le-leb _ _ b, le-ltb _ _ l, pick-yes, pick-no)
 
       module _ (l : a .left < a .right) where
-        pub crop-right : f .width < a .right → refused 4 activeArea ≡ croppedOf f a
-        unfolding croppedOf
-        crop-right r = simp (lt-ltb _ _ h, le-leb _ _ b, lt-ltb _ _ l, lt-leb _ _ r, pick-yes, pick-no)
+        pub area-right : f .width < a .right → refused 4 activeArea ≡ areaOf f a
+        unfolding areaOf
+        area-right r = simp (lt-ltb _ _ h, le-leb _ _ b, lt-ltb _ _ l, lt-leb _ _ r, pick-yes, pick-no)
 
-        pub crop-is : a .right ≤ f .width → is a ≡ croppedOf f a
-        unfolding croppedOf
-        crop-is r = simp (lt-ltb _ _ h, le-leb _ _ b, lt-ltb _ _ l, le-leb _ _ r, pick-yes)
+        pub area-is : a .right ≤ f .width → is a ≡ areaOf f a
+        unfolding areaOf
+        area-is r = simp (lt-ltb _ _ h, le-leb _ _ b, lt-ltb _ _ l, le-leb _ _ r, pick-yes)
 
 module _ (file : List ℕ) (o : Order) (f : Dimensions) (v : Values) where
   pub four-whole : v .count ≡ 0 → is (area 0 0 (f .length) (f .width)) ≡ run file (fourReading o f v)
@@ -48,6 +48,6 @@ module _ (file : List ℕ) (o : Order) (f : Dimensions) (v : Values) where
   pub four-is : (v .count ≡ 0 → ⊥) → (t l b r : ℕ) → t ≡ numberOf o (part file (v .place) (v .size)) →
       l ≡ numberOf o (part file (v .place + v .size) (v .size)) →
       b ≡ numberOf o (part file (v .place + 2 * v .size) (v .size)) → r ≡ numberOf o (part file (v .place + 3 * v .size) (v .size)) →
-      croppedOf f (area t l b r) ≡ run file (fourReading o f v)
+      areaOf f (area t l b r) ≡ run file (fourReading o f v)
   unfolding fourReading
   four-is e t l b r et el eb er = simp (ne-eqb _ _ e, running, ← et, ← el, ← eb, ← er)

@@ -1,10 +1,13 @@
 pub mod Strip
 pub mod AreaLaws
 pub mod RepeatLaws
+pub mod WholeLaws
+pub mod CropLaws
 pub mod PatternLaws
 pub mod PatternExamples
 pub mod Depth
 pub mod BlackLaws
 pub mod Ranges
+pub mod TagsLaws
 pub mod AcceptedFrame
 pub mod TagsUnread

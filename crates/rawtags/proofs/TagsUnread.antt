@@ -1,11 +1,12 @@
--- What is read for the tags of the raw directory: tag, type and count of its entries, and the values of the tags that document 01
--- names. So another tag's value is not read, nor the list's, which is read where its opcodes are tested.
+-- What is read for the tags of the raw directory: tag, type and count of its entries, and the values of the tags that documents 01
+-- and 02 name. So another tag's value is not read, nor the list's, which is read where its opcodes are tested.
 -- Assumes nothing.
 use Rattle.directory.specs.Names.{activeArea, bitsPerSample, blackLevel, blackLevelDeltaH, blackLevelDeltaV, blackLevelRepeatDim}
-use Rattle.directory.specs.Names.{columnInterleaveFactor, compression, imageLength, imageWidth, linearizationTable, opcodeList1}
+use Rattle.directory.specs.Names.{columnInterleaveFactor, compression, defaultCropOrigin, defaultCropSize, imageLength, imageWidth}
+use Rattle.directory.specs.Names.{linearizationTable, opcodeList1}
 use Rattle.directory.specs.Names.{opcodeList2, opcodeList3, photometricInterpretation, planarConfiguration, rowInterleaveFactor}
 use Rattle.directory.specs.Names.{rowsPerStrip, sampleFormat, samplesPerPixel, stripByteCounts, stripOffsets, whiteLevel}
-use mathlib.Core.Path.{_≡_, refl, subst}
+use mathlib.Core.Path.{_≡_, refl, subst, _∙_}
 use mathlib.Core.Bool.{true, false}
 use mathlib.Core.List.{List, [], _∷_}
 use Prim.Native.Nat.{ℕ, zero, suc, _+_, _*_, _-_, _≤_, _<_, min}
@@ -13,11 +14,12 @@ use native.Mathlib.Nat.{mul-suc}
 use native.Mathlib.Omega.{arith}
 use lib.Dec.{eqb, leb}
 use mir.Val.{hasKey}
-use borrow.Author.Tests.{eqb-false}
+use borrow.Author.Tests.{eqb-true, eqb-false}
 use Rattle.reading.specs.Reading.{Reading.answer, run, reads, numberAt}
 use Rattle.reading.specs.declared.number.Order.{Order}
 use Rattle.reading.proofs.Unread.{Unread, Off, off-inside, unread-answer, unread-ask, unread-number, unread-then, unread-pick}
 use Rattle.directory.specs.Out.{Out.refused, Out.is}
+use Rattle.directory.specs.Entry.{codeOf}
 use Rattle.directory.specs.Tag.{valuesReading, notCarried, oneReading, eachReading, required, optional, range}
 use Rattle.directory.specs.declared.Ifd.{Ifd}
 use Rattle.directory.specs.declared.tag.Kinds.{Kinds}
@@ -37,19 +39,24 @@ use Rattle.rawtags.specs.Repeat.{sideReading, pairReading, repeatReading
 use Rattle.rawtags.specs.Black.{kindFor, blacksTest, blackRule, blackReading, deltaRule, deltaReading}
 use Rattle.rawtags.specs.White.{tableRule, tableReading, whiteRule, whiteReading}
 use Rattle.rawtags.specs.LevelTags.{levelTagsReading}
+use Rattle.rawtags.specs.Whole.{wholeNumberReading, bothReading, lengthsRule, lengthsReading}
+use Rattle.rawtags.specs.Crop.{lengths, cropReading}
 use Rattle.rawtags.specs.Lists.{listRule, listTagReading}
 use Rattle.rawtags.specs.Raw.{activeRows, activeColumns, tagsReading}
 use Rattle.rawtags.specs.declared.frame.Dimensions.{Dimensions}
 use Rattle.rawtags.specs.declared.layout.Layout.{Layout}
 use Rattle.rawtags.specs.declared.repeat.Repeat.{Repeat}
+use Rattle.rawtags.specs.declared.whole.Lengths.{Lengths}
 use Rattle.rawtags.proofs.AcceptedFrame.{frame-in}
+use Rattle.rawtags.proofs.WholeLaws.{rational-width}
 
--- the tags of the raw directory whose values are read with them: all that document 01 names but the list, OpcodeList2
+-- the tags of the raw directory whose values are read with them: all that documents 01 and 02 name but the list, OpcodeList2
 abbrev pub rawTags : List ℕ
 rawTags =
     imageWidth ∷ imageLength ∷ photometricInterpretation ∷ samplesPerPixel ∷ bitsPerSample ∷ compression ∷ planarConfiguration ∷
     sampleFormat ∷ rowInterleaveFactor ∷ columnInterleaveFactor ∷ rowsPerStrip ∷ stripOffsets ∷ stripByteCounts ∷ activeArea
-    ∷ linearizationTable ∷ blackLevelRepeatDim ∷ blackLevel ∷ blackLevelDeltaH ∷ blackLevelDeltaV ∷ whiteLevel ∷ []
+    ∷ linearizationTable ∷ blackLevelRepeatDim ∷ blackLevel ∷ blackLevelDeltaH ∷ blackLevelDeltaV ∷ whiteLevel
+    ∷ defaultCropOrigin ∷ defaultCropSize ∷ []
 
 -- as many values as the rule says, where there are any
 exact-off :
@@ -236,6 +243,46 @@ module _ (f : List ℕ) (d : Ifd) (j : ℕ) (heads : reads (headsOf d) j ≡ fal
       unread-bind f j (whiteReading d s) _ (all-unread f d j heads (whiteRule s) h (range 0 0 65535)) (λ v _.
       unread-answer f j _))))))
 
+  -- one of the values, and both
+  whole-unread : (tag : ℕ) (v : Values) (at : ℕ) → Off j at (v .size) → (codeOf (v .kind) ≡ 5 → v .size ≡ 8) →
+      Unread f j (wholeNumberReading (d .order) tag v at)
+  unfolding wholeNumberReading
+  whole-unread tag v at h w =
+      unread-pick f j (eqb (codeOf (v .kind)) 5) _ _
+      (λ e. let eight : v .size ≡ 8 = w (eqb-true _ _ e) in
+      unread-then f j (numberAt (d .order) at 4) _
+      (unread-number f j (d .order) at 4 (off-inside j at (v .size) _ _ h (omega arith) (omega arith)))
+      (unread-then f j (numberAt (d .order) (at + 4) 4) _
+      (unread-number f j (d .order) (at + 4) 4 (off-inside j at (v .size) _ _ h (omega arith) (omega arith)))
+      (unread-answer f j _)))
+      (λ _. unread-then f j (numberAt (d .order) at (v .size)) _ (unread-number f j (d .order) at (v .size) h) (unread-answer f j _))
+
+  lengths-unread : (tag : ℕ) (default : Lengths) → Off-tag tag → Unread f j (lengthsReading d tag default)
+  unfolding lengthsReading bothReading
+  lengths-unread tag default a =
+      unread-bind f j (valuesReading d (lengthsRule tag)) (bothReading (d .order) tag default)
+      (other-value-unread f d j heads (lengthsRule tag) a) (λ x e. both x (values-off f d j (lengthsRule tag) x e a))
+    where
+      both : (x : Values) → Values-off j (lengthsRule tag) x → Unread f j (bothReading (d .order) tag default x)
+      both x q =
+          unread-pick f j (eqb (x .count) 0) _ _ (λ _. unread-answer f j _)
+          (λ z. let none : x .count ≡ 0 → ⊥ = eqb-false _ _ z in
+          let some : 0 < x .count = omega arith in
+          let h : Off j (x .place) (x .size * 2) = exact-off j (lengthsRule tag) x 2 refl refl q some in
+          let w : codeOf (x .kind) ≡ 5 → x .size ≡ 8 = λ e. q .typed some ∙ rational-width (x .kind) e in
+          unread-bind f j (wholeNumberReading (d .order) tag x (x .place)) _
+          (whole-unread tag x (x .place) (off-inside j (x .place) (x .size * 2) _ _ h (omega arith) (omega arith)) w) (λ m _.
+          unread-bind f j (wholeNumberReading (d .order) tag x (x .place + x .size)) _
+          (whole-unread tag x (x .place + x .size) (off-inside j (x .place) (x .size * 2) _ _ h (omega arith) (omega arith)) w) (λ n _.
+          unread-answer f j _)))
+
+  crop-unread : (rows columns : ℕ) → Off-tag defaultCropOrigin → Off-tag defaultCropSize → Unread f j (cropReading d rows columns)
+  unfolding cropReading
+  crop-unread rows columns a b =
+      unread-bind f j (lengthsReading d defaultCropOrigin (lengths 0 0)) _ (lengths-unread defaultCropOrigin (lengths 0 0) a) (λ o _.
+      unread-bind f j (lengthsReading d defaultCropSize (lengths columns rows)) _ (lengths-unread defaultCropSize (lengths columns rows) b)
+      (λ s _. unread-answer f j _))
+
   -- of OpcodeList1 and OpcodeList3 no value is read, of the list its offset
   list-unread : reads (offsetIn f d opcodeList2) j ≡ false → Unread f j (listTagReading d)
   unfolding listTagReading
@@ -264,5 +311,7 @@ module _ (f : List ℕ) (d : Ifd) (j : ℕ) (heads : reads (headsOf d) j ≡ fal
       (level-tags-unread (v .samples) (activeRows a) (activeColumns a) (value linearizationTable refl) (value blackLevelRepeatDim refl)
       (value blackLevel refl)
       (value blackLevelDeltaH refl) (value blackLevelDeltaV refl) (value whiteLevel refl)) (λ x _.
+      unread-bind f j (cropReading d (activeRows a) (activeColumns a)) _
+      (crop-unread (activeRows a) (activeColumns a) (value defaultCropOrigin refl) (value defaultCropSize refl)) (λ c _.
       unread-bind f j (listTagReading d) _ (list-unread list) (λ o _.
-      unread-answer f j _))))))
+      unread-answer f j _)))))))

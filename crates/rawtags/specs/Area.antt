@@ -16,8 +16,8 @@ abbrev pub area : ℕ → ℕ → ℕ → ℕ → Area
 area t l b r = record { top = t; left = l; bottom = b; right = r }
 
 -- "top < bottom <= length, left < right <= width"
-unfoldable pub croppedOf : Dimensions → Area → Out Area
-croppedOf f a =
+unfoldable pub areaOf : Dimensions → Area → Out Area
+areaOf f a =
     pick (ltb (a .top) (a .bottom))
     (pick (leb (a .bottom) (f .length))
     (pick (ltb (a .left) (a .right))
@@ -34,7 +34,7 @@ fourReading o f v =
     andThen (numberAt o (v .place + v .size) (v .size)) (λ l.
     andThen (numberAt o (v .place + 2 * v .size) (v .size)) (λ b.
     andThen (numberAt o (v .place + 3 * v .size) (v .size)) (λ r.
-    answer (croppedOf f (area t l b r)))))))
+    answer (areaOf f (area t l b r)))))))
 
 -- ActiveArea: SHORT or LONG 4
 unfoldable pub areaReading : Ifd → Dimensions → Reading (Out Area)

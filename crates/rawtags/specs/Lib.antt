@@ -6,6 +6,8 @@ pub mod Repeat
 pub mod Black
 pub mod White
 pub mod LevelTags
+pub mod Whole
+pub mod Crop
 pub mod Lists
 pub mod Pattern
 pub mod Raw

@@ -8,6 +8,7 @@ use Rattle.rawtags.specs.Layout.{layoutReading}
 use Rattle.rawtags.specs.Strips.{stripsReading}
 use Rattle.rawtags.specs.Area.{areaReading}
 use Rattle.rawtags.specs.LevelTags.{levelTagsReading}
+use Rattle.rawtags.specs.Crop.{cropReading}
 use Rattle.rawtags.specs.Lists.{listTagReading}
 use Rattle.rawtags.specs.declared.area.Area.{Area}
 use Rattle.rawtags.specs.declared.Tags.{Tags}
@@ -25,5 +26,6 @@ tagsReading len d =
     bind (stripsReading len d f l) (λ s.
     bind (areaReading d f) (λ a.
     bind (levelTagsReading d (f .samples) (activeRows a) (activeColumns a)) (λ v.
+    bind (cropReading d (activeRows a) (activeColumns a)) (λ c.
     bind (listTagReading d) (λ o.
-    answer (is (record { frame = f; layout = l; strips = s; area = a; levels = v; list = o }))))))))
+    answer (is (record { frame = f; layout = l; strips = s; area = a; levels = v; crop = c; list = o })))))))))

@@ -4,7 +4,7 @@ ghost use Prim.Native.Nat.{_+_, _≤_};
 ghost use Rattle.reading.specs.Reading.{run};
 ghost use Rattle.directory.specs.Facts.Shape.{Tested};
 ghost use Rattle.rawtags.specs.Facts.Frame.{Dimensions-in};
-ghost use Rattle.rawtags.specs.Area.{croppedOf, areaReading};
+ghost use Rattle.rawtags.specs.Area.{areaOf, areaReading};
 ghost use Rattle.rawtags.specs.Facts.Area.{areaOut, AreaIn};
 use crate::frame::Dimensions;
 use directory::Ifd;
@@ -51,8 +51,8 @@ impl Area {
     }
 }
 
-fn crop(frame: Dimensions, area: Area) -> AreaTest
-    ensures { λ r. ⌜ (areaOut r ≡ croppedOf frame area) × AreaIn frame r ⌝ }
+fn tested_area(frame: Dimensions, area: Area) -> AreaTest
+    ensures { λ r. ⌜ (areaOut r ≡ areaOf frame area) × AreaIn frame r ⌝ }
 {
     if area.top < area.bottom {
         if area.bottom <= frame.length {
@@ -101,7 +101,7 @@ pub fn area_of(file: &[u8], ifd: Ifd, frame: Dimensions) -> AreaTest
     let left = number::value(file, order, size, place + size);
     let bottom = number::value(file, order, size, place + 2 * size);
     let right = number::value(file, order, size, place + 3 * size);
-    crop(
+    tested_area(
         frame,
         Area {
             top,

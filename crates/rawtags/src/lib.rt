@@ -7,6 +7,8 @@ ghost use Rattle.rawtags.specs.Raw.{tagsReading};
 ghost use Rattle.rawtags.specs.Facts.Raw.{tagsOut, TagsIn};
 use area::Area;
 use area::AreaTest;
+use crop::Crop;
+use crop::CropTest;
 use directory::Ifd;
 use directory::tag::Values;
 use directory::tag::ValuesTest;
@@ -19,6 +21,7 @@ use level_tags::LevelTagsTest;
 
 pub mod area;
 pub mod black;
+pub mod crop;
 pub mod frame;
 pub mod layout;
 pub mod level_tags;
@@ -27,6 +30,7 @@ pub mod pattern;
 pub mod repeat;
 pub mod strips;
 pub mod white;
+pub mod whole;
 
 // What the tags say, and where their values stand.
 pub struct Tags {
@@ -35,6 +39,7 @@ pub struct Tags {
     pub strips: Values,
     pub area: Area,
     pub levels: LevelTags,
+    pub crop: Crop,
     pub list: Values,
 }
 
@@ -70,6 +75,10 @@ pub fn tags_of(file: &[u8], ifd: Ifd) -> TagsTest
         LevelTagsTest::Refused { number, detail } => return TagsTest::Refused { number, detail },
         LevelTagsTest::Is(v) => v,
     };
+    let crop = match crop::crop_of(file, ifd, rows, columns) {
+        CropTest::Refused { number, detail } => return TagsTest::Refused { number, detail },
+        CropTest::Is(v) => v,
+    };
     let list = match lists::list_of(file, ifd) {
         ValuesTest::Refused { number, detail } => return TagsTest::Refused { number, detail },
         ValuesTest::Is(v) => v,
@@ -80,6 +89,7 @@ pub fn tags_of(file: &[u8], ifd: Ifd) -> TagsTest
         strips,
         area,
         levels,
+        crop,
         list,
     })
 }

@@ -10,6 +10,7 @@ use Rattle.rawtags.specs.Facts.Layout.{Layout-in}
 use Rattle.rawtags.specs.Facts.Strips.{Strips-in}
 use Rattle.rawtags.specs.Facts.Area.{Area-in}
 use Rattle.rawtags.specs.Facts.LevelTags.{LevelTags-in}
+use Rattle.rawtags.specs.Facts.Crop.{Crop-in}
 use Rattle.rawtags.specs.Lists.{listRule}
 use Rattle.rawtags.specs.declared.Tags.{Tags}
 use Rattle.rawtags.specs.declared.TagsTest.{TagsTest}
@@ -26,6 +27,7 @@ pub record Tags-in (f : List ℕ) (o : Order) (r : Tags) : Type 0 where
   pub strips : Strips-in f o (r .frame) (r .layout) (r .strips)
   pub area : Area-in (r .frame) (r .area)
   pub levels : LevelTags-in f o (r .frame .samples) (activeRows (r .area)) (activeColumns (r .area)) (r .levels)
+  pub crop : Crop-in (activeRows (r .area)) (activeColumns (r .area)) (r .crop)
   pub list : Placed-values (length f) listRule (r .list)
 
 abbrev pub TagsIn : List ℕ → Order → TagsTest → Type 0

@@ -127,8 +127,8 @@ value-requires-4 c κs =
     (subst (ValuesIn (length (now (a .file))) (optional activeArea kinds.ShortOrLong 4)) (v .given .1) (look-up .ensures .1)) (if1 .left) in
     (omega (arith, q .0), q .1)
 
-crop-requires : tie.Need-crop-requires
-crop-requires c κs = search needs
+tested-area-requires : tie.Need-tested-area-requires
+tested-area-requires c κs = search needs
 
 returns-3 : tie.Need-returns-3
 unfolding areaReading
@@ -141,9 +141,9 @@ returns-3 c =
     let e = ap valuesOut (sym (g .v .given .1)) ∙ g .before .before .look-up .ensures .0 in
     let f = four-is _ _ _ _ (t .before .if1 .left) _ _ _ _ (t .value .ensures) (l .value2 .ensures) (b .value3 .ensures)
     (r .value4 .ensures) in
-    (c .crop .ensures .0 ∙ f ∙ sym (bind-is _ _ _ _ e), c .crop .ensures .1)
+    (c .tested-area .ensures .0 ∙ f ∙ sym (bind-is _ _ _ _ e), c .tested-area .ensures .1)
 
 pub area-of-spec : {M : Type 1} → statement M
 area-of-spec =
     tie.close (tie.spec look-up-requires enum-known-number returns enum-known-v returns-2 value-requires add-value value-requires-2
-    mul-value add-value-2 value-requires-3 mul-value-2 add-value-3 value-requires-4 crop-requires returns-3)
+    mul-value add-value-2 value-requires-3 mul-value-2 add-value-3 value-requires-4 tested-area-requires returns-3)

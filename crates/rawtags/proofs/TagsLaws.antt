@@ -1,0 +1,76 @@
+-- The tags of the raw directory, case by case: the first that is refused answers, and where none is, all of them.
+-- Assumes nothing.
+use mathlib.Core.Path.{_≡_, sym, _∙_}
+use mathlib.Core.List.{List}
+use Prim.Native.Nat.{ℕ}
+use Rattle.reading.specs.Reading.{run}
+use Rattle.reading.proofs.Reading.{run-answer}
+use Rattle.directory.specs.Out.{Out.refused, Out.is}
+use Rattle.directory.specs.declared.Ifd.{Ifd}
+use Rattle.directory.specs.declared.tag.Values.{Values}
+use Rattle.directory.proofs.Outs.{bind-refused, bind-is}
+use Rattle.rawtags.specs.Frame.{frameReading}
+use Rattle.rawtags.specs.Layout.{layoutReading}
+use Rattle.rawtags.specs.Strips.{stripsReading}
+use Rattle.rawtags.specs.Area.{areaReading}
+use Rattle.rawtags.specs.LevelTags.{levelTagsReading}
+use Rattle.rawtags.specs.Crop.{cropReading}
+use Rattle.rawtags.specs.Lists.{listTagReading}
+use Rattle.rawtags.specs.Raw.{activeRows, activeColumns, tagsReading}
+use Rattle.rawtags.specs.declared.frame.Dimensions.{Dimensions}
+use Rattle.rawtags.specs.declared.layout.Layout.{Layout}
+use Rattle.rawtags.specs.declared.area.Area.{Area}
+use Rattle.rawtags.specs.declared.level_tags.LevelTags.{LevelTags}
+use Rattle.rawtags.specs.declared.crop.Crop.{Crop}
+
+module _ (f : List ℕ) (len : ℕ) (d : Ifd) where
+  abbrev Refused-first : ℕ → ℕ → Type 0
+  Refused-first n k = refused n k ≡ run f (tagsReading len d)
+
+  pub frame-refused : (n k : ℕ) → refused n k ≡ run f (frameReading d) → Refused-first n k
+  unfolding tagsReading
+  frame-refused n k e = bind-refused _ _ _ n k e
+
+  module _ (v : Dimensions) (ev : is v ≡ run f (frameReading d)) where
+    pub layout-refused : (n k : ℕ) → refused n k ≡ run f (layoutReading d (v .samples)) → Refused-first n k
+    unfolding tagsReading
+    layout-refused n k e = bind-refused _ _ _ n k e ∙ sym (bind-is _ _ _ v ev)
+
+    module _ (l : Layout) (el : is l ≡ run f (layoutReading d (v .samples))) where
+      pub strips-refused : (n k : ℕ) → refused n k ≡ run f (stripsReading len d v l) → Refused-first n k
+      unfolding tagsReading
+      strips-refused n k e = bind-refused _ _ _ n k e ∙ sym (bind-is _ _ _ v ev ∙ bind-is _ _ _ l el)
+
+      module _ (s : Values) (es : is s ≡ run f (stripsReading len d v l)) where
+        pub area-refused : (n k : ℕ) → refused n k ≡ run f (areaReading d v) → Refused-first n k
+        unfolding tagsReading
+        area-refused n k e = bind-refused _ _ _ n k e ∙ sym (bind-is _ _ _ v ev ∙ bind-is _ _ _ l el ∙ bind-is _ _ _ s es)
+
+        module _ (a : Area) (ea : is a ≡ run f (areaReading d v)) where
+          pub level-tags-refused : (n k : ℕ) → refused n k ≡ run f (levelTagsReading d (v .samples) (activeRows a) (activeColumns a)) →
+              Refused-first n k
+          unfolding tagsReading
+          level-tags-refused n k e =
+              bind-refused _ _ _ n k e ∙ sym (bind-is _ _ _ v ev ∙ bind-is _ _ _ l el ∙ bind-is _ _ _ s es ∙ bind-is _ _ _ a ea)
+
+          module _ (x : LevelTags) (ex : is x ≡ run f (levelTagsReading d (v .samples) (activeRows a) (activeColumns a))) where
+            pub crop-refused : (n k : ℕ) → refused n k ≡ run f (cropReading d (activeRows a) (activeColumns a)) → Refused-first n k
+            unfolding tagsReading
+            crop-refused n k e =
+                bind-refused _ _ _ n k e
+                ∙ sym (bind-is _ _ _ v ev ∙ bind-is _ _ _ l el ∙ bind-is _ _ _ s es ∙ bind-is _ _ _ a ea ∙ bind-is _ _ _ x ex)
+
+            module _ (c : Crop) (ec : is c ≡ run f (cropReading d (activeRows a) (activeColumns a))) where
+              pub list-refused : (n k : ℕ) → refused n k ≡ run f (listTagReading d) → Refused-first n k
+              unfolding tagsReading
+              list-refused n k e =
+                  bind-refused _ _ _ n k e
+                  ∙ sym (bind-is _ _ _ v ev ∙ bind-is _ _ _ l el ∙ bind-is _ _ _ s es ∙ bind-is _ _ _ a ea ∙ bind-is _ _ _ x ex
+                  ∙ bind-is _ _ _ c ec)
+
+              pub tags-are : (o : Values) → is o ≡ run f (listTagReading d) →
+                  is (record { frame = v; layout = l; strips = s; area = a; levels = x; crop = c; list = o }) ≡ run f (tagsReading len d)
+              unfolding tagsReading
+              tags-are o eo =
+                  sym (bind-is _ _ _ v ev ∙ bind-is _ _ _ l el ∙ bind-is _ _ _ s es ∙ bind-is _ _ _ a ea ∙ bind-is _ _ _ x ex
+                  ∙ bind-is _ _ _ c ec ∙ bind-is _ _ _ o eo ∙ run-answer _ _)
