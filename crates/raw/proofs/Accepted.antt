@@ -24,14 +24,12 @@ use Rattle.directory.specs.declared.tag.Values.{Values}
 use Rattle.directory.proofs.Outs.{bind-inverse, same-value}
 use Rattle.directory.proofs.Accepted.{tree-rooted, values-placed, one-in}
 use Rattle.levels.specs.Levels.{spanOf}
-use Rattle.rawtags.specs.Frame.{frameReading}
 use Rattle.rawtags.specs.Layout.{depthReading, onlyOne, formatReading, stripRowsReading, layoutReading}
 use Rattle.rawtags.specs.Strips.{stripCount, rowBytes, stripFrom, offsetsRule, countsRule, stripsReading}
 use Rattle.rawtags.specs.Facts.Strips.{Strips-in}
-use Rattle.rawtags.specs.Area.{areaReading}
-use Rattle.rawtags.specs.LevelTags.{levelTagsReading}
 use Rattle.rawtags.specs.Lists.{listRule, listTagReading}
-use Rattle.rawtags.specs.Raw.{activeRows, activeColumns, tagsReading}
+use Rattle.rawtags.specs.Raw.{tagsReading}
+use Rattle.rawtags.proofs.TagsLaws.{tags-read}
 use Rattle.raw.specs.Stored.{levelsReading}
 use Rattle.raw.specs.Spans.{spannedOf}
 use Rattle.raw.specs.Front.{rawWith, rawReading, frontReading}
@@ -94,21 +92,13 @@ pub record Inside (f : List ℕ) (o : Order) (t : Tags) : Type 0 where
   pub list : Placed-values (length f) listRule (t .list)
 
 pub tags-accepted : (f : List ℕ) (d : Ifd) → Tested f d → (t : Tags) → is t ≡ run f (tagsReading (length f) d) → Inside f (d .order) t
-unfolding tagsReading
 tags-accepted f d h t e =
-    let a = bind-inverse f (frameReading d) _ t e in
-    let fr : Dimensions = a .0 in
-    let b = bind-inverse f (layoutReading d (fr .samples)) _ t (a .2) in
-    let c = bind-inverse f (stripsReading (length f) d fr (b .0)) _ t (b .2) in
-    let i = bind-inverse f (areaReading d fr) _ t (c .2) in
-    let j = bind-inverse f (levelTagsReading d (fr .samples) (activeRows (i .0)) (activeColumns (i .0))) _ t (i .2) in
-    let k = bind-inverse f (listTagReading d) _ t (j .2) in
-    subst (Inside f (d .order)) (sym (same-value t _ (k .2 ∙ run-answer f _)))
-    (record {
-      rows = layout-rows f d (fr .samples) (b .0) (b .1);
-      strips = strips-accepted f d h fr (b .0) (c .0) (c .1);
-      list = list-accepted f d h (k .0) (k .1);
-    })
+    let r = tags-read f (length f) d t e in
+    record {
+      rows = layout-rows f d (t .frame .samples) (t .layout) (r .layout);
+      strips = strips-accepted f d h (t .frame) (t .layout) (t .strips) (r .strips);
+      list = list-accepted f d h (t .list) (r .list);
+    }
 
 -- how a picture was found: the tree, the raw directory's tags, S of each plane
 pub record Found (f : List ℕ) (p : Picture) : Type 0 where

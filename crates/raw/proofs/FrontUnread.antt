@@ -26,16 +26,13 @@ use Rattle.directory.proofs.TagUnread.{headsOf, offsetIn, valueIn, values-off}
 use Rattle.levels.specs.Levels.{Levels}
 use Rattle.levels.specs.declared.black.BlackKind.{BlackKind}
 use Rattle.levels.specs.declared.black.BlackKind.the-variants as kind
-use Rattle.rawtags.specs.Frame.{frameReading}
-use Rattle.rawtags.specs.Layout.{layoutReading}
 use Rattle.rawtags.specs.Strips.{stripCount, rowBytes, stripFrom, offsetsRule, countsRule, stripsReading}
-use Rattle.rawtags.specs.Area.{areaReading}
 use Rattle.rawtags.specs.Repeat.{repeatReading}
 use Rattle.rawtags.specs.Black.{kindFor, blacksTest, blackRule, blackReading, deltaRule, deltaReading}
 use Rattle.rawtags.specs.White.{tableRule, tableReading, whiteRule, whiteReading}
 use Rattle.rawtags.specs.LevelTags.{levelTagsReading}
-use Rattle.rawtags.specs.Lists.{listTagReading}
 use Rattle.rawtags.specs.Raw.{activeRows, activeColumns, tagsReading}
+use Rattle.rawtags.proofs.TagsLaws.{tags-read}
 use Rattle.raw.specs.Stored.{numbersReading, blacksReading, whitesReading, levelsReading, storedReading}
 use Rattle.raw.specs.Spans.{spannedOf}
 use Rattle.raw.specs.Front.{rawWith, rawReading, pictureOf, frontReading}
@@ -125,21 +122,14 @@ module _ (f : List ℕ) (j : ℕ) (d : Ifd) (c : Raw-clear f j d) where
       })
 
   tags-off : (size : ℕ) (t : Tags) → is t ≡ run f (tagsReading size d) → Tags-off j t
-  unfolding tagsReading
   tags-off size t e =
-      let w = bind-inverse f (frameReading d) _ t e in
-      let l = bind-inverse f (layoutReading d (w .0 .samples)) _ t (w .2) in
-      let s = bind-inverse f (stripsReading size d (w .0) (l .0)) _ t (l .2) in
-      let a = bind-inverse f (areaReading d (w .0)) _ t (s .2) in
-      let v = bind-inverse f (levelTagsReading d (w .0 .samples) (activeRows (a .0)) (activeColumns (a .0))) _ t (a .2) in
-      let o = bind-inverse f (listTagReading d) _ t (v .2) in
-      subst (Tags-off j) (sym (same-value t _ (o .2 ∙ run-answer f _)))
-      (record {
+      let r = tags-read f size d t e in
+      record {
         strips =
-            values-off f d j (offsetsRule (w .0) (l .0)) (s .0) (strips-given f d (s .0) size (w .0) (l .0) (s .1))
+            values-off f d j (offsetsRule (t .frame) (t .layout)) (t .strips) (strips-given f d (t .strips) size (t .frame) (t .layout) (r .strips))
             (c .values stripOffsets refl) .off;
-        levels = levels-off (w .0 .samples) (activeRows (a .0)) (activeColumns (a .0)) (v .0) (v .1);
-      })
+        levels = levels-off (t .frame .samples) (activeRows (t .area)) (activeColumns (t .area)) (t .levels) (r .levels);
+      }
 
   -- ---- what every sample needs
   numbers-unread : (o : Order) (v : Values) → Off-values j v → Unread f j (numbersReading o v)

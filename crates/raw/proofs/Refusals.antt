@@ -19,6 +19,8 @@ use Rattle.rawtags.specs.Repeat.{sideReading, pairReading, repeatReading}
 use Rattle.rawtags.specs.Black.{blackOut, blacksTest, blackReading, deltaReading}
 use Rattle.rawtags.specs.White.{tableReading, whiteReading}
 use Rattle.rawtags.specs.LevelTags.{levelTagsReading}
+use Rattle.rawtags.specs.Whole.{wholeNumberOf, wholeNumberReading, bothReading, lengthsReading}
+use Rattle.rawtags.specs.Crop.{cropOf, cropReading}
 use Rattle.rawtags.specs.Lists.{listTagReading}
 use Rattle.rawtags.specs.Raw.{tagsReading}
 use Rattle.raw.specs.Spans.{spannedOf}
@@ -26,6 +28,8 @@ use Rattle.raw.specs.Front.{rawReading, frontReading}
 use Rattle.rawtags.specs.Pattern.{placesOf, fourColoursReading, planeColorOf, threeColoursReading, cfaPatternReading, planeColorReading}
 use Rattle.rawtags.specs.Pattern.{patternReading}
 use Rattle.rawtags.specs.declared.area.Area.{Area}
+use Rattle.rawtags.specs.declared.whole.Lengths.{Lengths}
+use Rattle.rawtags.specs.declared.crop.Crop.{Crop}
 use Rattle.rawtags.specs.declared.frame.Dimensions.{Dimensions}
 use Rattle.rawtags.specs.declared.layout.Layout.{Layout}
 use Rattle.rawtags.specs.declared.repeat.Repeat.{Repeat}
@@ -105,6 +109,20 @@ level-tags-small : (d : Ifd) (s rows columns : ℕ) → Small-refusals (levelTag
 unfolding levelTagsReading tableReading whiteReading
 level-tags-small d s rows columns = search (tags, repeat-small, black-small, delta-small) depth 14
 
+-- ---- the crop
+
+lengths-small : (d : Ifd) (tag : ℕ) (default : Lengths) → Small-detail tag → Small-refusals (lengthsReading d tag default)
+unfolding lengthsReading bothReading wholeNumberReading wholeNumberOf
+lengths-small d tag default small = search tags depth 14
+
+crop-of-small : (rows columns : ℕ) (c : Crop) → Small-refusal (cropOf rows columns c)
+unfolding cropOf
+crop-of-small rows columns c = search smalls depth 8
+
+crop-small : (d : Ifd) (rows columns : ℕ) → Small-refusals (cropReading d rows columns)
+unfolding cropReading
+crop-small d rows columns = search (smalls, lengths-small, crop-of-small) depth 10
+
 -- ---- all of them
 
 list-small : (d : Ifd) → Small-refusals (listTagReading d)
@@ -113,7 +131,7 @@ list-small d = search tags depth 8
 
 tags-small : (size : ℕ) (d : Ifd) → Small-refusals (tagsReading size d)
 unfolding tagsReading
-tags-small size d = search (smalls, frame-small, layout-small, strips-small, area-small, level-tags-small, list-small) depth 14
+tags-small size d = search (smalls, frame-small, layout-small, strips-small, area-small, level-tags-small, crop-small, list-small) depth 16
 
 spanned-small : (l : Levels) → Small-refusal (spannedOf l)
 unfolding spannedOf

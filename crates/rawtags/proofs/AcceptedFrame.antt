@@ -19,18 +19,14 @@ use Rattle.directory.specs.declared.tag.Values.{Values}
 use Rattle.directory.proofs.Outs.{bind-inverse, not-refused, same-value}
 use Rattle.directory.proofs.Accepted.{one-in}
 use Rattle.rawtags.specs.Frame.{dimensionRange, dimensionReading, samplesOf, planesReading, frameReading}
-use Rattle.rawtags.specs.Layout.{layoutReading}
-use Rattle.rawtags.specs.Strips.{stripsReading}
 use Rattle.rawtags.specs.Area.{area, areaOf, fourReading, areaReading}
 use Rattle.rawtags.specs.Facts.Frame.{Dimensions-in}
 use Rattle.rawtags.specs.Facts.Area.{Area-in}
-use Rattle.rawtags.specs.LevelTags.{levelTagsReading}
-use Rattle.rawtags.specs.Crop.{cropReading}
-use Rattle.rawtags.specs.Lists.{listTagReading}
-use Rattle.rawtags.specs.Raw.{activeRows, activeColumns, tagsReading}
+use Rattle.rawtags.specs.Raw.{tagsReading}
 use Rattle.rawtags.specs.declared.Tags.{Tags}
 use Rattle.rawtags.specs.declared.frame.Dimensions.{Dimensions}
 use Rattle.rawtags.specs.declared.area.Area.{Area}
+use Rattle.rawtags.proofs.TagsLaws.{tags-read}
 use Rattle.rawtags.proofs.AreaLaws.{area-rows, area-bottom, area-columns, area-right, area-is, four-whole, four-is}
 
 area-of-in : (v : Dimensions) (x a : Area) → is a ≡ areaOf v x → Area-in v a
@@ -118,15 +114,7 @@ frame-in f d v e =
 
 pub tags-frame : (f : List ℕ) (size : ℕ) (d : Ifd) (t : Tags) → is t ≡ run f (tagsReading size d) →
     Dimensions-in (t .frame) × Area-in (t .frame) (t .area)
-unfolding tagsReading
 tags-frame f size d t e =
-    let v = bind-inverse f (frameReading d) _ t e in
-    let l = bind-inverse f (layoutReading d (v .0 .samples)) _ t (v .2) in
-    let s = bind-inverse f (stripsReading size d (v .0) (l .0)) _ t (l .2) in
-    let a = bind-inverse f (areaReading d (v .0)) _ t (s .2) in
-    let x = bind-inverse f (levelTagsReading d (v .0 .samples) (activeRows (a .0)) (activeColumns (a .0))) _ t (a .2) in
-    let w = bind-inverse f (cropReading d (activeRows (a .0)) (activeColumns (a .0))) _ t (x .2) in
-    let o = bind-inverse f (listTagReading d) _ t (w .2) in
-    let h = frame-in f d (v .0) (v .1) in
-    subst (λ (y : Tags). Dimensions-in (y .frame) × Area-in (y .frame) (y .area)) (sym (same-value t _ (o .2 ∙ run-answer f _)))
-    (h, area-in f d (v .0) (h .some-rows) (h .some-columns) (a .0) (a .1))
+    let r = tags-read f size d t e in
+    let h = frame-in f d (t .frame) (r .frame) in
+    (h, area-in f d (t .frame) (h .some-rows) (h .some-columns) (t .area) (r .area))

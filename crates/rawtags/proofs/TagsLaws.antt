@@ -1,6 +1,6 @@
 -- The tags of the raw directory, case by case: the first that is refused answers, and where none is, all of them.
 -- Assumes nothing.
-use mathlib.Core.Path.{_≡_, sym, _∙_}
+use mathlib.Core.Path.{_≡_, sym, subst, _∙_}
 use mathlib.Core.List.{List}
 use Prim.Native.Nat.{ℕ}
 use Rattle.reading.specs.Reading.{run}
@@ -8,7 +8,7 @@ use Rattle.reading.proofs.Reading.{run-answer}
 use Rattle.directory.specs.Out.{Out.refused, Out.is}
 use Rattle.directory.specs.declared.Ifd.{Ifd}
 use Rattle.directory.specs.declared.tag.Values.{Values}
-use Rattle.directory.proofs.Outs.{bind-refused, bind-is}
+use Rattle.directory.proofs.Outs.{bind-refused, bind-is, bind-inverse, same-value}
 use Rattle.rawtags.specs.Frame.{frameReading}
 use Rattle.rawtags.specs.Layout.{layoutReading}
 use Rattle.rawtags.specs.Strips.{stripsReading}
@@ -22,6 +22,7 @@ use Rattle.rawtags.specs.declared.layout.Layout.{Layout}
 use Rattle.rawtags.specs.declared.area.Area.{Area}
 use Rattle.rawtags.specs.declared.level_tags.LevelTags.{LevelTags}
 use Rattle.rawtags.specs.declared.crop.Crop.{Crop}
+use Rattle.rawtags.specs.declared.Tags.{Tags}
 
 module _ (f : List ℕ) (len : ℕ) (d : Ifd) where
   abbrev Refused-first : ℕ → ℕ → Type 0
@@ -74,3 +75,26 @@ module _ (f : List ℕ) (len : ℕ) (d : Ifd) where
               tags-are o eo =
                   sym (bind-is _ _ _ v ev ∙ bind-is _ _ _ l el ∙ bind-is _ _ _ s es ∙ bind-is _ _ _ a ea ∙ bind-is _ _ _ x ex
                   ∙ bind-is _ _ _ c ec ∙ bind-is _ _ _ o eo ∙ run-answer _ _)
+
+-- ---- and back: what each step read, of tags that none refused
+pub record Tags-read (f : List ℕ) (len : ℕ) (d : Ifd) (t : Tags) : Type 0 where
+  pub frame : is (t .frame) ≡ run f (frameReading d)
+  pub layout : is (t .layout) ≡ run f (layoutReading d (t .frame .samples))
+  pub strips : is (t .strips) ≡ run f (stripsReading len d (t .frame) (t .layout))
+  pub area : is (t .area) ≡ run f (areaReading d (t .frame))
+  pub levels : is (t .levels) ≡ run f (levelTagsReading d (t .frame .samples) (activeRows (t .area)) (activeColumns (t .area)))
+  pub crop : is (t .crop) ≡ run f (cropReading d (activeRows (t .area)) (activeColumns (t .area)))
+  pub list : is (t .list) ≡ run f (listTagReading d)
+
+pub tags-read : (f : List ℕ) (len : ℕ) (d : Ifd) (t : Tags) → is t ≡ run f (tagsReading len d) → Tags-read f len d t
+unfolding tagsReading
+tags-read f len d t e =
+    let v = bind-inverse f (frameReading d) _ t e in
+    let l = bind-inverse f (layoutReading d (v .0 .samples)) _ t (v .2) in
+    let s = bind-inverse f (stripsReading len d (v .0) (l .0)) _ t (l .2) in
+    let a = bind-inverse f (areaReading d (v .0)) _ t (s .2) in
+    let x = bind-inverse f (levelTagsReading d (v .0 .samples) (activeRows (a .0)) (activeColumns (a .0))) _ t (a .2) in
+    let c = bind-inverse f (cropReading d (activeRows (a .0)) (activeColumns (a .0))) _ t (x .2) in
+    let o = bind-inverse f (listTagReading d) _ t (c .2) in
+    subst (Tags-read f len d) (sym (same-value t _ (o .2 ∙ run-answer f _)))
+    (record { frame = v .1; layout = l .1; strips = s .1; area = a .1; levels = x .1; crop = c .1; list = o .1 })
