@@ -16,5 +16,6 @@ pub card-viewed : (f : List ℕ) (v : View) → Viewed f v →
       samples = v .size .samples;
       kept = v .counts .kept;
       skipped = v .counts .skipped;
+      crop = v .picture .raw .tags .crop;
     } ≡ cardCall f
 card-viewed f v h = rw (← h .accepted, h .picture, h .size, h .kept, h .skipped) refl

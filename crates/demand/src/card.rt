@@ -4,8 +4,9 @@ ghost use Rattle.demand.specs.Card.{cardCall};
 ghost use Rattle.demand.specs.Demand.{Meets-demand-3};
 ghost use Rattle.demand.specs.Accuracy.{Has-accurate-levels};
 use develop::Opening;
+use rawtags::crop::Crop;
 
-// Document 01's number, detail and five values.
+// Document 01's number, detail and five values, and document 02's crop.
 pub struct CardAnswer {
     pub number: usize,
     pub detail: usize,
@@ -14,6 +15,7 @@ pub struct CardAnswer {
     pub samples: usize,
     pub kept: usize,
     pub skipped: usize,
+    pub crop: Crop,
 }
 
 pub fn card(file: &[u8]) -> CardAnswer
@@ -30,6 +32,12 @@ pub fn card(file: &[u8]) -> CardAnswer
             samples: 0,
             kept: 0,
             skipped: 0,
+            crop: Crop {
+                left: 0,
+                top: 0,
+                columns: 0,
+                rows: 0,
+            },
         },
         Opening::Is(view) => CardAnswer {
             number: 0,
@@ -39,6 +47,7 @@ pub fn card(file: &[u8]) -> CardAnswer
             samples: view.size.samples,
             kept: view.counts.kept,
             skipped: view.counts.skipped,
+            crop: view.picture.raw.tags.crop,
         },
     }
 }

@@ -12,9 +12,9 @@ use develop::spot;
 use develop::window;
 use half::half_window;
 
-// Number, detail, active rows, active columns, samples, opcodes kept, opcodes skipped.
+// Number, detail, active rows, active columns, samples, opcodes kept, opcodes skipped, crop left, crop top, crop columns, crop rows.
 #[no_mangle]
-pub extern "C" fn dng_card(file: &[u8], numbers: &mut [u64; 7])
+pub extern "C" fn dng_card(file: &[u8], numbers: &mut [u64; 11])
     ensures { λ _. ⌜ now (numbers .exit) ≡ numbersOf (cardCall (now (file .entry))) ⌝ }
 {
     let answer = card::card(file);
@@ -26,6 +26,10 @@ pub extern "C" fn dng_card(file: &[u8], numbers: &mut [u64; 7])
         answer.samples as u64,
         answer.kept as u64,
         answer.skipped as u64,
+        answer.crop.left as u64,
+        answer.crop.top as u64,
+        answer.crop.columns as u64,
+        answer.crop.rows as u64,
     ];
 }
 
