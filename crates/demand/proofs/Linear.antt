@@ -94,6 +94,7 @@ found =
       strips = record { place = 66; kind = entryKind.Short; size = 2; count = 1 };
       area = area 0 0 1 2;
       levels = levelTags noValues;
+      crop = record { left = 0; top = 0; columns = 2; rows = 1 };
       list = noValues;
     }
 

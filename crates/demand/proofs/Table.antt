@@ -41,6 +41,7 @@ found =
       strips = record { place = 66; kind = entryKind.Short; size = 2; count = 1 };
       area = area 0 0 1 2;
       levels = levelTags (record { place = 102; kind = entryKind.Short; size = 2; count = 2 });
+      crop = record { left = 0; top = 0; columns = 2; rows = 1 };
       list = noValues;
     }
 

@@ -37,6 +37,8 @@ use Rattle.rawtags.specs.Repeat.{pairReading, repeatReading}
 use Rattle.rawtags.specs.Black.{kindFor, blacksTest, blackReading, deltaReading}
 use Rattle.rawtags.specs.White.{tableReading, whiteReading}
 use Rattle.rawtags.specs.LevelTags.{levelTagsReading}
+use Rattle.rawtags.specs.Whole.{wholeNumberOf, wholeNumberReading, bothReading, lengthsReading}
+use Rattle.rawtags.specs.Crop.{cropOf, cropReading}
 use Rattle.rawtags.specs.Lists.{listTagReading}
 use Rattle.rawtags.specs.Raw.{tagsReading}
 use Rattle.raw.specs.Stored.{Stored, numbersReading, blacksReading, whitesReading, levelsReading, storedReading}
@@ -116,6 +118,7 @@ found =
       strips = record { place = 66; kind = entryKind.Short; size = 2; count = 1 };
       area = area 0 1 2 4;
       levels = linear.levelTags noValues;
+      crop = record { left = 0; top = 0; columns = 3; rows = 2 };
       list = record { place = 256; kind = entryKind.Undefined; size = 1; count = 138 };
     }
 
@@ -162,7 +165,7 @@ unfolding trace run andThen pick numberAt numberOf littleOf bigOf fractionOf val
     frameReading bytesPer depthFrom depthReading onlyOne formatReading stripRowsReading layoutReading stripFrom stripsReading areaOf
     fourReading
     areaReading pairReading repeatReading kindFor blacksTest blackReading deltaReading tableReading whiteReading levelTagsReading
-    listTagReading
+    wholeNumberOf wholeNumberReading bothReading lengthsReading cropOf cropReading listTagReading
     tagsReading numbersReading blacksReading whitesReading levelsReading spannedOf rawReading frontReading
 fronts = (record { answer = refl; unread = refl }, record { answer = refl; unread = refl }, λ t u. record { answer = refl; unread = refl })
 

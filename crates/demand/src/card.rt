@@ -39,15 +39,19 @@ pub fn card(file: &[u8]) -> CardAnswer
                 rows: 0,
             },
         },
-        Opening::Is(view) => CardAnswer {
-            number: 0,
-            detail: 0,
-            rows: view.size.rows,
-            columns: view.size.columns,
-            samples: view.size.samples,
-            kept: view.counts.kept,
-            skipped: view.counts.skipped,
-            crop: view.picture.raw.tags.crop,
-        },
+        Opening::Is(view) => {
+            let tags = view.picture.raw.tags;
+            let crop = tags.crop;
+            CardAnswer {
+                number: 0,
+                detail: 0,
+                rows: view.size.rows,
+                columns: view.size.columns,
+                samples: view.size.samples,
+                kept: view.counts.kept,
+                skipped: view.counts.skipped,
+                crop,
+            }
+        }
     }
 }

@@ -1,10 +1,10 @@
--- The lines of a window's values are those of the frame's rows.
+-- The lines of a window's values are those of the crop's rows.
 -- Assumes nothing.
 use mathlib.Core.Path.{_≡_, refl, sym, ap, _∙_, subst}
 use mathlib.Core.Bool.{Bool, true}
-use mathlib.Core.List.{List, [], _∷_, _++_, append-nil, append-assoc}
+use mathlib.Core.List.{List, [], _∷_, _++_, map, append-nil, append-assoc}
 use Prim.Native.Nat.{ℕ, zero, suc, _+_, _-_, _*_, _/_, _≤_, _<_}
-use native.Mathlib.Nat.{zero-add, sub-zero, zero-mul, one-mul, suc-mul, mul-assoc, mul-le-mul, mul-le-mul-right}
+use native.Mathlib.Nat.{zero-add, zero-mul, one-mul, suc-mul, mul-assoc, mul-le-mul, mul-le-mul-right}
 use native.Mathlib.Nat.{le-div-iff-mul-le, div-mul-le-self}
 use native.Mathlib.Omega.{arith}
 use lib.Ieee.{Float, nan}
@@ -15,20 +15,24 @@ use Rattle.reading.specs.Reading.{pick}
 use Rattle.reading.proofs.Reading.{pick-yes, pick-no}
 use Rattle.directory.specs.Out.{Out, Out.refused, Out.is}
 use Rattle.levels.specs.Run.{runOf}
-use Rattle.levels.proofs.Runs.{length-run, run-at}
+use Rattle.levels.proofs.Runs.{length-run, run-at, run-same, run-over}
 use Rattle.levels.proofs.Unit.{unit}
 use Rattle.opcodes.specs.Frame.{Frame, framed, standing}
 use Rattle.opcodes.specs.declared.grid.Size.{Size}
 use Rattle.rows.specs.Facts.Part.{All-in-unit, Sized-in}
-use Rattle.develop.specs.Calls.{Opened, opened, sizeOf, frameOf, joined, valuesOf, Window, windowWith, windowOf, windowCall, aloneIn}
+use Rattle.rawtags.specs.Facts.Crop.{Crop-in}
+use Rattle.rawtags.specs.Raw.{activeRows, activeColumns}
+use Rattle.rawtags.specs.declared.crop.Crop.{Crop}
+use Rattle.raw.specs.declared.front.Picture.{Picture}
+use Rattle.develop.specs.Calls.{Opened, opened, sizeOf, tagsOf, frameOf, joined, valuesOf, Window, windowWith, windowOf, windowCall, aloneIn}
 use Rattle.develop.specs.Facts.View.{Viewed}
 use Rattle.develop.specs.declared.View.{View}
 use Rattle.develop.specs.declared.Opening.the-variants as opening
 use Rattle.develop.specs.declared.Answer.{Answer}
 use Rattle.develop.proofs.Answers.{frame-alone, developed-alone, values-same, alone-is-unit}
 use Rattle.develop.proofs.Called.{spansRows, spansColumns, fault-none, filled-none}
-use Rattle.develop.proofs.Windows.{viewed-sized}
-use Rattle.listing.specs.Text.{valuesText, rowsText, refusedText, frameText, listedOf, headText, bodyText, listingOf}
+use Rattle.listing.specs.Text.{valuesText, rowsText, refusedText, frameText, cropSize, croppedFrame, listedOf, headText, bodyText}
+use Rattle.listing.specs.Text.{listingOf}
 use Rattle.listing.specs.Facts.Body.{linesText, Listed, rowsFrom, OpenedIs, RefusedIs, Headed}
 use Rattle.listing.specs.declared.First.{First}
 use Rattle.listing.proofs.Lines.{line-length, refused-short, frame-short}
@@ -62,6 +66,23 @@ run-drop {A} g (suc t) i (suc n) =
     let a : i + 1 + t ≡ i + suc t = omega arith in
     let b : n - t ≡ suc n - suc t = omega arith in
     run-drop g t (i + 1) n ∙ ap (λ (k : ℕ). runOf g 1 k (n - t)) a ∙ ap (λ (k : ℕ). runOf g 1 (i + suc t) k) b
+
+run-take : {A : Type 0} (g : ℕ → A) (i n m : ℕ) → n ≤ m → take n (runOf g 1 i m) ≡ runOf g 1 i n
+unfolding runOf
+run-take g i zero m h = refl
+run-take g i (suc n) zero h = absurd (omega arith)
+run-take {A} g i (suc n) (suc m) h = ap (λ (xs : List A). g i ∷ xs) (run-take g (i + 1) n m (omega arith))
+
+-- n from place a on
+run-part : {A : Type 0} (g : ℕ → A) (a n m : ℕ) → a + n ≤ m → take n (drop a (runOf g 1 0 m)) ≡ runOf g 1 a n
+run-part {A} g a n m h =
+    ap (λ (xs : List A). take n xs) (run-drop g a 0 m) ∙ run-take g (0 + a) n (m - a) (omega arith)
+    ∙ ap (λ (k : ℕ). runOf g 1 k n) (zero-add a)
+
+run-map : {A B : Type 0} (k : A → B) (g : ℕ → A) (i n : ℕ) → map k (runOf g 1 i n) ≡ runOf (λ (j : ℕ). k (g j)) 1 i n
+unfolding runOf
+run-map k g i zero = refl
+run-map {A} {B} k g i (suc n) = ap (λ (xs : List B). k (g i) ∷ xs) (run-map k g (i + 1) n)
 
 joined-length : {A : Type 0} (g : ℕ → List A) (m : ℕ) → ((r : ℕ) → length (g r) ≡ m) → (i n : ℕ) → length (joined (runOf g 1 i n)) ≡ n * m
 unfolding runOf
@@ -104,44 +125,60 @@ module _ (row : ℕ → List (List Float)) (m : ℕ) (e : (r : ℕ) → length (
       ∙ omega (arith, e t, line-length first k, rows-length s (t + 1) n, suc-mul n (17 * m))
 
 -- ---- an accepted file
-module _ (f : List ℕ) (o : Opened) where
-  abbrev z : Size
-  z = sizeOf (o .picture)
+abbrev CropOf : Picture → Type 0
+CropOf p = Crop-in (activeRows (p .raw .tags .area)) (activeColumns (p .raw .tags .area)) (p .raw .tags .crop)
+
+module _ (f : List ℕ) (o : Opened) (inside : CropOf (o .picture)) where
+  abbrev c : Crop
+  c = tagsOf o .crop
+
+  abbrev n : ℕ
+  n = tagsOf o .frame .samples
+
+  abbrev width : ℕ
+  width = c .columns * n
 
   abbrev row : ℕ → List (List Float)
-  row r = runOf (λ (c : ℕ). runOf (λ (p : ℕ). aloneIn f o r c p) 1 0 (z .samples)) 1 0 (z .columns)
+  row r = runOf (λ (x : ℕ). runOf (λ (p : ℕ). aloneIn f o r x p) 1 0 n) 1 (c .left) (c .columns)
 
-  row-length : (r : ℕ) → length (joined (row r)) ≡ z .columns * z .samples
-  row-length r = joined-length _ (z .samples) (λ c. length-run _ 1 0 (z .samples)) 0 (z .columns)
+  row-length : (r : ℕ) → length (joined (row r)) ≡ width
+  row-length r = joined-length _ n (λ x. length-run _ 1 0 n) (c .left) (c .columns)
 
-  frame-from : (t : ℕ) → drop t (frameOf f o) ≡ runOf row 1 t (z .rows - t)
+  crop-rows : croppedFrame c (frameOf f o) ≡ runOf row 1 (c .top) (c .rows)
   unfolding framed
-  frame-from t =
-      ap (λ (q : Frame). drop t q) (frame-alone f o) ∙ run-drop row t 0 (z .rows) ∙ ap (λ (k : ℕ). runOf row 1 k (z .rows - t)) (zero-add t)
+  crop-rows =
+      let whole : ℕ → List (List Float) =
+      λ (r : ℕ). runOf (λ (x : ℕ). runOf (λ (p : ℕ). aloneIn f o r x p) 1 0 n) 1 0 (activeColumns (tagsOf o .area)) in
+      let columns : List (List Float) → List (List Float) = λ (xs : List (List Float)). take (c .columns) (drop (c .left) xs) in
+      ap (croppedFrame c) (frame-alone f o)
+      ∙ ap (map columns) (run-part whole (c .top) (c .rows) (activeRows (tagsOf o .area)) (inside .bottom))
+      ∙ run-map columns whole (c .top) (c .rows)
+      ∙ run-same _ row 1 1 (c .top) (c .top) (c .rows) (λ i h. run-part _ (c .left) (c .columns) (activeColumns (tagsOf o .area)) (inside .right))
+
+  rows-from : (t : ℕ) → drop t (croppedFrame c (frameOf f o)) ≡ runOf row 1 (c .top + t) (c .rows - t)
+  rows-from t = ap (λ (q : Frame). drop t q) crop-rows ∙ run-drop row t (c .top) (c .rows)
 
   -- the lines of a block of rows and those of the rows after it
   pub body-next :
-      (t h : ℕ) → t + h ≤ z .rows → (xs : List Float) → xs ≡ valuesOf (aloneIn f o) t 0 h (z .columns) (z .samples)
-      → linesText (z .columns * z .samples) h xs ++ bodyText f (t + h) (is o) ≡ bodyText f t (is o)
+      (t h : ℕ) → t + h ≤ c .rows → (xs : List Float) → xs ≡ valuesOf (aloneIn f o) (c .top + t) (c .left) h (c .columns) n
+      → linesText width h xs ++ bodyText f (t + h) (is o) ≡ bodyText f t (is o)
   body-next t h b xs e =
-      let n : h + (z .rows - (t + h)) ≡ z .rows - t = omega arith in
-      let m = z .columns * z .samples in
-      ap (λ (ys : List Float). linesText m h ys ++ bodyText f (t + h) (is o)) e
-      ∙ ap (λ (q : Frame). linesText m h (valuesOf (aloneIn f o) t 0 h (z .columns) (z .samples)) ++ rowsText q) (frame-from (t + h))
-      ∙ lines-rows row m row-length h t (z .rows - (t + h))
-      ∙ ap (λ (k : ℕ). rowsText (runOf row 1 t k)) n
-      ∙ ap rowsText (sym (frame-from t))
+      let k : h + (c .rows - (t + h)) ≡ c .rows - t = omega arith in
+      let j : c .top + (t + h) ≡ c .top + t + h = omega arith in
+      let lines : List ℕ = linesText width h (valuesOf (aloneIn f o) (c .top + t) (c .left) h (c .columns) n) in
+      ap (λ (ys : List Float). linesText width h ys ++ bodyText f (t + h) (is o)) e
+      ∙ ap (λ (q : Frame). lines ++ rowsText q) (rows-from (t + h))
+      ∙ ap (λ (i : ℕ). lines ++ rowsText (runOf row 1 i (c .rows - (t + h)))) j
+      ∙ lines-rows row width row-length h (c .top + t) (c .rows - (t + h))
+      ∙ ap (λ (i : ℕ). rowsText (runOf row 1 (c .top + t) i)) k
+      ∙ ap rowsText (sym (rows-from t))
 
-  pub body-end : (t : ℕ) → z .rows ≤ t → bodyText f t (is o) ≡ []
-  unfolding runOf
-  body-end t b =
-      let n : z .rows - t ≡ 0 = omega arith in
-      ap rowsText (frame-from t) ∙ ap (λ (k : ℕ). rowsText (runOf row 1 t k)) n
+  pub body-end : (t : ℕ) → c .rows ≤ t → bodyText f t (is o) ≡ []
+  body-end t b = ap rowsText (rows-from t ∙ run-over row 1 (c .top + t) (c .rows) t b)
 
-  pub body-length : 1 ≤ z .columns * z .samples → length (bodyText f 0 (is o)) ≡ z .rows * (17 * (z .columns * z .samples))
+  pub body-length : 1 ≤ width → length (bodyText f 0 (is o)) ≡ c .rows * (17 * width)
   body-length s =
-      ap (λ (q : Frame). length (rowsText q)) (frame-from 0) ∙ rows-length row (z .columns * z .samples) row-length s 0 (z .rows - 0)
-      ∙ ap (λ (k : ℕ). k * (17 * (z .columns * z .samples))) (sub-zero (z .rows))
+      ap (λ (q : Frame). length (rowsText q)) crop-rows ∙ rows-length row width row-length s (c .top) (c .rows)
 
 -- ---- numbers from 0 to 1
 units-append : (xs ys : List Float) → All-in-unit xs → All-in-unit ys → All-in-unit (xs ++ ys)
@@ -163,50 +200,72 @@ pub values-units : (f : List ℕ) (o : Opened) (t l h w n : ℕ) → All-in-unit
 values-units f o t l h w n = units-joined _ (λ r. units-joined _ (λ c. units-run _ (alone-is-unit f o r c) 0 n) l w) t h
 
 -- ---- what the window's promise says of a block of rows
-module _ (f : List ℕ) (z : Size) (q : Listed f z) (t h : ℕ) (old : List Float) where
-  abbrev file : Opened
-  file = q .file
+module _ (f : List ℕ) (t h : ℕ) (old new : List Float) (a : Answer) where
+  -- its values are numbers from 0 to 1, and its lines come next in the listing
+  abbrev pub Block : Picture → Type 0
+  Block p =
+      let c = p .raw .tags .crop in
+      let m = c .columns * p .raw .tags .frame .samples in
+      1 ≤ h → t + h ≤ c .rows → length old ≡ h * m → windowWith a new ≡ windowCall f (c .top + t) (c .left) h (c .columns) old →
+      All-in-unit new × (linesText m h new ++ bodyText f (t + h) (listedOf f) ≡ bodyText f t (listedOf f))
 
-  pub block-values :
-      1 ≤ h → t + h ≤ z .rows → length old ≡ h * (z .columns * z .samples) → (a : Answer) (new : List Float)
-      → windowWith a new ≡ windowCall f t 0 h (z .columns) old →
-      new ≡ valuesOf (aloneIn f file) t 0 h (sizeOf (file .picture) .columns) (sizeOf (file .picture) .samples)
-  block-values s b n a new e =
-      let zf : Size = sizeOf (file .picture) in
-      let zr : z .rows ≡ zf .rows = ap (λ (y : Size). y .rows) (q .size) in
-      let zc : z .columns ≡ zf .columns = ap (λ (y : Size). y .columns) (q .size) in
-      let zs : z .samples ≡ zf .samples = ap (λ (y : Size). y .samples) (q .size) in
-      let x : ℕ → ℕ → ℕ → Float = standing (frameOf f file) in
-      let r : spansRows zf t 0 h (zf .columns) ≡ true = rw (le-leb 1 h s, le-leb (t + h) (zf .rows) (omega arith)) refl in
-      let c : spansColumns zf t 0 h (zf .columns) ≡ true = rw
-      (le-leb 1 (zf .columns) (omega (arith, q .some-columns)), le-leb (0 + zf .columns) (zf .columns) (omega arith)) refl in
-      let m : length old ≡ h * zf .columns * zf .samples = n ∙ ap (λ (y : Size). h * (y .columns * y .samples)) (q .size)
-      ∙ sym (mul-assoc h (zf .columns) (zf .samples)) in
-      let g = fault-none zf t 0 h (zf .columns) (zf .samples) (length old) r c m in
-      let d : windowWith a new ≡ windowWith (record { number = 0; detail = 0 }) (valuesOf x t 0 h (zf .columns) (zf .samples)) =
-      e ∙ ap (λ (y : Size). windowOf f t 0 h (y .columns) old (opened f)) (q .size)
-      ∙ ap (windowOf f t 0 h (zf .columns) old) (sym (q .accepted))
-      ∙ sym (filled-none zf t 0 h (zf .columns) (zf .samples) old x (valuesOf x t 0 h (zf .columns) (zf .samples)) g refl) in
-      ap (λ (w : Window). w .slice) d
-      ∙ values-same _ _ t 0 h (zf .columns) (zf .samples) (λ i j k u v y w l.
-      developed-alone f file i j k (record { row = omega arith; column = omega arith; plane = l }))
+  module _ (o : Opened) (inside : CropOf (o .picture)) (accepted : is o ≡ opened f) where
+    abbrev w : Crop
+    w = tagsOf o .crop
 
-  pub block-units :
-      1 ≤ h → t + h ≤ z .rows → length old ≡ h * (z .columns * z .samples) → (a : Answer) (new : List Float)
-      → windowWith a new ≡ windowCall f t 0 h (z .columns) old → All-in-unit new
-  block-units s b n a new e = subst All-in-unit (sym (block-values s b n a new e)) (values-units f file t 0 h _ _)
+    abbrev z : Size
+    z = sizeOf (o .picture)
 
-  pub block-body :
-      1 ≤ h → t + h ≤ z .rows → length old ≡ h * (z .columns * z .samples) → (a : Answer) (new : List Float)
-      → windowWith a new ≡ windowCall f t 0 h (z .columns) old
-      → linesText (z .columns * z .samples) h new ++ bodyText f (t + h) (listedOf f) ≡ bodyText f t (listedOf f)
-  block-body s b n a new e =
-      let k : t + h ≤ sizeOf (file .picture) .rows = subst (λ (y : Size). t + h ≤ y .rows) (q .size) b in
-      ap (λ (y : Size). linesText (y .columns * y .samples) h new ++ bodyText f (t + h) (listedOf f)) (q .size)
-      ∙ ap (λ (y : Out Opened). linesText (sizeOf (file .picture) .columns * sizeOf (file .picture) .samples) h new ++ bodyText f (t + h) y)
-      (sym (q .listed))
-      ∙ body-next f file t h k new (block-values s b n a new e)
-      ∙ ap (λ (y : Out Opened). bodyText f t y) (q .listed)
+    block-values :
+        1 ≤ h → t + h ≤ w .rows → length old ≡ h * (w .columns * z .samples) →
+        windowWith a new ≡ windowCall f (w .top + t) (w .left) h (w .columns) old →
+        new ≡ valuesOf (aloneIn f o) (w .top + t) (w .left) h (w .columns) (z .samples)
+    block-values s b l e =
+        let x : ℕ → ℕ → ℕ → Float = standing (frameOf f o) in
+        let r : spansRows z (w .top + t) (w .left) h (w .columns) ≡ true =
+        rw (le-leb 1 h s, le-leb (w .top + t + h) (z .rows) (omega (arith, inside .bottom))) refl in
+        let y : spansColumns z (w .top + t) (w .left) h (w .columns) ≡ true =
+        rw (le-leb 1 (w .columns) (inside .some-columns), le-leb (w .left + w .columns) (z .columns) (inside .right)) refl in
+        let m : length old ≡ h * w .columns * z .samples = l ∙ sym (mul-assoc h (w .columns) (z .samples)) in
+        let g = fault-none z (w .top + t) (w .left) h (w .columns) (z .samples) (length old) r y m in
+        let d = e ∙ ap (windowOf f (w .top + t) (w .left) h (w .columns) old) (sym accepted)
+        ∙ sym (filled-none z (w .top + t) (w .left) h (w .columns) (z .samples) old x _ g refl) in
+        ap (λ (y : Window). y .slice) d
+        ∙ values-same _ _ (w .top + t) (w .left) h (w .columns) (z .samples) (λ i j k u₁ u₂ u₃ u₄ l.
+        developed-alone f o i j k (record { row = omega (arith, inside .bottom); column = omega (arith, inside .right); plane = l }))
+
+    block-of : is o ≡ listedOf f → Block (o .picture)
+    block-of listed s b l e =
+        let v = block-values s b l e in (
+          subst All-in-unit (sym v) (values-units f o (w .top + t) (w .left) h (w .columns) (z .samples)),
+          ap (λ (y : Out Opened). linesText (w .columns * z .samples) h new ++ bodyText f (t + h) y) (sym listed)
+              ∙ body-next f o inside t h b new v ∙ ap (λ (y : Out Opened). bodyText f t y) listed,
+        )
+
+-- ---- the crop of a file that was opened
+pub crop-inside : (f : List ℕ) (v : View) → Viewed f v → CropOf (v .picture)
+crop-inside f v q = q .picture-in .raw .tags .crop
+
+pub crop-sized : (f : List ℕ) (v : View) → Viewed f v → Sized-in (cropSize (v .picture))
+crop-sized f v q =
+    let t = q .picture-in .raw .tags in
+    record {
+      rows = omega (arith, t .crop .bottom, t .area .bottom, t .frame .rows);
+      columns = omega (arith, t .crop .right, t .area .right, t .frame .columns);
+      some = t .frame .some-samples;
+      few = t .frame .samples;
+    }
+
+module _ (f : List ℕ) (v : View) (q : Listed f v) where
+  abbrev o : Opened
+  o = q .viewed .file
+
+  file-inside : CropOf (o .picture)
+  file-inside = subst CropOf (sym (q .viewed .picture)) (crop-inside f v (q .viewed))
+
+  pub block-listed : (t h : ℕ) (old new : List Float) (a : Answer) → Block f t h old new a (v .picture)
+  block-listed t h old new a =
+      subst (Block f t h old new a) (q .viewed .picture) (block-of f t h old new a o file-inside (q .viewed .accepted) (q .listed))
 
 -- ---- the file that is listed
 pub listed-over : (f : List ℕ) → 65536 < length f → refused 1 0 ≡ listedOf f
@@ -217,24 +276,14 @@ pub listed-in : (f : List ℕ) → length f ≤ 65536 → opened f ≡ listedOf 
 unfolding listedOf
 listed-in f h = sym (ap (λ (b : Bool). pick b (opened f) (refused 1 0)) (le-leb (length f) 65536 h) ∙ pick-yes (opened f) (refused 1 0))
 
-pub viewed-listed : (f : List ℕ) (v : View) → Viewed f v → length f ≤ 65536 → Listed f (v .size)
-viewed-listed f v q h =
-    let s : v .size ≡ sizeOf (v .picture) = q .size in
-    let c : v .size .columns ≡ sizeOf (v .picture) .columns = ap (λ (y : Size). y .columns) s in
-    record {
-      file = q .file;
-      accepted = q .accepted;
-      listed = q .accepted ∙ listed-in f h;
-      size = s ∙ ap sizeOf (sym (q .picture));
-      sized = viewed-sized f v q;
-      some-columns = omega (arith, c, q .picture-in .raw .tags .area .columns);
-    }
+pub viewed-listed : (f : List ℕ) (v : View) → Viewed f v → length f ≤ 65536 → Listed f v
+viewed-listed f v q h = record { viewed = q; listed = q .accepted ∙ listed-in f h }
 
--- no row comes behind the last one
-pub rows-none : (f : List ℕ) (z : Size) → Listed f z → (t : ℕ) → z .rows ≤ t → rowsFrom f t ≡ []
-rows-none f z q t b =
-    let s : sizeOf (q .file .picture) .rows ≤ t = subst (λ (y : Size). y .rows ≤ t) (q .size) b in
-    sym (ap (bodyText f t) (q .listed)) ∙ body-end f (q .file) t s
+-- no row comes behind the crop's last one
+pub rows-none : (f : List ℕ) (v : View) → Listed f v → (t : ℕ) → cropSize (v .picture) .rows ≤ t → rowsFrom f t ≡ []
+rows-none f v q t b =
+    let s = subst (λ (p : Picture). cropSize p .rows ≤ t) (sym (q .viewed .picture)) b in
+    sym (ap (bodyText f t) (q .listed)) ∙ body-end f (q .viewed .file) (file-inside f v q) t s
 
 -- ---- the listing's length is a 64-bit number
 abbrev lengthOf : List ℕ → Out Opened → ℕ
@@ -246,17 +295,18 @@ short-refused f n d e =
     let b : lengthOf f (refused n d) < 18446744073709551616 = omega (arith, a, refused-short n d) in
     subst (λ (o : Out Opened). lengthOf f o < 18446744073709551616) e b
 
-pub short-listed : (f : List ℕ) (z : Size) → Listed f z → length (listingOf f) < 18446744073709551616
-short-listed f z q =
-    let o = q .file in
-    let y = sizeOf (o .picture) in
-    let s : Sized-in y = subst Sized-in (q .size) (q .sized) in
-    let c : 1 ≤ y .columns = subst (λ (x : Size). 1 ≤ x .columns) (q .size) (q .some-columns) in
+pub short-listed : (f : List ℕ) (v : View) → Listed f v → length (listingOf f) < 18446744073709551616
+short-listed f v q =
+    let o = q .viewed .file in
+    let y = cropSize (o .picture) in
+    let s : Sized-in y = subst (λ (p : Picture). Sized-in (cropSize p)) (sym (q .viewed .picture)) (crop-sized f v (q .viewed)) in
+    let inside = file-inside f v q in
     let m = y .columns * y .samples in
     let w : 17 * m ≤ 835584 = omega (arith, width-most y s) in
     let r : y .rows * (17 * m) ≤ 16384 * 835584 = mul-le-mul (s .rows) w in
     let a : lengthOf f (is o) ≡ length (frameText y) + length (bodyText f 0 (is o)) = length-append (frameText y) (bodyText f 0 (is o)) in
-    let b : lengthOf f (is o) < 18446744073709551616 = omega (arith, a, frame-short y, body-length f o (width-some y s c), r) in
+    let l = body-length f o inside (width-some y s (inside .some-columns)) in
+    let b : lengthOf f (is o) < 18446744073709551616 = omega (arith, a, frame-short y, l, r) in
     subst (λ (x : Out Opened). lengthOf f x < 18446744073709551616) (q .listed) b
 
 -- ---- the first line
@@ -266,21 +316,17 @@ module _ (f : List ℕ) where
       record {
         inside = p .0;
         line = p .1 ∙ ap headText e;
-        rows = λ k. absurd (omega (arith, k, p .2));
-        all = sym (ap (bodyText f (h .size .rows)) e);
         short = short-refused f n d e;
-        file = subst (OpenedIs f (h .size)) (sym (p .3)) (p .2);
+        file = subst (OpenedIs f) (sym (p .2)) (sym (ap (bodyText f 0) e));
       }
 
   pub headed-frame :
-      (v : View) (h : First) (text : List ℕ) → Listed f (h .size) → Viewed f v → h .size ≡ v .size → h .opening ≡ opening.Is v
-      → (h .length ≤ length text) × (take (h .length) text ≡ frameText (h .size)) → Headed f h text
-  headed-frame v h text q w sv o p =
+      (v : View) (h : First) (text : List ℕ) → Listed f v → h .opening ≡ opening.Is v
+      → (h .length ≤ length text) × (take (h .length) text ≡ frameText (cropSize (v .picture))) → Headed f h text
+  headed-frame v h text q o p =
       record {
         inside = p .0;
-        line = p .1 ∙ ap frameText (q .size) ∙ ap headText (q .listed);
-        rows = λ k. q;
-        all = rows-none f (h .size) q (h .size .rows) (omega arith);
-        short = short-listed f (h .size) q;
-        file = subst (OpenedIs f (h .size)) (sym o) (sv, subst (Listed f) sv q, w);
+        line = p .1 ∙ ap (λ (x : Picture). frameText (cropSize x)) (sym (q .viewed .picture)) ∙ ap headText (q .listed);
+        short = short-listed f v q;
+        file = subst (OpenedIs f) (sym o) q;
       }

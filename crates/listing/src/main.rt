@@ -1,4 +1,4 @@
-// Document 01's example 11: reads a file from standard input and prints its frame or its refusal.
+// Document 01's example 11: reads a file from standard input and prints its crop or its refusal.
 //
 // No contract can say what the operating system reads or writes: that of `io::write_all` says nothing of the bytes. So
 // `write_piece` alone writes, and its `requires` says which bytes it is handed: those that `listingOf` of the file has behind the
@@ -12,7 +12,7 @@ ghost use lib.Dec.{T};
 ghost use lib.Ieee.{isNan};
 ghost use lib.ListN.{length, take};
 ghost use Rattle.rows.specs.Facts.Part.{All-in-unit, Sized-in};
-ghost use Rattle.listing.specs.Text.{decimalOf, valueText, valuesText, refusedText, frameText, listingOf};
+ghost use Rattle.listing.specs.Text.{decimalOf, valueText, valuesText, refusedText, frameText, cropSize, listingOf};
 ghost use Rattle.listing.specs.Facts.Body.{Puts, LinesIn, linesText, RefusedIs, Headed, Ready, BlockIn, rowsFrom};
 ghost use Rattle.listing.specs.Pieces.{Stands, Remains, Ends};
 use develop::Opening;
@@ -21,6 +21,7 @@ use develop::window;
 use libc::STDIN_FILENO;
 use libc::STDOUT_FILENO;
 use opcodes::grid::Size;
+use raw::front::Picture;
 
 // Puts a word behind the first `at` bytes of a text, and answers where it ends.
 fn put(text: &mut [u8], at: usize, word: &[u8]) -> usize
@@ -109,10 +110,9 @@ fn put_size(text: &mut [u8], size: Size) -> usize
     put(text, d, b"\n")
 }
 
-// A text's length, the size of the frame whose rows follow it, and the file as it was opened.
+// A text's length, and the file as it was opened.
 struct First {
     length: usize,
-    size: Size,
     opening: Opening,
 }
 
@@ -123,11 +123,6 @@ fn refused(text: &mut [u8], number: usize, detail: usize) -> First
 {
     First {
         length: put_refusal(text, number, detail),
-        size: Size {
-            rows: 0,
-            columns: 0,
-            samples: 0,
-        },
         opening: Opening::Refused { number, detail },
     }
 }
@@ -143,27 +138,33 @@ fn put_first(text: &mut [u8], file: &[u8]) -> First
     match develop::open(file) {
         Opening::Refused { number, detail } => refused(text, number, detail),
         Opening::Is(view) => {
-            let size = view.size;
+            let tags = view.picture.raw.tags;
+            let size = Size {
+                rows: tags.crop.rows,
+                columns: tags.crop.columns,
+                samples: tags.frame.samples,
+            };
             First {
                 length: put_size(text, size),
-                size,
                 opening: Opening::Is(view),
             }
         }
     }
 }
 
-// How many rows the block has that begins at `top`: as many as fit.
-fn block(size: Size, top: usize) -> usize
-    requires { ⌜ Sized-in size × (1 ≤ size .columns) × (top < size .rows) ⌝ }
-    ensures { λ r. ⌜ BlockIn size top r ⌝ }
+// How many rows the block has that begins at the crop's row `top`: as many as fit.
+fn block(picture: Picture, top: usize) -> usize
+    requires { ⌜ Sized-in (cropSize picture) × (1 ≤ cropSize picture .columns) × (top < cropSize picture .rows) ⌝ }
+    ensures { λ r. ⌜ BlockIn (cropSize picture) top r ⌝ }
 {
-    let most = 49152 / (size.columns * size.samples);
-    let left = size.rows - top;
+    let tags = picture.raw.tags;
+    let most = 49152 / (tags.crop.columns * tags.frame.samples);
+    let left = tags.crop.rows - top;
     if left < most { left } else { most }
 }
 
-// The lines of `height` rows from `top` on: with the lines of the rows after them, they are the lines of all rows from `top` on.
+// The lines of `height` rows from the crop's row `top` on: with the lines of the rows after them, they are the lines of all rows
+// from `top` on.
 fn put_rows(
     text: &mut [u8],
     values: &mut [f64],
@@ -173,14 +174,24 @@ fn put_rows(
     height: usize,
 ) -> usize
     requires { ⌜ Ready (now file) view (now text) (now values) ⌝ }
-    requires { ⌜ BlockIn (view .size) top height ⌝ }
+    requires { ⌜ BlockIn (cropSize (view .picture)) top height ⌝ }
     ensures { λ r. ⌜ r ≤ length (now (text .exit)) ⌝ }
     ensures { λ r. ⌜ take r (now (text .exit)) ++ rowsFrom (now (file .entry)) (top + height) ≡ rowsFrom (now (file .entry)) top ⌝ }
 {
-    let size = view.size;
-    let width = size.columns * size.samples;
+    let tags = view.picture.raw.tags;
+    let crop = tags.crop;
+    let width = crop.columns * tags.frame.samples;
     let m = height * width;
-    window::opened_window(file, view, top, 0, height, size.columns, &mut values[..m]);
+    let first = crop.top + top;
+    window::opened_window(
+        file,
+        view,
+        first,
+        crop.left,
+        height,
+        crop.columns,
+        &mut values[..m],
+    );
     put_lines(text, &values[..m], height, width)
 }
 
@@ -211,10 +222,11 @@ fn print_rows(
     requires { ⌜ Remains (now file) (now written) (rowsFrom (now file) 0) ⌝ }
     ensures { λ r. ⌜ Ends (now (file .entry)) (now (written .exit)) r ⌝ }
 {
-    let size = view.size;
+    let picture = view.picture;
+    let rows = picture.raw.tags.crop.rows;
     let mut top = 0;
-    while top < size.rows {
-        let height = block(size, top);
+    while top < rows {
+        let height = block(picture, top);
         let n = put_rows(text, values, file, view, top, height);
         if !write_piece(file, written, &text[..n]) {
             return false;

@@ -1,4 +1,4 @@
-use mathlib.Core.Path.{_≡_, sym, ap, _∙_, subst}
+use mathlib.Core.Path.{_≡_, sym, subst}
 use mathlib.Core.Bool.{true}
 use mathlib.Core.List.{List, [], _++_}
 use Prim.Native.Nat.{ℕ}
@@ -91,8 +91,8 @@ print-rows-requires c κs =
     let e = c .before .before .before .before .before .before in
     let g = e .before .before .before .before .before in
     let t = g .before .before in
-    let o = subst (OpenedIs (file g) (g .put-first .result .size)) (opening2 .given .1) (g .put-first .ensures .file) in (
-      (omega (arith, g .put-first .kept .0, t .text-space .ensures), omega (arith, t .before .value-space .ensures), o .1, o .2),
+    let o = subst (OpenedIs (file g)) (opening2 .given .1) (g .put-first .ensures .file) in (
+      (omega (arith, g .put-first .kept .0, t .text-space .ensures), omega (arith, t .before .value-space .ensures), o),
       rows-remain (e .before) (not-false _ (e .if1 .left)),
     )
 
@@ -102,8 +102,7 @@ returns-2 c =
     let g = e .before .before .before .before .before in
     let f = file g in
     let p = g .put-first in
-    let z : p .result .size .rows ≡ 0 = subst (OpenedIs f (p .result .size)) (c .before .opening .given .1) (p .ensures .file) in
-    let none : rowsFrom f 0 ≡ [] = ap (rowsFrom f) (sym z) ∙ p .ensures .all in
+    let none : rowsFrom f 0 ≡ [] = subst (OpenedIs f) (c .before .opening .given .1) (p .ensures .file) in
     ends-whole f _ (subst (Remains f _) none (rows-remain (e .before) (not-false _ (e .if1 .left))))
 
 returns-3 : tie.Need-returns-3

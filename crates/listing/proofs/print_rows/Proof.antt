@@ -8,31 +8,31 @@ use denote.Ref.{now}
 use borrow.Author.Tests.{not-true, not-false}
 use Rattle.listing.specs.Facts.Body.{rowsFrom}
 use Rattle.listing.specs.Pieces.{Remains}
-use Rattle.listing.proofs.Bodies.{rows-none, short-listed}
+use Rattle.listing.proofs.Bodies.{crop-inside, crop-sized, rows-none, short-listed}
 use Rattle.listing.proofs.Pieces.{piece-stands, written-rest, ends-early, ends-whole}
 use Rattle.listing.proofs.print_rows.Statement.{statement}
 use Rattle.listing.proofs.print_rows.Tie as tie
 
 -- behind the bytes that are written, the rows from `top` on are to come
 abbrev Inv-loop : tie.InvT-loop
-Inv-loop text₀ values₀ file view written₀ size top₀ text values written top =
+Inv-loop text₀ values₀ file view written₀ picture rows top₀ text values written top =
     (length text ≡ length text₀) × (length values ≡ length values₀) × Remains file written (rowsFrom file top)
 
 abbrev μ-loop : tie.MeasureT-loop
-μ-loop text₀ values₀ file view written₀ size top₀ text values written top = size .rows - top
+μ-loop text₀ values₀ file view written₀ picture rows top₀ text values written top = rows - top
 
 -- ---- places
 abbrev Put : Type 0
 Put = tie.After-put-rows Inv-loop μ-loop
 
 abbrev start : Put → tie.Start Inv-loop μ-loop
-start g = g .before .before .before .before .before .before .before .before .before .before .before
+start g = g .before .before .before .before .before .before .before .before .before .before
 
 abbrev file : Put → List ℕ
 file g = now (start g .args .file)
 
 abbrev turn : Put → tie.At-loop Inv-loop μ-loop
-turn g = g .before .before .before .before .before .before
+turn g = g .before .before .before .before .before
 
 -- the block's text, and the rows behind it
 abbrev piece : Put → List ℕ
@@ -50,14 +50,14 @@ loop-holds c = (refl, refl, c .before .before .before .before .pre .1)
 
 block-requires : tie.Need-block-requires Inv-loop μ-loop
 block-requires c κs =
-    let q = c .before .before .before .before .before .before .before .pre .0 .2 in
-    (q .sized, q .some-columns, c .if1 .taken)
+    let q = c .before .before .before .before .before .before .pre .0 .2 .viewed in
+    (crop-sized _ _ q, crop-inside _ _ q .some-columns, c .loop-test .taken)
 
 put-rows-requires : tie.Need-put-rows-requires Inv-loop μ-loop
 put-rows-requires c κs =
-    let v = c .before .before .before .before .before .loop .inv in
-    let p = c .before .before .before .before .before .before .before .before .before .before .pre .0 in
-    ((omega (arith, v .0, p .0), omega (arith, v .1, p .1), p .2, p .3), c .before .before .block .ensures)
+    let v = c .before .before .before .before .loop .inv in
+    let p = c .before .before .before .before .before .before .before .before .before .pre .0 in
+    ((omega (arith, v .0, p .0), omega (arith, v .1, p .1), p .2), c .before .before .block .ensures)
 
 slice-reshare-prefix-write-piece : tie.Need-slice-reshare-prefix-write-piece Inv-loop μ-loop
 slice-reshare-prefix-write-piece c = c .before .before .before .before .before .put-rows .ensures .0
@@ -86,12 +86,12 @@ returns : tie.Need-returns Inv-loop μ-loop
 returns c =
     let w = c .before .write-piece in
     let g = c .before .before .before .before .before .before .before .before in
-    ends-early (file g) (turn g .loop .written) (piece g) (rest g) (to-come g) (w .result) _ (w .ensures) (not-true _ (c .if2 .taken))
+    ends-early (file g) (turn g .loop .written) (piece g) (rest g) (to-come g) (w .result) _ (w .ensures) (not-true _ (c .if1 .taken))
 
 add-top : tie.Need-add-top Inv-loop μ-loop
 add-top c =
     let g = c .before .before .before .before .before .before .before .before in
-    omega (arith, g .before .before .before .block .ensures .1, start g .pre .0 .2 .sized .rows)
+    omega (arith, g .before .before .before .block .ensures .1, crop-sized _ _ (start g .pre .0 .2 .viewed) .rows)
 
 loop-less : tie.Need-loop-less Inv-loop μ-loop
 loop-less c =
@@ -105,21 +105,21 @@ loop-again c =
     let v = turn g .loop in (
       g .put-rows .kept .0 ∙ v .inv .0,
       g .put-rows .kept .1 .0 ∙ v .inv .1,
-      written-rest (file g) (v .written) (piece g) (rest g) (to-come g) (w .result) _ (w .ensures) (not-false _ (c .if2 .left)),
+      written-rest (file g) (v .written) (piece g) (rest g) (to-come g) (w .result) _ (w .ensures) (not-false _ (c .if1 .left)),
     )
 
 same-length-3 : tie.Need-same-length-3 Inv-loop μ-loop
-same-length-3 c = c .before .before .loop .inv .0
+same-length-3 c = c .before .loop .inv .0
 
 same-length-4 : tie.Need-same-length-4 Inv-loop μ-loop
-same-length-4 c = c .before .before .loop .inv .1
+same-length-4 c = c .before .loop .inv .1
 
 returns-2 : tie.Need-returns-2 Inv-loop μ-loop
 returns-2 c =
-    let v = c .before .before .loop in
-    let s = c .before .before .before .before .before .before .before in
+    let v = c .before .loop in
+    let s = c .before .before .before .before .before .before in
     let f = now (s .args .file) in
-    let none = rows-none f _ (s .pre .0 .2) (v .top) (c .if1 .left) in
+    let none = rows-none f _ (s .pre .0 .2) (v .top) (c .loop-test .left) in
     ends-whole f _ (subst (Remains f (v .written)) none (v .inv .2))
 
 pub print-rows-spec : {M : Type 1} → statement M

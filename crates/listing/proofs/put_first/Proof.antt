@@ -53,7 +53,7 @@ returns-3 c =
     let o = v .before .before in
     let f = now (o .before .before .before .before .args .file) in
     let w = subst (OpeningIs f) (v .view .given .1) (o .«open» .ensures) in
-    headed-frame f _ _ _ (viewed-listed f _ w (o .before .if1 .left)) w refl refl (c .before .before .put-size .ensures)
+    headed-frame f _ _ _ (viewed-listed f _ w (o .before .if1 .left)) refl (c .before .before .put-size .ensures)
 
 pub put-first-spec : {M : Type 1} → statement M
 put-first-spec =

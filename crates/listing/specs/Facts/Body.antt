@@ -6,8 +6,8 @@ use lib.Ieee.{Float}
 use lib.ListN.{length, take, drop}
 use Rattle.directory.specs.Out.{Out.is}
 use Rattle.opcodes.specs.declared.grid.Size.{Size}
-use Rattle.rows.specs.Facts.Part.{All-in-unit, Sized-in}
-use Rattle.develop.specs.Calls.{Opened, opened, sizeOf}
+use Rattle.rows.specs.Facts.Part.{All-in-unit}
+use Rattle.develop.specs.Calls.{opened}
 use Rattle.develop.specs.Facts.View.{Viewed}
 use Rattle.develop.specs.declared.View.{View}
 use Rattle.develop.specs.declared.Opening.{Opening}
@@ -28,42 +28,35 @@ linesText m (suc h) xs = valuesText (take m xs) ++ linesText m h (drop m xs)
 abbrev pub LinesIn : ℕ → ℕ → List Float → List ℕ → Type 0
 LinesIn m h xs text = (1 ≤ m) × (length xs ≡ h * m) × (17 * length xs ≤ length text) × All-in-unit xs
 
--- an accepted file that the program lists, and its frame's size
-pub record Listed (f : List ℕ) (z : Size) : Type 0 where
-  pub file : Opened
-  pub accepted : is file ≡ opened f
-  pub listed : is file ≡ listedOf f
-  pub size : z ≡ sizeOf (file .picture)
-  pub sized : Sized-in z
-  pub some-columns : 1 ≤ z .columns
+-- an accepted file that the program lists
+pub record Listed (f : List ℕ) (v : View) : Type 0 where
+  pub viewed : Viewed f v
+  pub listed : is (viewed .file) ≡ listedOf f
 
 -- there is room for a block of rows, and the file is as it was opened
 abbrev pub Ready : List ℕ → View → List ℕ → List Float → Type 0
-Ready f v text values = (835584 ≤ length text) × (49152 ≤ length values) × Listed f (v .size) × Viewed f v
+Ready f v text values = (835584 ≤ length text) × (49152 ≤ length values) × Listed f v
 
--- the block of `height` rows from `top` on is in the frame and in the room
+-- the block of `height` rows from `top` on is in the crop and in the room
 abbrev pub BlockIn : Size → ℕ → ℕ → Type 0
 BlockIn z top height = (1 ≤ height) × (top + height ≤ z .rows) × (height * (z .columns * z .samples) ≤ 49152)
 
--- the lines of the rows from `top` on
+-- the lines of the crop's rows from its row `top` on
 abbrev pub rowsFrom : List ℕ → ℕ → List ℕ
 rowsFrom f top = bodyText f top (listedOf f)
 
--- a file as it was opened, of which so many rows are listed: none behind a refusal, and all of an accepted one
-abbrev pub OpenedIs : List ℕ → Size → Opening → Type 0
-OpenedIs f z (opening.Refused n d) = z .rows ≡ 0
-OpenedIs f z (opening.Is v) = (z ≡ v .size) × Listed f (v .size) × Viewed f v
+-- a file as it was opened: no row comes behind a refusal
+abbrev pub OpenedIs : List ℕ → Opening → Type 0
+OpenedIs f (opening.Refused n d) = rowsFrom f 0 ≡ []
+OpenedIs f (opening.Is v) = Listed f v
 
--- the whole text of a refused file, which no row follows
+-- the whole text of a refused file
 abbrev pub RefusedIs : ℕ → ℕ → First → List ℕ → Type 0
-RefusedIs n d h text =
-    (h .length ≤ length text) × (take (h .length) text ≡ refusedText n d) × (h .size .rows ≡ 0) × (h .opening ≡ opening.Refused n d)
+RefusedIs n d h text = (h .length ≤ length text) × (take (h .length) text ≡ refusedText n d) × (h .opening ≡ opening.Refused n d)
 
--- the first line, and the size of the frame whose rows follow it: no row of a refused file
+-- the first line
 pub record Headed (f : List ℕ) (h : First) (text : List ℕ) : Type 0 where
   pub inside : h .length ≤ length text
   pub line : take (h .length) text ≡ headText (listedOf f)
-  pub rows : 1 ≤ h .size .rows → Listed f (h .size)
-  pub all : bodyText f (h .size .rows) (listedOf f) ≡ []
   pub short : length (listingOf f) < 18446744073709551616
-  pub file : OpenedIs f (h .size) (h .opening)
+  pub file : OpenedIs f (h .opening)
