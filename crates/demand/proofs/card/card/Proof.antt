@@ -28,10 +28,10 @@ returns c =
 
 returns-2 : tie.Need-returns-2
 returns-2 c =
-    let a = c .before .before .before .before .before .args in
-    let open-call = c .before .before .before .«open» in
-    let f = now (a .file) in
-    let v = subst (OpeningIs f) (c .before .view .given .1) (open-call .ensures) in
+    let g = c .before .before .before in
+    let o = g .before .before in
+    let f = now (o .before .before .args .file) in
+    let v = subst (OpeningIs f) (g .view .given .1) (o .«open» .ensures) in
     (card-viewed f _ v, (meets-demand-3 f, has-accurate-levels f))
 
 pub card-spec : {M : Type 1} → statement M
