@@ -30,7 +30,7 @@ int main(int count, char **names)
         fputs("usage: half FILE.dng\n", stderr);
         return 2;
     }
-    uint64_t card[7];
+    uint64_t card[DNG_CARD_NUMBERS];
     dng_card(file, len, card);
     size_t rows = card[DNG_ROWS] / 2, columns = card[DNG_COLUMNS] / 2;
     double *xyz = malloc((columns + 1) * 3 * sizeof *xyz);

@@ -15,11 +15,27 @@ extern "C" {
    rounding to nearest, denormals kept (-ffast-math may change that where the program is linked). */
 
 /* The places of a card's numbers: number and detail, active rows, active columns, samples per pixel, opcodes kept, opcodes
-   skipped. */
-enum { DNG_NUMBER, DNG_DETAIL, DNG_ROWS, DNG_COLUMNS, DNG_SAMPLES, DNG_KEPT, DNG_SKIPPED };
+   skipped; then the crop: its left column, its top row, its columns, its rows, counted from the active corner as all calls count. */
+enum {
+    DNG_NUMBER,
+    DNG_DETAIL,
+    DNG_ROWS,
+    DNG_COLUMNS,
+    DNG_SAMPLES,
+    DNG_KEPT,
+    DNG_SKIPPED,
+    DNG_CROP_LEFT,
+    DNG_CROP_TOP,
+    DNG_CROP_COLUMNS,
+    DNG_CROP_ROWS,
+    DNG_CARD_NUMBERS /* how many they are: 11 */
+};
 
-/* All seven are written. A refused file has zeros from DNG_ROWS on. */
-void dng_card(const uint8_t *file, size_t file_len, uint64_t numbers[7]);
+/* All of them are written. A refused file has zeros from DNG_ROWS on. The crop of an accepted one is not empty and lies inside the
+   active area; the window of the crop is
+
+     dng_window(file, file_len, n[DNG_CROP_TOP], n[DNG_CROP_LEFT], n[DNG_CROP_ROWS], n[DNG_CROP_COLUMNS], out, out_len) */
+void dng_card(const uint8_t *file, size_t file_len, uint64_t numbers[DNG_CARD_NUMBERS]);
 
 /* The others answer number * 2^32 + detail; 0 is done. */
 

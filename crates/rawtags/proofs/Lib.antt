@@ -3,6 +3,7 @@ pub mod AreaLaws
 pub mod RepeatLaws
 pub mod WholeLaws
 pub mod CropLaws
+pub mod CropExamples
 pub mod PatternLaws
 pub mod PatternExamples
 pub mod Depth
