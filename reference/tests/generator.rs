@@ -33,7 +33,7 @@ fn answer(file: &[u8], call: &Call) -> Answer {
 
 /// Of the first 3,000 cases of seed 1: their files and calls, their answers.
 const FILES: Fingerprint = Fingerprint(11025926590502616366);
-const ANSWERS: Fingerprint = Fingerprint(8418464339651778358);
+const ANSWERS: Fingerprint = Fingerprint(10916705935485423551);
 
 #[test]
 fn the_first_cases_have_a_known_fingerprint() {

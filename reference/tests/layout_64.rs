@@ -352,7 +352,9 @@ fn a_directory_may_hold_every_tag() {
     let whole = frame(&dng);
     let needed = std::mem::take(&mut dng.first_ifd().tags);
     let not_carried = [51008, 51022];
-    let read = [50707, 284, 339, 50975, 52547, 50829, 50712, 50713, 50714, 50715, 50716, 50717, 51009];
+    let read = [
+        50707, 284, 339, 50975, 52547, 50829, 50712, 50713, 50714, 50715, 50716, 50717, 50719, 50720, 51009,
+    ];
     let strange = |tag: u16| Tag::bytes(tag, &[1; 9]).with_kind(14);
     let tags = (0..=65_535).map(|tag| needed.iter().find(|t| t.tag == tag).cloned().unwrap_or(strange(tag)));
     let tags: Vec<Tag> = tags.collect();
@@ -384,6 +386,8 @@ fn default_of(tag: u16) -> Tag {
         50715 => Tag::srationals(tag, &[(0, 1); 3]),
         50716 => Tag::srationals(tag, &[(0, 1); 2]),
         50717 => Tag::shorts(tag, &[255]),
+        50719 => Tag::shorts(tag, &[0, 0]),
+        50720 => Tag::shorts(tag, &[3, 2]),
         51009 => Tag::undefined(tag, &[0; 4]),
         _ => Tag::shorts(tag, &[1]),
     }
