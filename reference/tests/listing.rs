@@ -6,10 +6,10 @@ use std::io::{self, Write};
 
 use common::*;
 use reference::builder::{Data, Dng, Picture, Place, Tag};
-use reference::bytes::ByteOrder;
+use reference::bytes::{ByteOrder, LAYOUTS};
 use reference::generate::generate;
 use reference::tag_test::SHORT;
-use reference::{card, listing, write_listing};
+use reference::{card, listing, window, write_listing, Crop};
 
 #[test]
 fn a_frame_is_listed_row_by_row_planes_together() {
@@ -53,16 +53,62 @@ fn a_listing_agrees_with_the_calls() {
             assert_eq!(text, format!("refused {} {}\n", card.number, card.detail));
             continue;
         }
+        let Crop { left, top, columns, rows } = card.crop;
         let mut lines = text.lines();
-        let head = format!("frame {} {} {}", card.rows, card.columns, card.samples);
+        let head = format!("frame {rows} {columns} {}", card.samples);
         assert_eq!(lines.next(), Some(&head[..]));
         let words: Vec<u64> = lines
             .flat_map(|line| line.split(' '))
             .map(|w| u64::from_str_radix(w, 16).expect("hex"))
             .collect();
-        assert_eq!(words, bits(&frame_of(&file)));
-        assert_eq!(text.lines().count() as u64, card.rows + 1);
+        let mut crop = vec![UNTOUCHED; (rows * columns * card.samples) as usize];
+        assert_eq!(window(&file, top, left, rows, columns, &mut crop), DONE);
+        assert_eq!(words, bits(&crop));
+        assert_eq!(text.lines().count() as u64, rows + 1);
     }
+}
+
+/// The value of an 8-bit sample where black is 0 and white 255.
+fn eight_bits(stored: u64) -> f64 {
+    (257 * stored) as f64 / 65535.0
+}
+
+/// The lines of a crop whose samples have these values.
+fn lines_of<const V: usize>(head: &str, rows: &[[f64; V]]) -> String {
+    let line = |row: &[f64; V]| row.map(|v| format!("{:016x}", v.to_bits())).join(" ") + "\n";
+    head.to_string() + "\n" + &rows.iter().map(line).collect::<String>()
+}
+
+/// 6 x 5 samples that count up from 0; the active area begins at stored row 1,
+/// column 2, and the crop at its row 2, column 1: stored rows 3 and 4, columns 3
+/// to 5.
+#[test]
+fn of_a_mosaic_the_rows_and_columns_of_the_crop_are_listed() {
+    let dng = mosaic(6, 5)
+        .with(Tag::longs(50829, &[1, 2, 5, 6]))
+        .with(Tag::shorts(50719, &[1, 2]))
+        .with(Tag::shorts(50720, &[3, 2]));
+    let expected = lines_of("frame 2 3 1", &[[21, 22, 23].map(eight_bits), [27, 28, 29].map(eight_bits)]);
+    for widths in LAYOUTS {
+        assert_eq!(listing(&Dng { widths, ..dng.clone() }.file()), expected);
+    }
+    // One column of all active rows.
+    let dng = dng.with(Tag::shorts(50719, &[3, 0])).with(Tag::shorts(50720, &[1, 4]));
+    let column = [[11], [17], [23], [29]].map(|row| row.map(eight_bits));
+    assert_eq!(listing(&dng.file()), lines_of("frame 4 1 1", &column));
+}
+
+/// 4 x 3 pixels; sample i of the frame is i, and white is 35, so that its value is
+/// that of L: 65535 i / 35, a half up.
+#[test]
+fn of_linear_raw_the_rows_and_columns_of_the_crop_are_listed() {
+    let dng = linear(4, 3)
+        .with(Tag::longs(50717, &[35; 3]))
+        .with(Tag::rationals(50719, &[(4, 2), (1, 1)]))
+        .with(Tag::longs(50720, &[2, 1]));
+    let row = [18, 19, 20, 21, 22, 23].map(|i| f64::from(level_by_search(256 * i, 256 * 35)) / 65535.0);
+    assert_eq!(listing(&dng.file()), lines_of("frame 1 2 3", &[row]));
+    assert_eq!(listing(&dng.with(Tag::longs(50720, &[3, 1])).file()), "refused 4 50720\n");
 }
 
 /// Takes so many bytes and no more.
