@@ -6,6 +6,7 @@ mod common;
 use common::*;
 use reference::builder::{Area, Dng, Opcode, OpcodeList, Tag};
 use reference::bytes::{Widths, LAYOUTS};
+use reference::cases::{answer_line, Call};
 use reference::tag_test::{IFD8, LONG, LONG8, RATIONAL, SHORT, SLONG8, SRATIONAL};
 use reference::{card, colour_window, half_window, spot, window, Answer, Card, Crop};
 
@@ -101,6 +102,15 @@ fn the_default_is_the_active_area() {
     // In IFD 0 above the raw IFD nobody reads them.
     let above = base().nested(1).with_first(Tag::bytes(ORIGIN, &[1])).with_first(Tag::bytes(SIZE, &[1]));
     crops(&above, [0, 0, COLUMNS, ROWS]);
+}
+
+/// Number and detail, the five counts, then the crop: left, top, columns, rows.
+#[test]
+fn the_line_of_a_card_ends_with_the_crop() {
+    let dng = cropped(&base(), [3, 1], [2, 4]);
+    assert_eq!(answer_line(&dng.file(), &Call::Card), "card -> 0 0 5 7 1 0 0 3 1 2 4");
+    let dng = cropped(&base(), [3, 1], [2, 5]);
+    assert_eq!(answer_line(&dng.file(), &Call::Card), "card -> 4 50720 0 0 0 0 0 0 0 0 0");
 }
 
 #[test]

@@ -5,7 +5,7 @@ mod common;
 use std::io::{self, Write};
 
 use common::*;
-use reference::builder::{Data, Dng, Picture, Place, Tag};
+use reference::builder::{Area, Data, Dng, Opcode, Picture, Place, Tag};
 use reference::bytes::{ByteOrder, LAYOUTS};
 use reference::generate::generate;
 use reference::tag_test::SHORT;
@@ -142,4 +142,55 @@ fn a_small_file_may_hold_a_great_frame() {
     assert_eq!(spot_value(&file, 16_382, 0, 0), f64::from(b'M') * 257.0 / 65535.0);
     // The first rows are written before the rest are made.
     assert!(write_listing(&file, &mut Narrow(2_000_000)).is_err());
+}
+
+/// The stored input `data/crop` and its listing `data/crop.txt`, worked out by hand.
+///
+/// 8 rows of 10 stored samples; the sample at row r, column c is 104 + 10 r + c. The
+/// active area has 5 rows from 1 and 7 columns from 2, and the crop 3 rows from 1
+/// and 4 columns from 2 of these: stored rows 2 to 4, columns 4 to 7, or
+///
+/// | | column 2 | 3 | 4 | 5 |
+/// |---|---|---|---|---|
+/// | row 1 | 128 | 129 | 130 | 131 |
+/// | row 2 | 138 | 139 | 140 | 141 |
+/// | row 3 | 148 | 149 | 150 | 151 |
+///
+/// The ScalePerRow has active rows 0 and 3, of which row 3 takes the second factor,
+/// 1/2. The ScalePerColumn has columns 0, 3 and 6, of which column 3 takes the
+/// second, 1/4. Counted from the stored corner they would have row 2 and column 4,
+/// and from the crop's row 1 and columns 2 and 5.
+///
+/// Black is 0 and white 255, so a sample s has L = 257 s and the value s / 255. With
+/// two hex digits to a byte that is 0.ssssss.. without end. From 128 on its first
+/// bit is 1, and the 52 bits behind it are the byte q = 2 s - 255 (s turned left by
+/// one bit) six times and its first digit once more, one up if its second digit is
+/// 8 or more: 128 has 01, and 3fe 0101010101010; 140 has 19, and 3fe 1919191919192.
+/// A factor of 1/2 takes 1 from the exponent 3fe, 1/4 takes 2, both take 3.
+fn stored_crop() -> Dng {
+    let picture = Picture { stored: (104..184).collect(), ..Picture::counting(10, 8, 1, 8) };
+    let rows = Area { row_pitch: 3, ..Area::whole(5, 7, 1) };
+    let columns = Area { column_pitch: 3, ..Area::whole(5, 7, 1) };
+    Dng::new(ByteOrder::Big, &picture)
+        .with(Tag::shorts(50829, &[1, 2, 6, 9]))
+        .with(Tag::rationals(50719, &[(4, 2), (3, 3)]))
+        .with(Tag::shorts(50720, &[4, 3]))
+        .with_opcodes(&[
+            Opcode::per_line(12, rows, &[0.25, 0.5]),
+            Opcode::per_line(13, columns, &[0.5, 0.25, 0.125]),
+        ])
+}
+
+const STORED_CROP: &str = "frame 3 4 1
+3fe0101010101010 3fc0303030303030 3fe0505050505050 3fe0707070707070
+3fe1515151515151 3fc1717171717171 3fe1919191919192 3fe1b1b1b1b1b1b2
+3fd2929292929293 3fb2b2b2b2b2b2b3 3fd2d2d2d2d2d2d3 3fd2f2f2f2f2f2f3
+";
+
+#[test]
+fn the_stored_crop_is_listed_as_worked_out() {
+    let (file, lines) = (include_bytes!("data/crop"), include_str!("data/crop.txt"));
+    assert_eq!(lines, STORED_CROP);
+    assert_eq!(stored_crop().file(), file);
+    assert_eq!(listing(file), lines);
 }
