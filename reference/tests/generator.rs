@@ -32,8 +32,8 @@ fn answer(file: &[u8], call: &Call) -> Answer {
 }
 
 /// Of the first 3,000 cases of seed 1: their files and calls, their answers.
-const FILES: Fingerprint = Fingerprint(11857607777793667757);
-const ANSWERS: Fingerprint = Fingerprint(10276609842100630767);
+const FILES: Fingerprint = Fingerprint(1422759722047140062);
+const ANSWERS: Fingerprint = Fingerprint(15691782298073813641);
 
 #[test]
 fn the_first_cases_have_a_known_fingerprint() {

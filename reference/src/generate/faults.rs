@@ -14,7 +14,6 @@ type Fault = fn(&mut Random, &mut Draft);
 
 const FAULTS: &[(&str, Fault)] = &[
     ("tag absent", tag_absent),
-    ("tag absent", tag_absent),
     ("tag type", tag_type),
     ("tag type", tag_type),
     ("wide type", wide_type),
