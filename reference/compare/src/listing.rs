@@ -38,13 +38,16 @@ pub struct Listings {
     pub differences: Vec<String>,
 }
 
+/// Where the core's program stands from the root of the repository.
+const PROGRAM: &str = "target/bin/listing";
+
 /// The core's program; `rt check listing` makes it.
 pub fn program() -> Result<PathBuf, String> {
-    let program = root().join("target/bin/listing");
+    let program = root().join(PROGRAM);
     if program.is_file() {
         return Ok(program);
     }
-    Err(format!("{} is not there: make it with `rt check listing`", program.display()))
+    Err(format!("{PROGRAM} is not there: make it with `rt check listing` at the root"))
 }
 
 /// The root of the repository.
@@ -88,7 +91,8 @@ fn stored() -> io::Result<Vec<Listed>> {
     let listed = paths.iter().map(|path| {
         let text = path.with_extension("txt");
         let stated = text.is_file().then(|| fs::read_to_string(&text)).transpose()?;
-        Ok(Listed { label: path.display().to_string(), file: fs::read(path)?, stated })
+        let name = path.file_name().unwrap_or_default();
+        Ok(Listed { label: name.to_string_lossy().into(), file: fs::read(path)?, stated })
     });
     listed.collect()
 }
