@@ -7,7 +7,7 @@ pub struct Answer {
     pub detail: u32,
 }
 
-/// The card: the answer, then the five counts.
+/// The card: the answer, then the five counts, then the crop.
 #[derive(Clone, Copy, Debug, PartialEq, Eq)]
 pub struct Card {
     pub number: u32,
@@ -17,6 +17,17 @@ pub struct Card {
     pub samples: u64,
     pub kept: u64,
     pub skipped: u64,
+    pub crop: Crop,
+}
+
+/// The crop (document 02, T-03), in active rows and columns from the active
+/// corner: where it begins, and how many of them it has.
+#[derive(Clone, Copy, Debug, Default, PartialEq, Eq)]
+pub struct Crop {
+    pub left: u64,
+    pub top: u64,
+    pub columns: u64,
+    pub rows: u64,
 }
 
 impl Answer {
@@ -69,7 +80,7 @@ impl Answer {
 }
 
 impl Card {
-    /// "A refused card holds five zeros."
+    /// "A refused card holds five zeros", and of the crop "has zeros here too".
     pub fn refused(answer: Answer) -> Card {
         Card {
             number: answer.number,
@@ -79,10 +90,18 @@ impl Card {
             samples: 0,
             kept: 0,
             skipped: 0,
+            crop: Crop::default(),
         }
     }
 
     pub fn answer(&self) -> Answer {
         Answer { number: self.number, detail: self.detail }
+    }
+}
+
+impl Crop {
+    /// In the card's order: left, top, columns, rows.
+    pub fn numbers(&self) -> [u64; 4] {
+        [self.left, self.top, self.columns, self.rows]
     }
 }

@@ -3,10 +3,11 @@
 use crate::answer::{Answer, Card};
 use crate::develop::{accept, Developed};
 use crate::opcodes::{FrameSize, Opcode};
+use crate::raw_tags::inside;
 use crate::{colour, pattern};
 
 /// "file in; active rows, active columns, samples per pixel, corrections
-/// kept, corrections skipped"
+/// kept, corrections skipped"; and the crop (document 02, T-03).
 pub fn card(file: &[u8]) -> Card {
     let accepted = match accept(file) {
         Ok(accepted) => accepted,
@@ -15,7 +16,7 @@ pub fn card(file: &[u8]) -> Card {
     let FrameSize { rows, columns, samples } = accepted.size();
     let skipped = accepted.opcodes.iter().filter(|o| matches!(o, Opcode::Skipped)).count() as u64;
     let kept = accepted.opcodes.len() as u64 - skipped;
-    Card { number: 0, detail: 0, rows, columns, samples, kept, skipped }
+    Card { number: 0, detail: 0, rows, columns, samples, kept, skipped, crop: accepted.raw.crop }
 }
 
 /// Fills the slice "row by row, planes together"; refused, it "leaves its
@@ -113,9 +114,6 @@ impl Rectangle {
     /// and columns, or blocks of them; then 14: "slice length not height x width
     /// x values per pixel".
     fn test(self, rows: u64, columns: u64, values_per_pixel: u64, slice: usize) -> Result<(), Answer> {
-        let inside = |start: u64, length: u64, whole: u64| {
-            length > 0 && u128::from(start) + u128::from(length) <= u128::from(whole)
-        };
         if !inside(self.top, self.height, rows) || !inside(self.left, self.width, columns) {
             return Err(Answer::OUTSIDE);
         }

@@ -40,13 +40,15 @@ impl Call {
 pub const UNTOUCHED: f64 = -2.5;
 
 /// The call and its arguments, `->`, the number and detail, then the card's
-/// counts, or the spot's or the whole slice's values as 16 hex digits each.
+/// counts and its crop's left, top, columns and rows, or the spot's or the whole
+/// slice's values as 16 hex digits each.
 pub fn answer_line(file: &[u8], call: &Call) -> String {
     match *call {
         Call::Card => {
             let c = card(file);
             let counts = [c.rows, c.columns, c.samples, c.kept, c.skipped];
-            format!("card -> {} {} {}", c.number, c.detail, join(counts))
+            let numbers = counts.into_iter().chain(c.crop.numbers());
+            format!("card -> {} {} {}", c.number, c.detail, join(numbers))
         }
         Call::Spot { row, column, plane } => {
             let (answer, value) = spot(file, row, column, plane);

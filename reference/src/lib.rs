@@ -1,8 +1,8 @@
 //! An independent reference for document 01, "From stored DNG samples to
 //! developed values", with half-size colour (T-01), the greatest black (T-02),
-//! GainMap (T-05), denormal numbers (T-07) and the 64-bit layout (T-09) of
-//! document 02. The modules follow document 01's sections; each rule stands
-//! once, beside the words of the document that demand it.
+//! the crop (T-03), GainMap (T-05), denormal numbers (T-07) and the 64-bit
+//! layout (T-09) of document 02. The modules follow document 01's sections; each
+//! rule stands once, beside the words of the document that demand it.
 
 #![forbid(unsafe_code)]
 
@@ -28,6 +28,6 @@ pub mod generate;
 pub mod index;
 pub mod random;
 
-pub use answer::{Answer, Card};
+pub use answer::{Answer, Card, Crop};
 pub use calls::{card, colour_window, half_window, spot, window};
 pub use listing::{listing, write_listing};

@@ -1,10 +1,9 @@
-//! Board example 11: the listing program.
+//! Board example 11: the listing program, of the crop (document 02, T-03).
 
 use std::io::{self, Write};
 
-use crate::answer::Answer;
-use crate::develop::{accept, Developed};
-use crate::opcodes::FrameSize;
+use crate::answer::{Answer, Crop};
+use crate::develop::{accept, Accepted, Developed};
 
 /// "over 65,536 bytes counts as refusal 1"
 pub const GREATEST_INPUT: usize = 65_536;
@@ -23,7 +22,7 @@ pub fn write_listing(input: &[u8], out: &mut impl Write) -> io::Result<()> {
     }
     match accept(input) {
         Err(refusal) => write_refusal(refusal, out),
-        Ok(accepted) => write_frame(accepted.size(), &Developed::new(&accepted), out),
+        Ok(accepted) => write_frame(&accepted, out),
     }
 }
 
@@ -33,12 +32,14 @@ fn write_refusal(refusal: Answer, out: &mut impl Write) -> io::Result<()> {
 }
 
 /// "`frame rows columns samples`, then a line per row, each f64 as 16 hex
-/// digits, single spaces"
-fn write_frame(size: FrameSize, developed: &Developed, out: &mut impl Write) -> io::Result<()> {
-    let FrameSize { rows, columns, samples } = size;
+/// digits, single spaces"; "`frame` shows the crop's rows and columns".
+fn write_frame(accepted: &Accepted, out: &mut impl Write) -> io::Result<()> {
+    let Crop { left, top, columns, rows } = accepted.raw.crop;
+    let samples = accepted.size().samples;
     writeln!(out, "frame {rows} {columns} {samples}")?;
-    for row in 0..rows {
-        let words: Vec<String> = (0..columns)
+    let developed = Developed::new(accepted);
+    for row in top..top + rows {
+        let words: Vec<String> = (left..left + columns)
             .flat_map(|column| (0..samples).map(move |plane| (column, plane)))
             .map(|(column, plane)| format!("{:016x}", developed.value(row, column, plane).to_bits()))
             .collect();

@@ -1,6 +1,6 @@
 //! "Tags of the raw directory, in order of test".
 
-use crate::answer::Answer;
+use crate::answer::{Answer, Crop};
 use crate::bytes::File;
 use crate::directory::Directory;
 use crate::levels::Levels;
@@ -42,6 +42,8 @@ pub struct RawTags<'a> {
     /// The linearization table; none is the identity.
     pub table: Option<Vec<u64>>,
     pub levels: Levels,
+    /// Inside the active area.
+    pub crop: Crop,
     /// The content of 51009.
     pub opcode_list: Option<&'a [u8]>,
 }
@@ -55,11 +57,12 @@ pub fn read<'a>(file: &File<'a>, raw: &Directory) -> Result<RawTags<'a>, Answer>
         .optional(50712, &[SHORT], 1..=GREATEST_TABLE, fine)?
         .map(|entries| entries.into_iter().map(Fraction::whole).collect());
     let levels = read_levels(&tags, &stored, &active)?;
+    let crop = read_crop(&tags, &active)?;
     tags.never(51008)?;
     tags.never(51022)?;
     let opcode_list =
         tags.entry(51009, &[UNDEFINED], 4..=u64::MAX)?.map(|entry| file.slice(entry.place, entry.count));
-    Ok(RawTags { stored, active, table, levels, opcode_list })
+    Ok(RawTags { stored, active, table, levels, crop, opcode_list })
 }
 
 fn read_stored(tags: &Tags) -> Result<Stored, Answer> {
@@ -156,6 +159,24 @@ fn carried_level(v: Fraction) -> Verdict {
     let denominator = [1, 2, 4, 8, 16, 32, 64, 128, 256].contains(&v.denominator);
     let magnitude = v.numerator.abs() <= i128::from(GREATEST_LEVEL) * v.denominator;
     verdict(v.denominator != 0, denominator && magnitude)
+}
+
+/// "4 and 8 on 50719, then 50720, directly after 50717", and "last a crop empty
+/// or not inside the active area is 4 on 50720" (document 02, T-03).
+fn read_crop(tags: &Tags, active: &ActiveArea) -> Result<Crop, Answer> {
+    // "horizontal then vertical"; the size's default is "the active columns and rows".
+    let [left, top] = tags.whole_pair(50719)?.unwrap_or([0, 0]);
+    let [columns, rows] = tags.whole_pair(50720)?.unwrap_or([active.columns(), active.rows()]);
+    if inside(left, columns, active.columns()) && inside(top, rows, active.rows()) {
+        Ok(Crop { left, top, columns, rows })
+    } else {
+        Err(Answer::wrong(50720))
+    }
+}
+
+/// Is a stretch of rows or columns not empty, and inside so many of them?
+pub fn inside(start: u64, length: u64, whole: u64) -> bool {
+    length > 0 && u128::from(start) + u128::from(length) <= u128::from(whole)
 }
 
 impl ActiveArea {

@@ -34,6 +34,11 @@ impl Fraction {
     pub fn whole(self) -> u64 {
         self.numerator as u64
     }
+
+    /// The value of a fraction that was found to be a whole number.
+    fn quotient(self) -> u64 {
+        (self.numerator / self.denominator) as u64
+    }
 }
 
 #[derive(Clone, Copy, Debug, PartialEq, Eq)]
@@ -55,6 +60,12 @@ pub fn verdict(legal: bool, carried: bool) -> Verdict {
 /// Every value is legal and carried.
 pub fn fine(_: Fraction) -> Verdict {
     Verdict::Fine
+}
+
+/// "denominator 0 is 4, a value not whole is 8", both of the fraction as written.
+fn whole_number(v: Fraction) -> Verdict {
+    let legal = v.denominator != 0;
+    verdict(legal, legal && v.numerator % v.denominator == 0)
 }
 
 /// The tags of one directory of a file.
@@ -141,6 +152,13 @@ impl<'a> Tags<'a> {
     /// The only value, a whole number, of a tag that must be present.
     pub fn one(&self, tag: u16, kinds: &[u16], judge: impl Fn(Fraction) -> Verdict) -> Result<u64, Answer> {
         Ok(self.required(tag, kinds, 1, judge)?[0].whole())
+    }
+
+    /// "SHORT, LONG or RATIONAL, count 2": two whole numbers, if the tag is
+    /// present.
+    pub fn whole_pair(&self, tag: u16) -> Result<Option<[u64; 2]>, Answer> {
+        let values = self.optional(tag, &[SHORT, LONG, RATIONAL], 2..=2, whole_number)?;
+        Ok(values.map(|values| [0, 1].map(|i: usize| values[i].quotient())))
     }
 
     /// "if present with any type, not carried"

@@ -4,7 +4,7 @@ mod common;
 
 use common::*;
 use reference::builder::{Dng, Tag};
-use reference::{card, colour_window, spot, window, Card};
+use reference::{card, colour_window, spot, window, Card, Crop};
 
 const HUGE: [u64; 4] = [u64::MAX, u64::MAX - 1, 1 << 63, 1 << 32];
 
@@ -28,15 +28,19 @@ fn ask(file: &[u8], top: u64, left: u64, height: u64, width: u64, slice: usize) 
 
 #[test]
 fn a_card_tells_the_active_area() {
-    let expected = Card { number: 0, detail: 0, rows: 3, columns: 4, samples: 1, kept: 0, skipped: 0 };
+    let crop = Crop { left: 0, top: 0, columns: 4, rows: 3 };
+    let expected = Card { number: 0, detail: 0, rows: 3, columns: 4, samples: 1, kept: 0, skipped: 0, crop };
     assert_eq!(card(&offset_area().file()), expected);
-    let expected = Card { rows: 2, columns: 7, samples: 3, ..expected };
+    let crop = Crop { columns: 7, rows: 2, ..crop };
+    let expected = Card { rows: 2, columns: 7, samples: 3, crop, ..expected };
     assert_eq!(card(&linear(7, 2).file()), expected);
 }
 
 #[test]
-fn a_refused_card_holds_five_zeros() {
-    let expected = Card { number: 5, detail: 256, rows: 0, columns: 0, samples: 0, kept: 0, skipped: 0 };
+fn a_refused_card_holds_nine_zeros() {
+    let crop = Crop { left: 0, top: 0, columns: 0, rows: 0 };
+    let expected =
+        Card { number: 5, detail: 256, rows: 0, columns: 0, samples: 0, kept: 0, skipped: 0, crop };
     assert_eq!(card(&mosaic(2, 2).without(256).file()), expected);
 }
 

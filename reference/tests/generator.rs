@@ -11,8 +11,8 @@ use reference::gain_map::{Axis, GainMap};
 use reference::generate::{generate, generate_valid};
 use reference::opcodes::{Action, FrameSize, Grid, Opcode};
 use reference::pattern;
-use reference::tag_test::{fine, Tags, LONG, RATIONAL, SHORT, SRATIONAL};
-use reference::{card, colour_window, half_window, spot, window, Answer};
+use reference::tag_test::{fine, Fraction, Tags, LONG, RATIONAL, SHORT, SRATIONAL};
+use reference::{card, colour_window, half_window, spot, window, Answer, Crop};
 
 /// The number and detail of a call's answer.
 fn answer(file: &[u8], call: &Call) -> Answer {
@@ -32,8 +32,8 @@ fn answer(file: &[u8], call: &Call) -> Answer {
 }
 
 /// Of the first 3,000 cases of seed 1: their files and calls, their answers.
-const FILES: Fingerprint = Fingerprint(11025926590502616366);
-const ANSWERS: Fingerprint = Fingerprint(8418464339651778358);
+const FILES: Fingerprint = Fingerprint(1422759722047140062);
+const ANSWERS: Fingerprint = Fingerprint(15691782298073813641);
 
 #[test]
 fn the_first_cases_have_a_known_fingerprint() {
@@ -110,12 +110,13 @@ fn every_refusal_occurs_with_every_tag() {
     }
     let wrong = [
         254, 330, 50706, 50707, 256, 257, 262, 277, 258, 259, 284, 339, 50975, 52547, 278, 273, 279, 50829,
-        50712, 50713, 50714, 50715, 50716, 50717, 51009, 50964, 50728, 33421, 33422, 50710, 50711,
+        50712, 50713, 50714, 50715, 50716, 50717, 50719, 50720, 51009, 50964, 50728, 33421, 33422, 50710,
+        50711,
     ];
     let absent = [50706, 256, 257, 262, 258, 273, 279, 50964, 50728, 33421, 33422];
     let not_carried = [
-        256, 257, 262, 277, 258, 259, 284, 339, 50975, 52547, 50713, 50714, 50715, 50716, 50717, 51008,
-        51022, 50723, 50727, 50965, 33421, 33422, 50710, 50711,
+        256, 257, 262, 277, 258, 259, 284, 339, 50975, 52547, 50713, 50714, 50715, 50716, 50717, 50719,
+        50720, 51008, 51022, 50723, 50727, 50965, 33421, 33422, 50710, 50711,
     ];
     for (number, tags) in [(4, &wrong[..]), (5, &absent[..]), (8, &not_carried[..])] {
         for tag in tags {
@@ -294,6 +295,76 @@ fn denormals_of_every_kind_are_accepted() {
         }
     }
     assert!([0, 12].iter().all(|number| refused[number] >= 10), "{refused:?}");
+}
+
+/// The kinds of crops to which that of an accepted file belongs.
+fn kinds_of_crop(accepted: &Accepted) -> Vec<String> {
+    let tags = Tags { file: &accepted.file, directory: &accepted.raw_ifd };
+    let [origin, size] = [50719, 50720].map(|tag| accepted.raw_ifd.find(tag));
+    let of_layout = if accepted.file.widths == Widths::BITS_32 { 32 } else { 64 };
+    let types = [("origin", origin), ("size", size)].into_iter();
+    let types =
+        types.filter_map(|(name, entry)| Some(format!("{name} of type {} in {of_layout}", entry?.kind)));
+    let fractions = [50719, 50720].map(|tag| tags.optional(tag, &[SHORT, LONG, RATIONAL], 2..=2, fine));
+    let fractions: Vec<Fraction> =
+        fractions.into_iter().flat_map(|values| values.expect("it was accepted")).flatten().collect();
+    let (area, frame) = (accepted.raw.active, accepted.size());
+    let Crop { left, top, columns, rows } = accepted.raw.crop;
+    let kinds = [
+        (origin.is_none() && size.is_none(), "no tag"),
+        (origin.is_some() && size.is_none(), "origin alone"),
+        (origin.is_none() && size.is_some(), "size alone"),
+        (origin.is_some() && size.is_some(), "both"),
+        ([columns, rows] == [frame.columns, frame.rows], "all of the area"),
+        (left > 0 && top > 0, "off the corner"),
+        (left > 0 && top > 0 && area.left > 0 && area.top > 0, "three corners"),
+        (left > 0 && left + columns == frame.columns, "to the right edge"),
+        (left > 0 && left + columns < frame.columns, "between the sides"),
+        (top > 0 && top + rows == frame.rows, "to the bottom edge"),
+        (top > 0 && top + rows < frame.rows, "between top and bottom"),
+        (left + columns > frame.rows || top + rows > frame.columns, "not inside the other way round"),
+        (fractions.iter().any(|v| v.denominator > 1 && v.numerator > 0), "by a fraction"),
+        (fractions.iter().any(|v| v.denominator > 1 && v.numerator == 0), "0 by a fraction"),
+        (frame.samples == 1 && columns < frame.columns, "of a mosaic"),
+        (frame.samples == 3 && columns < frame.columns, "of LinearRaw"),
+    ];
+    let met = kinds.into_iter().filter(|(met, _)| *met).map(|(_, kind)| kind.to_string());
+    met.chain(types).collect()
+}
+
+/// The two faults of a pair give the answer of the first, and now and then, where
+/// it lands on the good side, that of the second.
+const CROP_FAULTS: [(&str, &[(u32, u32)]); 6] = [
+    ("crop", &[(0, 0), (4, 50719), (8, 50719), (4, 50720), (8, 50720)]),
+    ("50717 and 50719", &[(4, 50717), (8, 50717)]),
+    ("50719 and 50720", &[(4, 50719), (8, 50719)]),
+    ("50720 and the crop", &[(4, 50720), (8, 50720)]),
+    ("the crop and 51008", &[(4, 50720), (8, 51008)]),
+    ("the crop and 9", &[(4, 50720), (9, 0)]),
+];
+
+#[test]
+fn crops_of_every_kind_are_accepted_and_refused() {
+    let mut counts: BTreeMap<String, u32> = BTreeMap::new();
+    let mut faulty: BTreeMap<(String, Answer), u32> = BTreeMap::new();
+    for index in 0..8_000 {
+        let case = generate(10, index);
+        *faulty.entry((case.label, card(&case.file).answer())).or_default() += 1;
+        let Ok(accepted) = accept(&case.file) else { continue };
+        for kind in kinds_of_crop(&accepted) {
+            *counts.entry(kind).or_default() += 1;
+        }
+    }
+    println!("{counts:?}");
+    // SHORT, LONG, RATIONAL in both layouts and LONG8 in one, of either tag.
+    assert!(counts.len() == 16 + 14 && counts.values().all(|count| *count >= 60), "{counts:?}");
+    for (label, answers) in CROP_FAULTS {
+        for (number, detail) in answers.iter().copied() {
+            let count = faulty.get(&(label.to_string(), Answer { number, detail }));
+            println!("{label}: {number} {detail}, {count:?}");
+            assert!(count.is_some_and(|count| *count >= 3), "{label}: {number} {detail}, {count:?}");
+        }
+    }
 }
 
 /// What the level tags of an accepted file say, in 256ths.

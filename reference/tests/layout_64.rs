@@ -155,6 +155,8 @@ fn tags_that_take_long() -> Vec<Tag> {
         Tag::longs(50829, &[0, 0, 2, 3]),
         Tag::longs(50714, &[0]),
         Tag::longs(50717, &[255]),
+        Tag::longs(50719, &[0, 0]),
+        Tag::longs(50720, &[3, 2]),
     ]
 }
 
@@ -320,6 +322,10 @@ fn numbers_go_up_to_the_greatest_long8() {
     }
     refused(50714, &[65_536], 8);
     refused(50717, &[65_536], 8);
+    for value in far(1) {
+        refused(50720, &[value, 1], 4);
+        refused(50720, &[1, value], 4);
+    }
 }
 
 #[test]
@@ -352,7 +358,8 @@ fn a_directory_may_hold_every_tag() {
     let whole = frame(&dng);
     let needed = std::mem::take(&mut dng.first_ifd().tags);
     let not_carried = [51008, 51022];
-    let read = [50707, 284, 339, 50975, 52547, 50829, 50712, 50713, 50714, 50715, 50716, 50717, 51009];
+    let read =
+        [50707, 284, 339, 50975, 52547, 50829, 50712, 50713, 50714, 50715, 50716, 50717, 50719, 50720, 51009];
     let strange = |tag: u16| Tag::bytes(tag, &[1; 9]).with_kind(14);
     let tags = (0..=65_535).map(|tag| needed.iter().find(|t| t.tag == tag).cloned().unwrap_or(strange(tag)));
     let tags: Vec<Tag> = tags.collect();
@@ -384,6 +391,8 @@ fn default_of(tag: u16) -> Tag {
         50715 => Tag::srationals(tag, &[(0, 1); 3]),
         50716 => Tag::srationals(tag, &[(0, 1); 2]),
         50717 => Tag::shorts(tag, &[255]),
+        50719 => Tag::shorts(tag, &[0, 0]),
+        50720 => Tag::shorts(tag, &[3, 2]),
         51009 => Tag::undefined(tag, &[0; 4]),
         _ => Tag::shorts(tag, &[1]),
     }

@@ -71,6 +71,8 @@ fn subject(dng: Dng, samples: u32) -> Dng {
         .with(Tag::srationals(50715, &[(1, 2); 2]))
         .with(Tag::srationals(50716, &[(-1, 2); 2]))
         .with(Tag::longs(50717, &vec![300; samples]))
+        .with(Tag::rationals(50719, &[(0, 7), (3, 3)]))
+        .with(Tag::shorts(50720, &[2, 1]))
         .with_opcodes(&opcodes)
         .with_pattern([1, 2, 0, 1])
         .with_first(Tag::srationals(50964, &[(1, 2); 9]))

@@ -51,8 +51,11 @@ fn other_tags_have_defaults() {
         .with(Tag::srationals(50715, &[(0, 1); 3]))
         .with(Tag::srationals(50716, &[(0, 1); 2]))
         .with(Tag::shorts(50717, &[255]))
+        .with(Tag::shorts(50719, &[0, 0]))
+        .with(Tag::shorts(50720, &[3, 2]))
         .with(Tag::undefined(51009, &[0; 4]));
     assert_eq!(frame(&explicit), full);
+    assert_eq!(card(&explicit.file()), card(&dng.file()));
 }
 
 #[test]
@@ -67,6 +70,8 @@ fn types_of_every_raw_tag() {
     only_types(&base, 50829, &shorts(&[0, 0, 1, 1]), &[3, 4]);
     only_types(&base, 50713, &shorts(&[1, 1]), &[3]);
     only_types(&base, 50714, &shorts(&[1]), &[3, 4, 5]);
+    only_types(&base, 50719, &shorts(&[0, 0]), &[3, 4, 5]);
+    only_types(&base, 50720, &shorts(&[1, 1]), &[3, 4, 5]);
     only_types(&base, 50715, &Data::SRationals(vec![(0, 1); 3]), &[10]);
     only_types(&base, 50716, &Data::SRationals(vec![(0, 1); 2]), &[10]);
     only_types(&base, 51009, &Data::Bytes(vec![0; 4]), &[7]);
@@ -94,8 +99,8 @@ fn counts_of_every_raw_tag() {
             assert_eq!(answer(&dng), if count == right { DONE } else { refusal(4, tag.into()) });
         }
     }
-    for count in [0, 1, 3] {
-        refuses(&mosaic(3, 2).with(Tag::shorts(50713, &vec![1; count])), 4, 50713);
+    for (tag, count) in [50713u16, 50719, 50720].into_iter().flat_map(|tag| [0, 1, 3].map(|n| (tag, n))) {
+        refuses(&mosaic(3, 2).with(Tag::shorts(tag, &vec![1; count])), 4, tag.into());
     }
     for count in [0, 3, 5] {
         refuses(&mosaic(3, 2).with(Tag::shorts(50829, &vec![1; count])), 4, 50829);

@@ -24,6 +24,8 @@ fn subject() -> (Dng, OpcodeList) {
     ]);
     let dng = linear(4, 4)
         .with(Tag::longs(50829, &[1, 1, 3, 3]))
+        .with(Tag::shorts(50719, &[1, 0]))
+        .with(Tag::rationals(50720, &[(1, 1), (4, 2)]))
         .with(list.tag())
         .with(Tag::shorts(266, &[1]))
         .with(Tag::bytes(305, &[7; 9]))
@@ -112,6 +114,30 @@ fn the_pattern_is_read_of_a_mosaic_by_half_windows() {
                 assert_eq!(half(&changed(&mosaic.file, above.value)), before);
                 assert_eq!(all_answers(&changed(&linear.file, unread.value)), colours);
             }
+        }
+    }
+}
+
+/// "Reads: both values whole", in the raw IFD alone. What stands behind a value
+/// that is shorter than its field is not read.
+#[test]
+fn the_crop_is_read_in_the_raw_ifd() {
+    let (dng, _) = subject();
+    let dng = dng.with_first(Tag::shorts(50719, &[1, 0])).with_first(Tag::rationals(50720, &[(1, 1); 2]));
+    for (order, widths) in BOTH.into_iter().flat_map(|order| LAYOUTS.map(|widths| (order, widths))) {
+        let layout = Dng { order, widths, ..dng.clone() }.layout();
+        let changed = |place: usize| poked(&layout.file, place, &[layout.file[place] ^ 0x11]);
+        let before = all_answers(&layout.file);
+        for tag in [50719, 50720] {
+            let (read, above) = (layout.entry(dng.raw, tag), layout.entry(0, tag));
+            for place in 0..read.length {
+                assert_ne!(card(&changed(read.value + place)), before.0, "{tag}, byte {place}");
+                assert_eq!(all_answers(&changed(above.value + place)), before);
+            }
+        }
+        let origin = layout.entry(dng.raw, 50719);
+        for place in origin.length..widths.word as usize {
+            assert_eq!(all_answers(&changed(origin.value + place)), before);
         }
     }
 }

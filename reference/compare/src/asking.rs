@@ -58,8 +58,8 @@ fn untouched(place: usize) -> u64 {
     0x7FF8_5A5A_0000_0000 | place as u64
 }
 
-/// Number and detail; then the card's five counts, the bits of the spot, or
-/// those of the slice with its margins.
+/// Number and detail; then the card's five counts and its crop (left, top, columns,
+/// rows), the bits of the spot, or those of the slice with its margins.
 #[derive(Clone, Debug, PartialEq, Eq)]
 pub struct Outcome {
     pub answer: Answer,
@@ -72,7 +72,8 @@ impl Program {
             Call::Card => {
                 let card = (self.card)(file);
                 let Card { rows, columns, samples, kept, skipped, .. } = card;
-                Outcome { answer: card.answer(), bits: vec![rows, columns, samples, kept, skipped] }
+                let counts = [rows, columns, samples, kept, skipped];
+                Outcome { answer: card.answer(), bits: [&counts[..], &card.crop.numbers()].concat() }
             }
             Call::Spot { row, column, plane } => {
                 let (answer, value) = (self.spot)(file, row, column, plane);
@@ -98,7 +99,7 @@ fn lend(slice: usize, call: impl FnOnce(&mut [f64]) -> Answer) -> Outcome {
 }
 
 impl Outcome {
-    /// "a refused card holds five zeros, a refused spot +0.0; a refused window
+    /// "a refused card holds five zeros", and four more of the crop; "a refused spot +0.0; a refused window
     /// or colour window leaves its slice untouched", and so does a half window;
     /// an accepted one writes every place of its slice and no other.
     pub fn is_whole(&self, call: &Call) -> bool {

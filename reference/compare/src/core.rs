@@ -1,9 +1,9 @@
 //! The core's C interface.
 
-use reference::{Answer, Card};
+use reference::{Answer, Card, Crop};
 
 extern "C" {
-    fn dng_card(file: *const u8, file_len: usize, numbers: &mut [u64; 7]);
+    fn dng_card(file: *const u8, file_len: usize, numbers: &mut [u64; 11]);
     fn dng_window(
         file: *const u8,
         file_len: usize,
@@ -56,11 +56,13 @@ fn ask(call: Window, file: &[u8], rectangle: [u64; 4], out: &mut [f64]) -> Answe
 
 /// Before the call every number is one that no card has.
 pub fn card(file: &[u8]) -> Card {
-    let mut numbers = [u64::MAX; 7];
+    let mut numbers = [u64::MAX; 11];
     unsafe { dng_card(file.as_ptr(), file.len(), &mut numbers) };
-    let [number, detail, rows, columns, samples, kept, skipped] = numbers;
+    let [number, detail, rows, columns, samples, kept, skipped, of_crop @ ..] = numbers;
     let [number, detail] = [number, detail].map(|n| u32::try_from(n).expect("32 bits"));
-    Card { number, detail, rows, columns, samples, kept, skipped }
+    let [crop_left, crop_top, crop_columns, crop_rows] = of_crop;
+    let crop = Crop { left: crop_left, top: crop_top, columns: crop_columns, rows: crop_rows };
+    Card { number, detail, rows, columns, samples, kept, skipped, crop }
 }
 
 pub fn window(file: &[u8], top: u64, left: u64, height: u64, width: u64, out: &mut [f64]) -> Answer {

@@ -3,7 +3,7 @@
 
 use std::collections::BTreeMap;
 
-use reference::bytes::ByteOrder;
+use reference::bytes::{ByteOrder, Widths};
 use reference::colour;
 use reference::denormals;
 use reference::develop::{accept, Accepted};
@@ -11,10 +11,11 @@ use reference::directory::{walk, Tree};
 use reference::gain_map::{Axis, GainMap};
 use reference::opcodes::{Action, FrameSize, Grid, Opcode};
 use reference::pattern::{self, Pattern};
-use reference::tag_test::{fine, Fraction, Tags, IFD8, LONG, LONG8, SHORT, SLONG8, SRATIONAL};
+use reference::tag_test::{fine, Fraction, Tags, IFD8, LONG, LONG8, RATIONAL, SHORT, SLONG8, SRATIONAL};
+use reference::Crop;
 
 /// Every kind that must occur in each layout.
-const KINDS: [&str; 95] = [
+const KINDS: [&str; 112] = [
     "mosaic 8 II",
     "mosaic 8 MM",
     "mosaic 16 II",
@@ -110,6 +111,23 @@ const KINDS: [&str; 95] = [
     "denormal spacing",
     "denormal spacing of one point",
     "denormal origin",
+    "crop by no tag",
+    "crop by its origin alone",
+    "crop by its size alone",
+    "crop by both tags",
+    "crop of all the area",
+    "crop off the corner",
+    "three corners apart",
+    "crop to the right edge",
+    "crop between the sides",
+    "crop to the bottom edge",
+    "crop between top and bottom",
+    "crop not inside the other way round",
+    "crop by SHORT",
+    "crop by the widest LONG",
+    "crop by RATIONAL",
+    "crop by a fraction",
+    "crop at 0 by a fraction",
 ];
 
 /// Where the kinds of mosaics' blocks begin.
@@ -129,6 +147,8 @@ impl Kinds {
         };
         let mut kinds = of_frame(&accepted);
         kinds.extend(of_tags(&accepted));
+        kinds.extend(of_crop(&accepted));
+        kinds.extend(of_crop_tags(&accepted));
         kinds.extend(of_list(&accepted));
         kinds.extend(of_gain_maps(&accepted));
         kinds.extend(of_colour(&accepted));
@@ -203,6 +223,48 @@ fn of_levels(raw: &Tags, size: FrameSize) -> Vec<&'static str> {
 
 fn met<const N: usize>(kinds: [(bool, &'static str); N]) -> Vec<&'static str> {
     kinds.into_iter().filter(|(met, _)| *met).map(|(_, kind)| kind).collect()
+}
+
+/// Where the crop lies in the active area.
+fn of_crop(accepted: &Accepted) -> Vec<&'static str> {
+    let Crop { left, top, columns, rows } = accepted.raw.crop;
+    let (active, size) = (&accepted.raw.active, accepted.size());
+    let off_the_corner = left > 0 && top > 0;
+    met([
+        ([columns, rows] == [size.columns, size.rows], "crop of all the area"),
+        (off_the_corner, "crop off the corner"),
+        (off_the_corner && active.left > 0 && active.top > 0, "three corners apart"),
+        (left > 0 && left + columns == size.columns, "crop to the right edge"),
+        (left > 0 && left + columns < size.columns, "crop between the sides"),
+        (top > 0 && top + rows == size.rows, "crop to the bottom edge"),
+        (top > 0 && top + rows < size.rows, "crop between top and bottom"),
+        (left + columns > size.rows || top + rows > size.columns, "crop not inside the other way round"),
+    ])
+}
+
+/// The tags by which it is stated.
+fn of_crop_tags(accepted: &Accepted) -> Vec<&'static str> {
+    let entries = [50719, 50720].map(|tag| accepted.raw_ifd.find(tag));
+    let raw = Tags { file: &accepted.file, directory: &accepted.raw_ifd };
+    let taken = [SHORT, LONG, RATIONAL];
+    let values = [50719, 50720].map(|tag| raw.optional(tag, &taken, 2..=2, fine).expect(ACCEPTED));
+    let fraction = |of: fn(i128) -> bool| {
+        values.iter().flatten().flatten().any(|v| v.denominator > 1 && of(v.numerator))
+    };
+    let of_type = |kind| entries.iter().flatten().any(|entry| entry.kind == kind);
+    let widest = if accepted.file.widths == Widths::BITS_64 { LONG8 } else { LONG };
+    let present = entries.map(|entry| entry.is_some());
+    met([
+        (present == [false, false], "crop by no tag"),
+        (present == [true, false], "crop by its origin alone"),
+        (present == [false, true], "crop by its size alone"),
+        (present == [true, true], "crop by both tags"),
+        (of_type(SHORT), "crop by SHORT"),
+        (of_type(widest), "crop by the widest LONG"),
+        (of_type(RATIONAL), "crop by RATIONAL"),
+        (fraction(|numerator| numerator > 0), "crop by a fraction"),
+        (fraction(|numerator| numerator == 0), "crop at 0 by a fraction"),
+    ])
 }
 
 /// The types of 8 bytes, of tags that are read or not.

@@ -4,6 +4,7 @@ pub mod asking;
 pub mod core;
 pub mod kinds;
 pub mod limits;
+pub mod listing;
 pub mod mosaic;
 pub mod questions;
 pub mod tally;

@@ -5,6 +5,7 @@
 mod accuracy;
 mod blacks;
 mod colour;
+pub mod crop;
 mod denormals;
 mod gain_map;
 mod headers;
@@ -70,6 +71,7 @@ pub fn check(tally: &mut Tally) {
     blacks::check(tally);
     levels::check(tally);
     accuracy::check(tally);
+    crop::check(tally);
     parts::check(tally);
     wide::check(tally);
     lists::check(tally);

@@ -1,27 +1,32 @@
 //! `compare SEED COUNT`: so many generated files through the core and through
 //! the independent program, by all five calls. Every answer must be the same
 //! in every bit, and every refusal must have been met; then the same of the
-//! files at the limits, whose answers are stated.
+//! files at the limits, whose answers are stated; then listings of some of
+//! these files by the core's listing program.
 
+use std::path::Path;
 use std::process::ExitCode;
 
 use compare::kinds::Kinds;
 use compare::limits;
+use compare::listing::{self, Listed};
 use compare::questions::questions;
-use compare::tally::{Stated, Tally, CARD, COLOUR_WINDOW, HALF_WINDOW};
+use compare::tally::{Stated, Tally, CARD, COLOUR_WINDOW, HALF_WINDOW, PRINTED};
 use reference::bytes::{Widths, MARKS};
 use reference::generate::generate;
 
 /// What the card must have answered before the opcode list is read, with its
 /// detail where it is a tag.
 const PLAIN: [u32; 6] = [1, 2, 3, 6, 7, 9];
-const WRONG: [u32; 25] = [
+const WRONG: [u32; 27] = [
     254, 330, 50706, 50707, 256, 257, 262, 277, 258, 259, 284, 339, 50975, 52547, 278, 273, 279, 50829,
-    50712, 50713, 50714, 50715, 50716, 50717, 51009,
+    50712, 50713, 50714, 50715, 50716, 50717, 50719, 50720, 51009,
 ];
 const ABSENT: [u32; 7] = [50706, 256, 257, 262, 258, 273, 279];
-const NOT_CARRIED: [u32; 17] =
-    [256, 257, 262, 277, 258, 259, 284, 339, 50975, 52547, 50713, 50714, 50715, 50716, 50717, 51008, 51022];
+const NOT_CARRIED: [u32; 19] = [
+    256, 257, 262, 277, 258, 259, 284, 339, 50975, 52547, 50713, 50714, 50715, 50716, 50717, 50719, 50720,
+    51008, 51022,
+];
 
 /// Of the opcode list: at its first place, at a later one, and over 32.
 const LIST: [Stated; 7] = [(10, 0), (10, 1), (11, 0), (11, 1), (11, 32), (12, 0), (12, 1)];
@@ -89,11 +94,15 @@ fn listed<T: AsRef<str>>(words: &[T]) -> String {
     }
 }
 
-/// What came of the generated files of one layout.
+/// Of so many of the first generated files the listing is asked.
+const LISTED: u64 = 3_000;
+
+/// What came of the generated files of one layout, and some of the files.
 #[derive(Default)]
 struct Generated {
     tally: Tally,
     kinds: Kinds,
+    listed: Vec<Listed>,
 }
 
 /// Does a file begin with a mark of the 64-bit layout?
@@ -106,8 +115,11 @@ fn generated(seed: u64, count: u64) -> [Generated; 2] {
     let mut of_layouts = <[Generated; 2]>::default();
     for index in 0..count {
         let case = generate(seed, index);
-        let Generated { tally, kinds } = &mut of_layouts[usize::from(in_64_bits(&case.file))];
+        let Generated { tally, kinds, listed } = &mut of_layouts[usize::from(in_64_bits(&case.file))];
         let label = format!("case {seed} {index} ({})", case.label);
+        if index < LISTED {
+            listed.extend(Listed::new(&label, &case.file));
+        }
         tally.files += 1;
         kinds.add(&case.file);
         let more = questions(&reference::card(&case.file), index);
@@ -128,23 +140,47 @@ fn main() -> ExitCode {
 }
 
 fn compare(seed: u64, count: u64) -> ExitCode {
+    let program = match listing::program() {
+        Ok(program) => program,
+        Err(line) => {
+            eprintln!("{line}");
+            return ExitCode::FAILURE;
+        }
+    };
     let (mut unmet, mut no_kind, mut differences) = (Vec::new(), Vec::new(), 0);
+    let mut to_list = Vec::new();
     let of_layouts = ["32 bits", "64 bits"].into_iter().zip(generated(seed, count));
-    for (bits, Generated { mut tally, kinds }) in of_layouts {
+    for (bits, Generated { mut tally, kinds, listed }) in of_layouts {
         differences += report(&format!("generated, seed {seed}, {bits}"), &mut tally);
         println!("accepted files of each kind, {bits}:");
         kinds.print();
         unmet.extend(missing(&tally).into_iter().map(|answer| format!("{answer} in {bits}")));
         no_kind.extend(kinds.missing().into_iter().map(|kind| format!("{kind} in {bits}")));
+        to_list.extend(listed);
     }
     let mut limits = Tally::default();
     limits::check(&mut limits);
     differences += report("limits", &mut limits);
     unmet.extend(missing(&limits));
+    differences += listings(&program, to_list);
     println!("answers not met: {}; kinds not met: {}", listed(&unmet), listed(&no_kind));
     if differences == 0 && unmet.is_empty() && no_kind.is_empty() {
         ExitCode::SUCCESS
     } else {
         ExitCode::FAILURE
     }
+}
+
+/// Lists these files, the stored ones and those at the crop's limits, and gives how
+/// many differences there are.
+fn listings(program: &Path, mut files: Vec<Listed>) -> u64 {
+    files.extend(listing::limits().expect("the stored inputs are there"));
+    let listings = listing::compare(program, &files).expect("the core's listing program runs");
+    listings.differences.iter().take(PRINTED as usize).for_each(|line| println!("{line}"));
+    let differences = listings.differences.len();
+    println!(
+        "listings: {} files ({} refused, {} cropped), {} values, {differences} differences",
+        listings.files, listings.refused, listings.cropped, listings.values
+    );
+    differences as u64
 }

@@ -20,7 +20,7 @@ pub const HALF_WINDOW: usize = 4;
 const GREATEST_NUMBER: [u32; CALLS] = [12, 14, 13, 15, 15];
 
 /// So many differences are printed; the rest are counted.
-const PRINTED: u64 = 30;
+pub const PRINTED: u64 = 30;
 
 /// So many bytes of files and outcomes may wait for the core to be asked.
 const WAITING: usize = 1 << 20;

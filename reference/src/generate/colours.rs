@@ -19,7 +19,8 @@ const PATTERNS: [[u8; 4]; 12] = [
     [2, 1, 1, 0],
 ];
 
-/// A forward matrix and a neutral, which one file of six has not.
+/// A forward matrix and a neutral, which one file of six has not; one of 32 has the
+/// matrix alone.
 pub fn choose(random: &mut Random, dng: &mut Dng) {
     if random.one_in(6) {
         return;
@@ -30,6 +31,9 @@ pub fn choose(random: &mut Random, dng: &mut Dng) {
         })
         .collect();
     dng.first_ifd().set(Tag::srationals(50964, &matrix));
+    if random.one_in(32) {
+        return;
+    }
     let neutral: Vec<(u32, u32)> =
         (0..3).map(|_| (random.small(1, 1000), random.pick(&[1, 3, 1000, u32::MAX]))).collect();
     let shorts: Vec<u16> = neutral.iter().map(|(n, _)| *n as u16).collect();

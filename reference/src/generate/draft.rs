@@ -6,7 +6,7 @@ use crate::random::Random;
 use crate::tag_test::{LONG, SHORT};
 
 use super::levels::{self, Frame};
-use super::{colours, layouts, lists, trees};
+use super::{colours, crops, layouts, lists, trees};
 
 /// A description that can still be edited; the opcode list is kept apart.
 #[derive(Clone, Debug)]
@@ -37,12 +37,14 @@ impl Draft {
         draft.choose_table(random);
         let frame = draft.frame();
         draft.greatest_black = levels::choose(random, &mut draft.dng, frame);
+        crops::choose(random, &mut draft.dng, [draft.columns, draft.rows]);
         draft.list = lists::list(random, &draft);
         colours::choose(random, &mut draft.dng);
         draft.choose_noise(random);
         colours::choose_pattern(random, &mut draft.dng, draft.picture.samples);
         trees::nest(random, &mut draft.dng);
         colours::choose_unread(random, &mut draft.dng);
+        crops::choose_unread(random, &mut draft.dng);
         draft.dng.ifds_first = random.one_in(2);
         draft.dng.gap = random.pick(&[0, 0, 0, 1, 2, 5]);
         draft.dng.tail = random.pick(&[0, 0, 0, 1, 9]);

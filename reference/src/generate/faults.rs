@@ -8,7 +8,7 @@ use crate::random::Random;
 use super::colours;
 use super::draft::Draft;
 use super::layouts::WIDE_TYPES;
-use super::{gain_maps, lists};
+use super::{crops, gain_maps, lists};
 
 type Fault = fn(&mut Random, &mut Draft);
 
@@ -23,6 +23,13 @@ const FAULTS: &[(&str, Fault)] = &[
     ("tag value", tag_value),
     ("tag value", tag_value),
     ("tag forbidden", tag_forbidden),
+    ("crop", crop),
+    ("crop", crop),
+    ("50717 and 50719", white_and_origin),
+    ("50719 and 50720", origin_and_size),
+    ("50720 and the crop", size_and_crop),
+    ("the crop and 51008", crop_and_list_1),
+    ("the crop and 9", crop_and_9),
     ("pattern", pattern),
     ("pattern", pattern),
     ("value place", value_place),
@@ -37,6 +44,8 @@ const FAULTS: &[(&str, Fault)] = &[
     ("opcode header", opcode_header),
     ("opcode area", opcode_area),
     ("opcode area", opcode_area),
+    ("opcode numbers", opcode_numbers),
+    ("opcode numbers", opcode_numbers),
     ("opcode numbers", opcode_numbers),
     ("opcode size", opcode_size),
     ("gain map", gain_map),
@@ -55,9 +64,9 @@ pub fn faulty(random: &mut Random) -> (String, Vec<u8>) {
     (labels.join(" + "), draft.dng().file())
 }
 
-const RAW_TAGS: [u16; 26] = [
+const RAW_TAGS: [u16; 28] = [
     254, 256, 257, 262, 277, 258, 259, 284, 339, 50975, 52547, 278, 273, 279, 50829, 50712, 50713, 50714,
-    50715, 50716, 50717, 51009, 33421, 33422, 50710, 50711,
+    50715, 50716, 50717, 50719, 50720, 51009, 33421, 33422, 50710, 50711,
 ];
 const FIRST_TAGS: [u16; 6] = [254, 330, 50706, 50707, 50728, 50964];
 const FORBIDDEN_IN_RAW: [u16; 2] = [51008, 51022];
@@ -99,6 +108,8 @@ fn harmless_tag(draft: &Draft, tag: u16) -> Tag {
         50715 => Tag::srationals(50715, &zeros(draft.columns)),
         50716 => Tag::srationals(50716, &zeros(draft.rows)),
         50717 => Tag::longs(50717, &vec![(1 << draft.picture.bits) - 1; samples]),
+        50719 => Tag::longs(50719, &[0, 0]),
+        50720 => Tag::longs(50720, &[draft.columns, draft.rows]),
         51009 => OpcodeList::new(&[]).tag(),
         50707 => Tag::bytes(50707, &[1, 4, 0, 0]),
         50964 => Tag::srationals(50964, &zeros(9)),
@@ -182,7 +193,7 @@ fn edges(tag: u16, length: u32, width: u32) -> Vec<u32> {
         262 => &[0, 1, 2, 32_802, 32_803, 32_804, 34_891, 34_892, 34_893],
         258 => &[0, 1, 7, 8, 9, 12, 15, 16, 17, 32],
         278 => &[0, 1, 2, length, length + 1, 65_535, u32::MAX],
-        50829 => &[0, 1, length, width, length + 1, width + 1, u32::MAX],
+        50829 | 50719 | 50720 => &[0, 1, length, width, length + 1, width + 1, u32::MAX],
         50713 => &[0, 1, 2, 7, 8, 9, 65_535],
         50714 | 50717 => &[0, 1, 254, 65_534, 65_535, 65_536, u32::MAX],
         50706 | 50707 => &[0, 1, 2, 7, 8, 255],
@@ -200,6 +211,58 @@ fn tag_forbidden(random: &mut Random, draft: &mut Draft) {
     } else {
         draft.dng.first_ifd().set(tag(random.pick(&FORBIDDEN_IN_FIRST)).with_kind(kind));
     }
+}
+
+/// One of the crop's two tags with a fault of its own, or a crop that is empty or
+/// outside.
+fn crop(random: &mut Random, draft: &mut Draft) {
+    match random.index(3) {
+        0 => crop_outside(random, draft),
+        1 => crop_tag(random, draft, crops::ORIGIN),
+        _ => crop_tag(random, draft, crops::SIZE),
+    }
+}
+
+fn crop_tag(random: &mut Random, draft: &mut Draft, tag: u16) {
+    draft.dng.raw_ifd().set(crops::faulty(random, tag));
+}
+
+fn crop_outside(random: &mut Random, draft: &mut Draft) {
+    crops::outside(random, &mut draft.dng, [draft.columns, draft.rows]);
+}
+
+/// These and the next four: two faults whose tests stand one behind the other.
+fn white_and_origin(random: &mut Random, draft: &mut Draft) {
+    crop_tag(random, draft, crops::ORIGIN);
+    let whites = vec![65_536; draft.samples() as usize];
+    let kind = random.pick(&[0, 1, 4, 4, 14]);
+    draft.dng.raw_ifd().set(Tag::longs(50717, &whites).with_kind(kind));
+}
+
+fn origin_and_size(random: &mut Random, draft: &mut Draft) {
+    crop_tag(random, draft, crops::SIZE);
+    crop_tag(random, draft, crops::ORIGIN);
+}
+
+fn size_and_crop(random: &mut Random, draft: &mut Draft) {
+    let beyond = [draft.columns, draft.rows].map(|side| side + random.small(0, 1));
+    draft.dng.raw_ifd().set(Tag::longs(crops::ORIGIN, &beyond).shortened());
+    crop_tag(random, draft, crops::SIZE);
+}
+
+fn crop_and_list_1(random: &mut Random, draft: &mut Draft) {
+    crop_outside(random, draft);
+    draft.dng.raw_ifd().set(Tag::undefined(51008, &[0; 4]));
+}
+
+fn crop_and_9(random: &mut Random, draft: &mut Draft) {
+    if random.one_in(2) {
+        crop_outside(random, draft);
+    } else {
+        crop(random, draft);
+    }
+    let whites = vec![one_black(random, draft); draft.samples() as usize];
+    draft.dng.raw_ifd().set(Tag::longs(50717, &whites));
 }
 
 /// Of the pattern's four tags one absent, with a value more or less or another
@@ -350,7 +413,8 @@ fn white(random: &mut Random, draft: &mut Draft) {
     draft.dng.raw_ifd().set(Tag::longs(50717, &whites));
 }
 
-fn one_black(random: &mut Random, draft: &mut Draft) {
+/// One black for all planes and samples, which comes back.
+fn one_black(random: &mut Random, draft: &mut Draft) -> u32 {
     let black = random.small(1, 200);
     let samples = draft.samples() as usize;
     let raw = draft.dng.raw_ifd();
@@ -359,6 +423,7 @@ fn one_black(random: &mut Random, draft: &mut Draft) {
     }
     raw.set(Tag::longs(50714, &vec![black; samples]));
     draft.greatest_black = vec![256 * i128::from(black); samples];
+    black
 }
 
 /// The draft's list, made if there is none.

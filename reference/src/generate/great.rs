@@ -6,7 +6,7 @@ use crate::random::Random;
 use crate::tag_test::SHORT;
 
 use super::levels::{self, Frame};
-use super::{colours, layouts};
+use super::{colours, crops, layouts};
 
 /// Every strip is one row; all strips stand in one block of a few rows.
 pub fn great(random: &mut Random) -> Vec<u8> {
@@ -33,6 +33,7 @@ pub fn great(random: &mut Random) -> Vec<u8> {
         dng = dng.with_opcodes(&[stripes(length, width, samples, polynomial)]);
     }
     levels::choose(random, &mut dng, frame);
+    crops::choose(random, &mut dng, [frame.columns, frame.rows]);
     colours::choose(random, &mut dng);
     colours::choose_pattern(random, &mut dng, samples);
     layouts::lay_out_in_either(random, &mut dng);

@@ -2,6 +2,7 @@
 //! same seed and index give the same case on every machine.
 
 mod colours;
+mod crops;
 mod damage;
 mod draft;
 mod faults;
@@ -53,8 +54,8 @@ pub fn generate_in_both_layouts(seed: u64, index: u64) -> [Vec<u8>; 2] {
 fn generate_file(random: &mut Random) -> (String, Vec<u8>) {
     let valid = |random: &mut Random| Draft::valid(random).dng().file();
     match random.index(200) {
-        0..=87 => ("valid".into(), valid(random)),
-        88..=155 => faults::faulty(random),
+        0..=79 => ("valid".into(), valid(random)),
+        80..=155 => faults::faulty(random),
         156..=171 => ("flips".into(), damage::flip(random, valid)),
         172..=179 => ("cut".into(), damage::cut(random, valid)),
         180..=189 => ("splice".into(), damage::splice(random, valid)),

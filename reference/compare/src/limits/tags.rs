@@ -11,13 +11,14 @@ use super::{
 use crate::tally::Tally;
 
 const WHOLE: &[u16] = &[SHORT, LONG];
+const WHOLE_OR_RATIONAL: &[u16] = &[SHORT, LONG, RATIONAL];
 
 /// A tag, its types, carried values in each base file, and the number that
 /// answers its absence there.
 pub type Rule = (u16, &'static [u16], [&'static [u32]; 2], [u32; 2]);
 
 /// In order of test.
-pub const RULES: [Rule; 24] = [
+pub const RULES: [Rule; 26] = [
     (50706, &[BYTE], [&[1, 7, 1, 0]; 2], [5; 2]),
     (50707, &[BYTE], [&[1, 7, 1, 0]; 2], [0; 2]),
     (254, &[LONG], [&[0]; 2], [0; 2]),
@@ -37,10 +38,12 @@ pub const RULES: [Rule; 24] = [
     (50829, WHOLE, [&[0, 0, 2, 3]; 2], [0; 2]),
     (50712, &[SHORT], [&[7]; 2], [0; 2]),
     (50713, &[SHORT], [&[1, 1]; 2], [0; 2]),
-    (50714, &[SHORT, LONG, RATIONAL], [&[0], &[0; 3]], [0; 2]),
+    (50714, WHOLE_OR_RATIONAL, [&[0], &[0; 3]], [0; 2]),
     (50715, &[SRATIONAL], [&[0; 3]; 2], [0; 2]),
     (50716, &[SRATIONAL], [&[0; 2]; 2], [0; 2]),
     (50717, WHOLE, [&[255], &[65_535; 3]], [0; 2]),
+    (50719, WHOLE_OR_RATIONAL, [&[0, 0]; 2], [0; 2]),
+    (50720, WHOLE_OR_RATIONAL, [&[3, 2]; 2], [0; 2]),
     (51009, &[UNDEFINED], [&[0; 4]; 2], [0; 2]),
 ];
 
