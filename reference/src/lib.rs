@@ -24,6 +24,7 @@ pub mod blocks;
 pub mod builder;
 pub mod cases;
 pub mod denormals;
+pub mod fractions;
 pub mod generate;
 pub mod index;
 pub mod random;

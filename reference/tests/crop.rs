@@ -7,6 +7,7 @@ use common::*;
 use reference::builder::{Area, Dng, Opcode, OpcodeList, Tag};
 use reference::bytes::{Widths, LAYOUTS};
 use reference::cases::{answer_line, Call};
+use reference::fractions::FRACTIONS;
 use reference::tag_test::{IFD8, LONG, LONG8, RATIONAL, SHORT, SLONG8, SRATIONAL};
 use reference::{card, colour_window, half_window, spot, window, Answer, Card, Crop};
 
@@ -179,35 +180,6 @@ fn the_count_is_2() {
         }
     }
 }
-
-/// A fraction, and its value where it is a whole number, or its refusal.
-const FRACTIONS: [((u32, u32), Result<u64, u32>); 24] = [
-    ((0, 1), Ok(0)),
-    ((1, 1), Ok(1)),
-    ((2, 1), Ok(2)),
-    ((4, 2), Ok(2)),
-    ((2, 4), Err(8)),
-    ((5, 2), Err(8)),
-    ((1, 2), Err(8)),
-    ((3, 2), Err(8)),
-    ((6, 3), Ok(2)),
-    ((4, 3), Err(8)),
-    ((256, 256), Ok(1)),
-    ((512, 257), Err(8)),
-    ((0, 7), Ok(0)),
-    ((7, 0), Err(4)),
-    ((0, 0), Err(4)),
-    ((u32::MAX, 0), Err(4)),
-    ((0, u32::MAX), Ok(0)),
-    ((u32::MAX, 1), Ok(4_294_967_295)),
-    ((1, u32::MAX), Err(8)),
-    ((u32::MAX, u32::MAX), Ok(1)),
-    ((u32::MAX, u32::MAX - 1), Err(8)),
-    // With signs these would be 2, -2 and no whole number.
-    ((u32::MAX - 1, u32::MAX), Err(8)),
-    ((1 << 31, 1 << 30), Ok(2)),
-    ((u32::MAX - 1, (1 << 31) - 1), Ok(2)),
-];
 
 #[test]
 fn a_fraction_is_a_whole_number_or_refused() {

@@ -6,6 +6,7 @@ use std::collections::BTreeSet;
 use reference::builder::{Dng, Opcode, OpcodeList, Picture, Tag};
 use reference::bytes::{ByteOrder, Widths, LAYOUTS};
 use reference::cases::Call;
+use reference::fractions::FRACTIONS;
 use reference::tag_test::{LONG, LONG8, RATIONAL, SHORT};
 
 use super::{
@@ -167,41 +168,6 @@ fn counts(cases: &mut Cases) {
         }
     }
 }
-
-/// A fraction, and its value where it is a whole number, or its number.
-const FRACTIONS: [((u32, u32), Result<u64, u32>); 30] = [
-    ((0, 1), Ok(0)),
-    ((1, 1), Ok(1)),
-    ((2, 1), Ok(2)),
-    ((4, 2), Ok(2)),
-    ((2, 4), Err(8)),
-    ((5, 2), Err(8)),
-    ((3, 2), Err(8)),
-    ((1, 2), Err(8)),
-    ((6, 3), Ok(2)),
-    ((5, 3), Err(8)),
-    ((7, 3), Err(8)),
-    ((0, 2), Ok(0)),
-    ((0, 7), Ok(0)),
-    ((0, MAX), Ok(0)),
-    ((0, 0), Err(4)),
-    ((1, 0), Err(4)),
-    ((7, 0), Err(4)),
-    ((1 << 31, 0), Err(4)),
-    ((MAX, 0), Err(4)),
-    ((256, 256), Ok(1)),
-    ((256, 255), Err(8)),
-    ((65_536, 65_536), Ok(1)),
-    ((MAX, 1), Ok(LONG_MAX)),
-    ((1, MAX), Err(8)),
-    ((MAX, MAX), Ok(1)),
-    ((MAX, MAX - 1), Err(8)),
-    // With signs these would be 2, -2 and no whole number.
-    ((MAX - 1, MAX), Err(8)),
-    ((1 << 31, 1 << 30), Ok(2)),
-    ((MAX - 1, (1 << 31) - 1), Ok(2)),
-    ((1 << 31, 1 << 31), Ok(1)),
-];
 
 /// Each as the first and as the second value of either tag.
 fn fractions(cases: &mut Cases) {

@@ -1,0 +1,40 @@
+//! Fractions as they are written, with their values as whole numbers (document 02,
+//! T-03), worked out by hand: for `tests/crop.rs` and for the comparison.
+
+/// Numerator and denominator; the value where it is a whole number, or the number of
+/// the refusal.
+pub const FRACTIONS: [((u32, u32), Result<u64, u32>); 32] = [
+    ((0, 1), Ok(0)),
+    ((1, 1), Ok(1)),
+    ((2, 1), Ok(2)),
+    ((4, 2), Ok(2)),
+    ((2, 4), Err(8)),
+    ((5, 2), Err(8)),
+    ((3, 2), Err(8)),
+    ((1, 2), Err(8)),
+    ((6, 3), Ok(2)),
+    ((4, 3), Err(8)),
+    ((5, 3), Err(8)),
+    ((7, 3), Err(8)),
+    ((0, 2), Ok(0)),
+    ((0, 7), Ok(0)),
+    ((0, u32::MAX), Ok(0)),
+    ((0, 0), Err(4)),
+    ((1, 0), Err(4)),
+    ((7, 0), Err(4)),
+    ((1 << 31, 0), Err(4)),
+    ((u32::MAX, 0), Err(4)),
+    ((256, 256), Ok(1)),
+    ((256, 255), Err(8)),
+    ((512, 257), Err(8)),
+    ((65_536, 65_536), Ok(1)),
+    ((u32::MAX, 1), Ok(4_294_967_295)),
+    ((1, u32::MAX), Err(8)),
+    ((u32::MAX, u32::MAX), Ok(1)),
+    ((u32::MAX, u32::MAX - 1), Err(8)),
+    // With signs these would be 2, -2 and no whole number.
+    ((u32::MAX - 1, u32::MAX), Err(8)),
+    ((1 << 31, 1 << 30), Ok(2)),
+    ((u32::MAX - 1, (1 << 31) - 1), Ok(2)),
+    ((1 << 31, 1 << 31), Ok(1)),
+];
