@@ -144,9 +144,9 @@ module _ (f : List ℕ) (o : Opened) (inside : CropOf (o .picture)) where
   row-length : (r : ℕ) → length (joined (row r)) ≡ width
   row-length r = joined-length _ n (λ x. length-run _ 1 0 n) (c .left) (c .columns)
 
-  crop-rows : croppedFrame c (frameOf f o) ≡ runOf row 1 (c .top) (c .rows)
+  cropped-rows : croppedFrame c (frameOf f o) ≡ runOf row 1 (c .top) (c .rows)
   unfolding framed
-  crop-rows =
+  cropped-rows =
       let whole : ℕ → List (List Float) =
       λ (r : ℕ). runOf (λ (x : ℕ). runOf (λ (p : ℕ). aloneIn f o r x p) 1 0 n) 1 0 (activeColumns (tagsOf o .area)) in
       let columns : List (List Float) → List (List Float) = λ (xs : List (List Float)). take (c .columns) (drop (c .left) xs) in
@@ -156,7 +156,7 @@ module _ (f : List ℕ) (o : Opened) (inside : CropOf (o .picture)) where
       ∙ run-same _ row 1 1 (c .top) (c .top) (c .rows) (λ i h. run-part _ (c .left) (c .columns) (activeColumns (tagsOf o .area)) (inside .right))
 
   rows-from : (t : ℕ) → drop t (croppedFrame c (frameOf f o)) ≡ runOf row 1 (c .top + t) (c .rows - t)
-  rows-from t = ap (λ (q : Frame). drop t q) crop-rows ∙ run-drop row t (c .top) (c .rows)
+  rows-from t = ap (λ (q : Frame). drop t q) cropped-rows ∙ run-drop row t (c .top) (c .rows)
 
   -- the lines of a block of rows and those of the rows after it
   pub body-next :
@@ -178,7 +178,7 @@ module _ (f : List ℕ) (o : Opened) (inside : CropOf (o .picture)) where
 
   pub body-length : 1 ≤ width → length (bodyText f 0 (is o)) ≡ c .rows * (17 * width)
   body-length s =
-      ap (λ (q : Frame). length (rowsText q)) crop-rows ∙ rows-length row width row-length s (c .top) (c .rows)
+      ap (λ (q : Frame). length (rowsText q)) cropped-rows ∙ rows-length row width row-length s (c .top) (c .rows)
 
 -- ---- numbers from 0 to 1
 units-append : (xs ys : List Float) → All-in-unit xs → All-in-unit ys → All-in-unit (xs ++ ys)

@@ -62,9 +62,9 @@ module _ (f : List ℕ) (len : ℕ) (d : Ifd) where
                 ∙ sym (bind-is _ _ _ v ev ∙ bind-is _ _ _ l el ∙ bind-is _ _ _ s es ∙ bind-is _ _ _ a ea ∙ bind-is _ _ _ x ex)
 
             module _ (c : Crop) (ec : is c ≡ run f (cropReading d (activeRows a) (activeColumns a))) where
-              pub list-refused : (n k : ℕ) → refused n k ≡ run f (listTagReading d) → Refused-first n k
+              pub list-tag-refused : (n k : ℕ) → refused n k ≡ run f (listTagReading d) → Refused-first n k
               unfolding tagsReading
-              list-refused n k e =
+              list-tag-refused n k e =
                   bind-refused _ _ _ n k e
                   ∙ sym (bind-is _ _ _ v ev ∙ bind-is _ _ _ l el ∙ bind-is _ _ _ s es ∙ bind-is _ _ _ a ea ∙ bind-is _ _ _ x ex
                   ∙ bind-is _ _ _ c ec)

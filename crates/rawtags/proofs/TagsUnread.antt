@@ -294,8 +294,8 @@ module _ (f : List ℕ) (d : Ifd) (j : ℕ) (heads : reads (headsOf d) j ≡ fal
   -- a byte that lies in no tag, type or count of the entries, in no value of these tags and not in the list's offset is not read for
   -- the raw directory's tags
   pub tags-unread :
-      (size : ℕ) → ((tag : ℕ) → hasKey rawTags tag ≡ true → reads (valueIn f d tag) j ≡ false) → reads (offsetIn f d opcodeList2) j ≡ false →
-      Unread f j (tagsReading size d)
+      (size : ℕ) → ((tag : ℕ) → hasKey rawTags tag ≡ true → reads (valueIn f d tag) j ≡ false) →
+      reads (offsetIn f d opcodeList2) j ≡ false → Unread f j (tagsReading size d)
   unfolding tagsReading
   tags-unread size value list =
       unread-bind f j (frameReading d) _

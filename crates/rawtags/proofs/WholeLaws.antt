@@ -24,9 +24,9 @@ module _ (tag n d : ℕ) where
   over-zero e = simp (eq-eqb _ _ e, pick-yes)
 
   module _ (e : d ≡ 0 → ⊥) where
-    pub whole-is : n % d ≡ 0 → is (n / d) ≡ wholeNumberOf tag n d
+    pub quotient-is : n % d ≡ 0 → is (n / d) ≡ wholeNumberOf tag n d
     unfolding wholeNumberOf
-    whole-is h = simp (ne-eqb _ _ e, eq-eqb _ _ h, pick-yes, pick-no)
+    quotient-is h = simp (ne-eqb _ _ e, eq-eqb _ _ h, pick-yes, pick-no)
 
     pub not-whole : (n % d ≡ 0 → ⊥) → refused 8 tag ≡ wholeNumberOf tag n d
     unfolding wholeNumberOf

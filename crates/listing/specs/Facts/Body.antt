@@ -7,7 +7,6 @@ use lib.ListN.{length, take, drop}
 use Rattle.directory.specs.Out.{Out.is}
 use Rattle.opcodes.specs.declared.grid.Size.{Size}
 use Rattle.rows.specs.Facts.Part.{All-in-unit}
-use Rattle.develop.specs.Calls.{opened}
 use Rattle.develop.specs.Facts.View.{Viewed}
 use Rattle.develop.specs.declared.View.{View}
 use Rattle.develop.specs.declared.Opening.{Opening}

@@ -27,7 +27,7 @@ use Rattle.rawtags.specs.declared.frame.Dimensions.{Dimensions}
 use Rattle.rawtags.specs.declared.layout.Layout.{Layout}
 use Rattle.rawtags.specs.declared.area.Area.{Area}
 use Rattle.rawtags.proofs.TagsLaws.{frame-refused, layout-refused, strips-refused, area-refused, level-tags-refused}
-use Rattle.rawtags.proofs.TagsLaws.{crop-refused, list-refused, tags-are}
+use Rattle.rawtags.proofs.TagsLaws.{crop-refused, list-tag-refused, tags-are}
 use borrow.Author.Needs.{needs}
 use Rattle.rawtags.proofs.tags_of.Statement.{statement}
 use Rattle.rawtags.proofs.tags_of.Tie as tie
@@ -220,7 +220,7 @@ returns-7 c =
     let s = striped a in
     let l = laid s in
     let e = ap valuesOut (sym (c .before .number7 .given .1)) ∙ step .list-of .ensures .0 in
-    (list-refused _ _ _ _ (is-frame (framed l)) _ (is-layout l) _ (is-strips s) _ (is-area a) _ (is-levels x) _ (is-crop w) _ _ e, tt)
+    (list-tag-refused _ _ _ _ (is-frame (framed l)) _ (is-layout l) _ (is-strips s) _ (is-area a) _ (is-levels x) _ (is-crop w) _ _ e, tt)
 
 enum-known-v-7 : tie.Need-enum-known-v-7
 enum-known-v-7 c = search needs

@@ -1,4 +1,4 @@
-use Rattle.rawtags.proofs.WholeLaws.{over-zero, whole-is, not-whole}
+use Rattle.rawtags.proofs.WholeLaws.{over-zero, quotient-is, not-whole}
 use borrow.Author.Needs.{needs}
 use Rattle.rawtags.proofs.whole.whole_number.Statement.{statement}
 use Rattle.rawtags.proofs.whole.whole_number.Tie as tie
@@ -13,7 +13,7 @@ div-t7 : tie.Need-div-t7
 div-t7 c = search needs
 
 returns-2 : tie.Need-returns-2
-returns-2 c = whole-is _ _ _ (c .before .if1 .left) (c .if2 .taken)
+returns-2 c = quotient-is _ _ _ (c .before .if1 .left) (c .if2 .taken)
 
 returns-3 : tie.Need-returns-3
 returns-3 c = not-whole _ _ _ (c .before .if1 .left) (c .if2 .left)
