@@ -2,10 +2,13 @@
 use mathlib.Core.Path.{_≡_, refl}
 use mathlib.Core.List.{List, [], _∷_}
 use Prim.Native.Nat.{ℕ}
+use mathlib.Core.Bool.{true}
+use lib.ListN.{replicate}
 use Rattle.reading.specs.Bytes.{replaced}
 use Rattle.reading.specs.Number.{numberOf, littleOf}
-use Rattle.reading.specs.Reading.{run, andThen, pick, numberAt}
+use Rattle.reading.specs.Reading.{run, trace, reads, andThen, pick, numberAt}
 use Rattle.reading.specs.declared.number.Order.the-variants.{Little}
+use Rattle.levels.specs.Run.{runOf}
 use Rattle.directory.specs.Out.{Out, Out.refused, Out.is, bind}
 use Rattle.directory.specs.Widths.{classic}
 use Rattle.directory.specs.Entry.{kindOf, plainOf, kindWidth, entryOf}
@@ -51,8 +54,10 @@ pub record Worked : Type 0 where
       ≡ refused 4 50720 ∷ refused 4 50720 ∷ refused 4 50720 ∷ refused 4 50720 ∷ refused 4 50720 ∷ []
   -- an origin alone: its size is the active one, and too great
   pub origin-alone : read 1 0 entries ≡ refused 4 50720
+  -- both values are read whole, from the size's in its entry to the origin's last byte
+  pub reads-both : runOf (λ (i : ℕ). reads (trace entries (cropReading (ifd classic Little 2 0) 3 5)) i) 1 20 20 ≡ replicate 20 true
 
 pub worked : Worked
-unfolding run andThen pick numberAt numberOf littleOf bind kindOf plainOf kindWidth entryOf findFrom wholeReading valueReading testedReading
+unfolding run trace reads runOf andThen pick numberAt numberOf littleOf bind kindOf plainOf kindWidth entryOf findFrom wholeReading valueReading testedReading
     absentOf valuesReading wholeNumberOf wholeNumberReading bothReading lengthsReading cropOf cropReading
-worked = record { both = refl; defaults = refl; edge = refl; refusals = refl; outside = refl; origin-alone = refl }
+worked = record { both = refl; defaults = refl; edge = refl; refusals = refl; outside = refl; origin-alone = refl; reads-both = refl }
