@@ -10,9 +10,10 @@ use lib.Dec.{leb, eqb}
 use lib.Ieee.{Float}
 use lib.ListN.{length}
 use borrow.Author.Tests.{leb-true, eqb-true, eq-eqb, ne-eqb}
+use Rattle.reading.specs.Bytes.{someInside}
 use Rattle.reading.specs.Reading.{run, pick}
-use Rattle.reading.proofs.Reading.{run-answer, pick-yes, pick-no}
-use Rattle.directory.specs.Out.{Out, Out.refused, Out.is}
+use Rattle.reading.proofs.Reading.{pick-yes, pick-no}
+use Rattle.directory.specs.Out.{Out, Out.is}
 use Rattle.raw.specs.Sample.{ActiveIn}
 use Rattle.raw.specs.declared.front.Picture.{Picture}
 use Rattle.colour.specs.Tags.{colourReading}
@@ -62,13 +63,13 @@ module _ (f : List ℕ) (v : View) (h : Viewed f v) (r c p : ℕ) where
 
 -- ---- 13 and 14
 module _ (z : Size) (t l h w : ℕ) where
-  abbrev pub spansRows : Bool
-  spansRows = leb 1 h && leb (t + h) (z .rows)
+  abbrev pub rowsInside : Bool
+  rowsInside = someInside t h (z .rows)
 
-  abbrev pub spansColumns : Bool
-  spansColumns = leb 1 w && leb (l + w) (z .columns)
+  abbrev pub columnsInside : Bool
+  columnsInside = someInside l w (z .columns)
 
-  inside-is : inside z t l h w ≡ (spansRows && spansColumns)
+  inside-is : inside z t l h w ≡ (rowsInside && columnsInside)
   inside-is = go (leb 1 h) (leb 1 w) (leb (t + h) (z .rows)) (leb (l + w) (z .columns))
     where
       go : (a b c d : Bool) → (a && (b && (c && d))) ≡ ((a && c) && (b && d))
@@ -78,19 +79,19 @@ module _ (z : Size) (t l h w : ℕ) where
       go false b c d = refl
 
   module _ (n len : ℕ) where
-    pub fault-none : spansRows ≡ true → spansColumns ≡ true → len ≡ h * w * n → 0 ≡ windowFault z n t l h w len
+    pub fault-none : rowsInside ≡ true → columnsInside ≡ true → len ≡ h * w * n → 0 ≡ windowFault z n t l h w len
     unfolding windowFault
     fault-none a b e = sym (simp (inside-is, a, b, eq-eqb len (h * w * n) e, pick-yes))
 
-    pub fault-length : spansRows ≡ true → spansColumns ≡ true → (len ≡ h * w * n → ⊥) → 14 ≡ windowFault z n t l h w len
+    pub fault-length : rowsInside ≡ true → columnsInside ≡ true → (len ≡ h * w * n → ⊥) → 14 ≡ windowFault z n t l h w len
     unfolding windowFault
     fault-length a b e = sym (simp (inside-is, a, b, ne-eqb len (h * w * n) e, pick-yes, pick-no))
 
-    pub fault-rows : spansRows ≡ false → 13 ≡ windowFault z n t l h w len
+    pub fault-rows : rowsInside ≡ false → 13 ≡ windowFault z n t l h w len
     unfolding windowFault
     fault-rows a = sym (simp (inside-is, a, pick-no))
 
-    pub fault-columns : spansRows ≡ true → spansColumns ≡ false → 13 ≡ windowFault z n t l h w len
+    pub fault-columns : rowsInside ≡ true → columnsInside ≡ false → 13 ≡ windowFault z n t l h w len
     unfolding windowFault
     fault-columns a b = sym (simp (inside-is, a, b, pick-no))
 

@@ -26,8 +26,8 @@ pub fn window_fault(
     requires { ⌜ Sized-in size × (values ≤ 3) ⌝ }
     ensures { λ r. ⌜ r ≡ windowFault size values top left height width len ⌝ }
 {
-    if number::spans(top, height, size.rows) {
-        if number::spans(left, width, size.columns) {
+    if number::some_inside(top, height, size.rows) {
+        if number::some_inside(left, width, size.columns) {
             return if len == height * width * values {
                 0
             } else {

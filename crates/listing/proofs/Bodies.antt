@@ -30,7 +30,7 @@ use Rattle.develop.specs.declared.View.{View}
 use Rattle.develop.specs.declared.Opening.the-variants as opening
 use Rattle.develop.specs.declared.Answer.{Answer}
 use Rattle.develop.proofs.Answers.{frame-alone, developed-alone, values-same, alone-is-unit}
-use Rattle.develop.proofs.Called.{spansRows, spansColumns, fault-none, filled-none}
+use Rattle.develop.proofs.Called.{rowsInside, columnsInside, fault-none, filled-none}
 use Rattle.listing.specs.Text.{valuesText, rowsText, refusedText, frameText, cropSize, croppedFrame, listedOf, headText, bodyText}
 use Rattle.listing.specs.Text.{listingOf}
 use Rattle.listing.specs.Facts.Body.{linesText, Listed, rowsFrom, OpenedIs, RefusedIs, Headed}
@@ -125,10 +125,11 @@ module _ (row : ℕ → List (List Float)) (m : ℕ) (e : (r : ℕ) → length (
       ∙ omega (arith, e t, line-length first k, rows-length s (t + 1) n, suc-mul n (17 * m))
 
 -- ---- an accepted file
-abbrev CropOf : Picture → Type 0
-CropOf p = Crop-in (activeRows (p .raw .tags .area)) (activeColumns (p .raw .tags .area)) (p .raw .tags .crop)
+-- the crop lies inside the active area
+abbrev Has-crop : Picture → Type 0
+Has-crop p = Crop-in (activeRows (p .raw .tags .area)) (activeColumns (p .raw .tags .area)) (p .raw .tags .crop)
 
-module _ (f : List ℕ) (o : Opened) (inside : CropOf (o .picture)) where
+module _ (f : List ℕ) (o : Opened) (inside : Has-crop (o .picture)) where
   abbrev c : Crop
   c = tagsOf o .crop
 
@@ -209,7 +210,7 @@ module _ (f : List ℕ) (t h : ℕ) (old new : List Float) (a : Answer) where
       1 ≤ h → t + h ≤ c .rows → length old ≡ h * m → windowWith a new ≡ windowCall f (c .top + t) (c .left) h (c .columns) old →
       All-in-unit new × (linesText m h new ++ bodyText f (t + h) (listedOf f) ≡ bodyText f t (listedOf f))
 
-  module _ (o : Opened) (inside : CropOf (o .picture)) (accepted : is o ≡ opened f) where
+  module _ (o : Opened) (inside : Has-crop (o .picture)) (accepted : is o ≡ opened f) where
     abbrev w : Crop
     w = tagsOf o .crop
 
@@ -222,9 +223,9 @@ module _ (f : List ℕ) (t h : ℕ) (old new : List Float) (a : Answer) where
         new ≡ valuesOf (aloneIn f o) (w .top + t) (w .left) h (w .columns) (z .samples)
     block-values s b l e =
         let x : ℕ → ℕ → ℕ → Float = standing (frameOf f o) in
-        let r : spansRows z (w .top + t) (w .left) h (w .columns) ≡ true =
+        let r : rowsInside z (w .top + t) (w .left) h (w .columns) ≡ true =
         rw (le-leb 1 h s, le-leb (w .top + t + h) (z .rows) (omega (arith, inside .bottom))) refl in
-        let y : spansColumns z (w .top + t) (w .left) h (w .columns) ≡ true =
+        let y : columnsInside z (w .top + t) (w .left) h (w .columns) ≡ true =
         rw (le-leb 1 (w .columns) (inside .some-columns), le-leb (w .left + w .columns) (z .columns) (inside .right)) refl in
         let m : length old ≡ h * w .columns * z .samples = l ∙ sym (mul-assoc h (w .columns) (z .samples)) in
         let g = fault-none z (w .top + t) (w .left) h (w .columns) (z .samples) (length old) r y m in
@@ -243,7 +244,7 @@ module _ (f : List ℕ) (t h : ℕ) (old new : List Float) (a : Answer) where
         )
 
 -- ---- the crop of a file that was opened
-pub crop-inside : (f : List ℕ) (v : View) → Viewed f v → CropOf (v .picture)
+pub crop-inside : (f : List ℕ) (v : View) → Viewed f v → Has-crop (v .picture)
 crop-inside f v q = q .picture-in .raw .tags .crop
 
 pub crop-sized : (f : List ℕ) (v : View) → Viewed f v → Sized-in (cropSize (v .picture))
@@ -260,8 +261,8 @@ module _ (f : List ℕ) (v : View) (q : Listed f v) where
   abbrev o : Opened
   o = q .viewed .file
 
-  file-inside : CropOf (o .picture)
-  file-inside = subst CropOf (sym (q .viewed .picture)) (crop-inside f v (q .viewed))
+  file-inside : Has-crop (o .picture)
+  file-inside = subst Has-crop (sym (q .viewed .picture)) (crop-inside f v (q .viewed))
 
   pub block-listed : (t h : ℕ) (old new : List Float) (a : Answer) → Block f t h old new a (v .picture)
   block-listed t h old new a =

@@ -1,7 +1,7 @@
 -- The crop: DefaultCropOrigin, DefaultCropSize. It counts from the active corner.
-use Prim.Native.Nat.{ℕ, _+_}
+use Prim.Native.Nat.{ℕ}
 use mathlib.Core.Bool.{Bool, _&&_}
-use lib.Dec.{leb}
+use Rattle.reading.specs.Bytes.{someInside}
 use Rattle.reading.specs.Reading.{Reading, Reading.answer, pick}
 use Rattle.directory.specs.Names.{defaultCropOrigin, defaultCropSize}
 use Rattle.directory.specs.Out.{Out, Out.refused, Out.is, bind}
@@ -19,8 +19,7 @@ cropFrom o s = record { left = o .horizontal; top = o .vertical; columns = s .ho
 
 -- not empty, and inside the active area of so many rows and columns
 abbrev pub cropInside : ℕ → ℕ → Crop → Bool
-cropInside rows columns c =
-    (leb 1 (c .columns) && leb (c .left + c .columns) columns) && (leb 1 (c .rows) && leb (c .top + c .rows) rows)
+cropInside rows columns c = someInside (c .left) (c .columns) columns && someInside (c .top) (c .rows) rows
 
 -- "a crop empty or not inside the active area is 4 on 50720"
 unfoldable pub cropOf : ℕ → ℕ → Crop → Out Crop

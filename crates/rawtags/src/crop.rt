@@ -33,8 +33,8 @@ fn tested_crop(origin: Lengths, size: Lengths, rows: usize, columns: usize) -> C
         columns: size.horizontal,
         rows: size.vertical,
     };
-    if number::spans(crop.left, crop.columns, columns) {
-        if number::spans(crop.top, crop.rows, rows) {
+    if number::some_inside(crop.left, crop.columns, columns) {
+        if number::some_inside(crop.top, crop.rows, rows) {
             return CropTest::Is(crop);
         }
     }
