@@ -14,7 +14,7 @@ use Rattle.raw.proofs.TagFacts.{stored-run}
 use Rattle.raw.proofs.Accepted.{front-spans}
 use Rattle.develop.specs.Calls.{tagsOf}
 use Rattle.demand.specs.Accuracy.{levelsOf, Has-accurate-levels}
-use Rattle.demand.proofs.Demands.{open-inverse}
+use Rattle.develop.proofs.Views.{open-inverse}
 
 pub has-accurate-levels : (f : List ℕ) → Has-accurate-levels f
 unfolding scaledSample

@@ -38,25 +38,10 @@ use Rattle.develop.specs.Calls.{colourWindowCall, tagsOf, developedIn, aloneIn,
 use Rattle.demand.specs.Demand.{opcodeStart, storedPlace, Is-pixel, Is-sample, In-block, Not-in-tags, Meets-demand-3}
 use Rattle.demand.specs.Demand.{Unread-but-list, Unread-but-sample, Outside, Outside-blocks, Same-answers, Same-elsewhere}
 use Rattle.half.specs.declared.half_window.Half.{Half}
-use Rattle.develop.proofs.Views.{open-is, list-inside}
+use Rattle.develop.proofs.Views.{open-is, open-inverse, list-inside}
 use Rattle.develop.proofs.Answers.{frame-alone, developed-alone, spotAt, spot-same, spot-value, values-same, filled-same}
 use Rattle.develop.proofs.Answers.{filled-place, filled-numbers, filled-values, colour-three, pixel-same, pixel-alone}
 use Rattle.half.proofs.BlockLaws.{block-same, half-inverse, block-alone}
-
--- ---- how an accepted file was accepted
-pub record Accepted (f : List ℕ) (o : Opened) : Type 0 where
-  pub front : is (o .picture) ≡ runWhole f frontReading
-  pub list : is (o .opcodes) ≡ run f (opcodesOf (o .picture))
-  pub stored : o .stored ≡ run f (storedReading (o .picture .order) (tagsOf o))
-
-pub open-inverse : (f : List ℕ) (o : Opened) → is o ≡ opened f → Accepted f o
-unfolding opened openReading
-open-inverse f o e =
-    let a = bind-inverse f (frontReading (length f)) _ o e in
-    let b = bind-inverse f (opcodesOf (a .0)) _ o (a .2) in
-    let q : o ≡ record { picture = a .0; opcodes = b .0; stored = run f (storedReading (a .0 .order) (a .0 .raw .tags)) } =
-    same-value o _ (b .2 ∙ run-andThen f (storedReading (a .0 .order) (a .0 .raw .tags)) _ ∙ run-answer f _) in
-    subst (Accepted f) (sym q) (record { front = a .1; list = b .1; stored = refl })
 
 -- its strips and its list lie in the file
 in-file : (f : List ℕ) (o : Opened) → is o ≡ opened f → Inside f (o .picture .order) (tagsOf o)

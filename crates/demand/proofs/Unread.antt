@@ -22,7 +22,7 @@ use Rattle.raw.proofs.Unread as samples
 use Rattle.raw.proofs.FrontUnread.{Raw-clear, stored-unread, front-unread}
 use Rattle.develop.specs.Calls.{Opened, opened, tagsOf}
 use Rattle.demand.specs.Demand.{storedPlace, Is-sample, Not-in-tags, Not-in-list, Not-in-sample, Unread-but-sample}
-use Rattle.demand.proofs.Demands.{open-inverse}
+use Rattle.develop.proofs.Views.{open-inverse}
 
 -- how an accepted file's tags were found
 found : (f : List ℕ) (o : Opened) → is o ≡ opened f → Found f (o .picture)

@@ -17,7 +17,7 @@ pub struct SpotAnswer {
 }
 
 // Whether a spot is in the active area and has such a plane.
-fn within(size: Size, row: usize, column: usize, plane: usize) -> bool
+pub fn within(size: Size, row: usize, column: usize, plane: usize) -> bool
     ensures { λ r. ⌜ r ≡ Calls.within size row column plane ⌝ }
 {
     if row < size.rows {
