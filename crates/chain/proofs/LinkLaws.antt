@@ -3,24 +3,27 @@
 use mathlib.Core.Path.{_≡_, refl, sym, ap, _∙_, subst}
 use mathlib.Core.Bool.{Bool, true, false}
 use mathlib.Core.List.{List, [], _∷_, _++_, map}
-use Prim.Native.Nat.{ℕ, suc, _+_, _≤_}
+use Prim.Native.Nat.{ℕ, suc, _+_, _-_, _≤_}
 use native.Mathlib.Nat.{zero-add, add-zero}
 use native.Mathlib.Omega.{arith}
 use lib.Dec.{eqb, leb}
 use lib.Ieee.{Float}
-use lib.ListN.{length, length-map, drop, set}
+use lib.ListN.{length, length-map, drop, set, length-set}
 use lib.Seq.{sets, sets-eq}
 use borrow.Table.Steps.{cases}
 use borrow.Author.Tests.{eqb-true, eqb-false, leb-true}
 use Rattle.reading.specs.Bytes.{part}
+use Rattle.reading.specs.Number.{numberOf}
 use Rattle.reading.specs.Reading.{run, pick}
-use Rattle.reading.proofs.Reading.{pick-yes, pick-no}
+use Rattle.reading.specs.declared.number.Order.the-variants.{Big}
+use Rattle.reading.proofs.Reading.{run-answer, pick-yes, pick-no}
 use Rattle.reading.proofs.Bytes.{length-part}
-use Rattle.directory.specs.Out.{Out.is}
+use Rattle.directory.specs.Out.{Out, Out.is}
+use Rattle.directory.specs.declared.tag.Values.{Values}
 use Rattle.opcodes.specs.Grid.{onOf, gridOf}
 use Rattle.opcodes.specs.Facts.Grid.{Fits-in}
 use Rattle.opcodes.specs.Opcode.{Opcode, skipped, opcodeAt}
-use Rattle.opcodes.specs.OpcodeList.{listedId, classOf, opcodeKind, opcodeReading}
+use Rattle.opcodes.specs.OpcodeList.{listedId, classOf, opcodeKind, opcodeReading, listFrom}
 use Rattle.opcodes.specs.Frame.{touches, alone}
 use Rattle.opcodes.specs.declared.grid.Size.{Size}
 use Rattle.opcodes.specs.declared.grid.Grid.{Grid}
@@ -28,17 +31,22 @@ use Rattle.opcodes.specs.declared.list.Header.{Header}
 use Rattle.opcodes.specs.declared.list.Class.{Class}
 use Rattle.opcodes.specs.declared.list.Class.the-variants as class
 use Rattle.opcodes.proofs.OpcodeLists.{and-true}
-use Rattle.opcodes.proofs.Frames.{at-off}
+use Rattle.opcodes.proofs.Frames.{at-off, at-unit}
 use Rattle.opcodes.proofs.GainMaps.{map-accepted}
+use Rattle.opcodes.proofs.Listing.{value-inverse}
 use Rattle.rows.specs.Facts.Part.{Kept-in, keptOf}
+use Rattle.rows.specs.Facts.ListPart.{List-read}
 use Rattle.rows.proofs.Parts as plain
 use Rattle.rows.proofs.Gains as gained
 use Rattle.rows.proofs.Gains.{kept-plain, kept-gained}
-use Rattle.rows.proofs.Walks.{carried-is, optional-is, compulsory-not, folded}
+use Rattle.rows.proofs.Walks.{carried-is, optional-is, compulsory-not, absent-is, folded}
 use Rattle.chain.specs.Links.{kindId, opcodeId, linkOf, linksOf, isSkipped, placesWhere}
 use Rattle.chain.specs.Chain.{written, idOf, beforeOf, afterOf}
-use Rattle.chain.specs.Facts.Links.{touchOf, Covered, linked, passed, linkInto, coveredOf, skipsOf, Marked, marked, markInto, skippedOf}
+use Rattle.chain.specs.Facts.Links.{Opcodes-of, touchOf, Covered, linked, passed, linkInto, Held, startOf, coveredOf}
+use Rattle.chain.specs.Facts.Links.{skipsOf, Marked, marked, markInto, skippedOf}
 use Rattle.chain.specs.declared.links.Link.{Link}
+use Rattle.chain.specs.declared.links.Opcodes.{Opcodes}
+use Rattle.chain.specs.declared.links.Touch.{Touch}
 use Rattle.chain.specs.declared.links.Touch.the-variants as touch
 
 -- ---- the id
@@ -68,6 +76,30 @@ kind-id z id ps h =
         let n11 = eqb-false id 11 e11 in
         let n12 = eqb-false id 12 e12 in
         simp (e7, e8, e9, e10, e11, e12, pick-yes, pick-no) (omega arith)
+
+-- ---- the list of a tag's value
+module _ (f : List ℕ) (z : Size) (v : Values) (l : List-read f z (v .place) (v .count)) where
+  pub opcodes-none : v .count ≡ 0 → Opcodes-of f z v (record { size = z; count = 0; at = v .place; bytes = 0 })
+  unfolding listFrom
+  opcodes-none e =
+      record {
+        few = omega arith;
+        inside = omega (arith, l .inside);
+        size = refl;
+        read = λ os q. ap {B = Out (List Opcode)} (λ (k : List Opcode). is k) (absent-is f z (v .place) (v .count) e os q)
+            ∙ sym (simp (pick-yes, run-answer));
+      }
+
+  pub opcodes-some : (v .count ≡ 0 → ⊥) → (m : ℕ) → m ≡ numberOf Big (part f (v .place) 4) →
+      Opcodes-of f z v (record { size = z; count = m; at = v .place + 4; bytes = v .count - 4 })
+  opcodes-some s m e =
+      let n : 4 ≤ v .count = l .some (omega arith) in
+      record {
+        few = value-inverse f z (v .place) (v .count) s m e (l .opcodes) (l .read) .0;
+        inside = omega (arith, l .inside);
+        size = refl;
+        read = λ os q. value-inverse f z (v .place) (v .count) s m e os q .1;
+      }
 
 -- ---- one opcode
 -- an accepted one, its parameters at a place, begins with its grid
@@ -100,6 +132,20 @@ module _ (f : List ℕ) (z : Size) (at : ℕ) (h : Header) (k : Kept-in f z at h
     pub kept-touches : (r c p : ℕ) → touches (keptOf f z at h) r c p ≡ onOf g r c p
     kept-touches r c p = ap (λ (q : Grid). onOf q r c p) (sym (e (h .length) kept-long))
 
+on-not-off : (l : Link) → touch.On l ≡ touch.Off → ⊥
+on-not-off l e = let n : _≡_ {A = ℕ} 1 0 = ap code e in omega arith
+  where
+    code : Touch → ℕ
+    code touch.Off = 0
+    code (touch.On k) = 1
+
+same-link : (k l : Link) → touch.On k ≡ touch.On l → k ≡ l
+same-link k l e = ap inner e
+  where
+    inner : Touch → Link
+    inner touch.Off = k
+    inner (touch.On m) = m
+
 module _ (o : Opcode) (r c p : ℕ) (x : Float) where
   pub touch-on : touches o r c p ≡ true → touch.On (linkOf o r c p x) ≡ touchOf o r c p x
   unfolding touchOf
@@ -108,6 +154,15 @@ module _ (o : Opcode) (r c p : ℕ) (x : Float) where
   pub touch-off : touches o r c p ≡ false → touch.Off ≡ touchOf o r c p x
   unfolding touchOf
   touch-off e = sym (simp (e, pick-no))
+
+  -- and back
+  pub touched-off : touch.Off ≡ touchOf o r c p x → touches o r c p ≡ false
+  touched-off e =
+      cases (touches o r c p) (λ t. absurd (on-not-off _ (touch-on t ∙ sym e))) (λ t. t)
+
+  pub touched-on : (l : Link) → touch.On l ≡ touchOf o r c p x → (touches o r c p ≡ true) × (l ≡ linkOf o r c p x)
+  touched-on l e =
+      cases (touches o r c p) (λ t. (t, same-link l _ (e ∙ sym (touch-on t)))) (λ t. absurd (on-not-off l (e ∙ sym (touch-off t))))
 
 -- by its class
 module _ (f : List ℕ) (z : Size) (at : ℕ) (h : Header) (i : ℕ) (o : Opcode) (e : is o ≡ run f (opcodeReading (classOf h) z i at h))
@@ -222,6 +277,54 @@ module _ (r c p : ℕ) where
   unfolding linkInto
   into-no o s e = simp (e, pick-no)
 
+  -- an opcode that was found not to cover the sample, or to cover it
+  module _ (o : Opcode) (s : Covered) where
+    pub into-off : touch.Off ≡ touchOf o r c p (s .value) → passed s ≡ linkInto r c p o s
+    into-off e = sym (into-no o s (touched-off o r c p (s .value) e))
+
+    pub into-on : (l : Link) → touch.On l ≡ touchOf o r c p (s .value) →
+        record {
+          index = s .index + 1;
+          count = s .count + 1;
+          value = l .after;
+          places = set (s .places) (s .count) (s .index);
+          ids = set (s .ids) (s .count) (l .id);
+          before = set (s .before) (s .count) (l .before);
+          after = set (s .after) (s .count) (l .after);
+        }
+        ≡ linkInto r c p o s
+    into-on l e =
+        let q = touched-on o r c p (s .value) l e in
+        rw (q .1) (sym (into-yes o s (q .0)))
+
+    pub into-index : linkInto r c p o s .index ≡ s .index + 1
+    into-index =
+        cases (touches o r c p) (λ e. ap (λ (k : Covered). k .index) (into-yes o s e)) (λ e. ap (λ (k : Covered). k .index) (into-no o s e))
+
+    pub into-held : (ps ns : List ℕ) (xs ys : List Float) → Held ps ns xs ys s → Held ps ns xs ys (linkInto r c p o s)
+    into-held ps ns xs ys h =
+        cases (touches o r c p)
+        (λ e.
+        subst (Held ps ns xs ys) (sym (into-yes o s e))
+        (record {
+          in-unit = at-unit o r c p (s .value) (h .in-unit);
+          few = omega (arith, h .few);
+          places = length-set (s .places) (s .count) (s .index) ∙ h .places;
+          ids = length-set (s .ids) (s .count) (opcodeId o) ∙ h .ids;
+          before = length-set (s .before) (s .count) (s .value) ∙ h .before;
+          after = length-set (s .after) (s .count) (opcodeAt o r c p (s .value)) ∙ h .after;
+        }))
+        (λ e.
+        subst (Held ps ns xs ys) (sym (into-no o s e))
+        (record {
+          in-unit = h .in-unit;
+          few = omega (arith, h .few);
+          places = h .places;
+          ids = h .ids;
+          before = h .before;
+          after = h .after;
+        }))
+
   -- what the loop leaves of s
   abbrev left : List Opcode → Covered → Covered
   left os s =
@@ -255,8 +358,7 @@ module _ (r c p : ℕ) where
   pub loop-covered :
       (os : List Opcode) (x : Float) (ps ns : List ℕ) (xs ys : List Float) → length os ≤ 32 → 32 ≤ length ps → 32 ≤ length ns → 32 ≤ length xs →
       32 ≤ length ys →
-      folded (linkInto r c p) os (record { index = 0; count = 0; value = x; places = ps; ids = ns; before = xs; after = ys })
-      ≡ coveredOf os r c p x ps ns xs ys
+      folded (linkInto r c p) os (startOf x ps ns xs ys) ≡ coveredOf os r c p x ps ns xs ys
   unfolding coveredOf
   loop-covered os x ps ns xs ys few hp hn hx hy =
       let w = where-few covers 0 os in

@@ -158,20 +158,23 @@ fn next_link(
     let x = reached.value;
     let h = list::header_at(file, place);
     let at = place + (16 + h.length);
+    let index = i + 1;
     match link_at(file, size, place, h, spot, x) {
         Touch::Off => Reached {
-            index: i + 1,
+            index,
             at,
             count: n,
             value: x,
         },
         Touch::On(link) => {
+            let count = n + 1;
+            let value = link.after;
             write_link(n, i, link, places, ids, before, after);
             Reached {
-                index: i + 1,
+                index,
                 at,
-                count: n + 1,
-                value: link.after,
+                count,
+                value,
             }
         }
     }
@@ -192,15 +195,14 @@ pub fn cover(
     requires { ⌜ (32 ≤ length (now places)) × (32 ≤ length (now ids)) × (32 ≤ length (now before)) × (32 ≤ length (now after)) ⌝ }
     ensures { λ r. ⌜ ((os : List Opcode) → is os ≡ run (now (file .entry)) (listFrom (opcodes .size) (opcodes .count) 0 (opcodes .at) (opcodes .bytes)) → reachedWith r (now (places .exit)) (now (ids .exit)) (now (before .exit)) (now (after .exit)) ≡ coveredOf os (spot .row .0) (spot .column .0) (spot .plane) x (now (places .entry)) (now (ids .entry)) (now (before .entry)) (now (after .entry))) ⌝ }
 {
-    let size = opcodes.size;
-    let count = opcodes.count;
     let mut reached = Reached {
         index: 0,
         at: opcodes.at,
         count: 0,
         value: x,
     };
-    while reached.index < count {
+    while reached.index < opcodes.count {
+        let size = opcodes.size;
         reached = next_link(file, size, spot, reached, places, ids, before, after);
     }
     reached
@@ -226,11 +228,10 @@ pub fn skip(file: &[u8], opcodes: Opcodes, skipped: &mut [u64]) -> usize
     requires { ⌜ Opcodes-in (now file) opcodes × (32 ≤ length (now skipped)) ⌝ }
     ensures { λ r. ⌜ ((os : List Opcode) → is os ≡ run (now (file .entry)) (listFrom (opcodes .size) (opcodes .count) 0 (opcodes .at) (opcodes .bytes)) → marked (opcodes .count) r (now (skipped .exit)) ≡ skippedOf os (now (skipped .entry))) ⌝ }
 {
-    let count = opcodes.count;
     let mut i = 0;
     let mut p = opcodes.at;
     let mut n = 0;
-    while i < count {
+    while i < opcodes.count {
         let h = list::header_at(file, p);
         n = mark(h, i, n, skipped);
         p += 16 + h.length;

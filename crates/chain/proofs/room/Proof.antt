@@ -14,13 +14,21 @@ returns-3 c = sym (simp (le-leb _ _ (c .before .before .if1 .left), le-leb _ _ (
 
 returns-4 : tie.Need-returns-4
 returns-4 c =
-    sym (simp (le-leb _ _ (c .before .before .before .if1 .left), le-leb _ _ (c .before .before .if2 .left), le-leb _ _ (c .before .if3 .left),
-    lt-leb _ _ (c .if4 .taken)))
+    sym (simp (
+      le-leb _ _ (c .before .before .before .if1 .left),
+      le-leb _ _ (c .before .before .if2 .left),
+      le-leb _ _ (c .before .if3 .left),
+      lt-leb _ _ (c .if4 .taken),
+    ))
 
 returns-5 : tie.Need-returns-5
 returns-5 c =
-    sym (simp (le-leb _ _ (c .before .before .before .if1 .left), le-leb _ _ (c .before .before .if2 .left), le-leb _ _ (c .before .if3 .left),
-    le-leb _ _ (c .if4 .left)))
+    sym (simp (
+      le-leb _ _ (c .before .before .before .if1 .left),
+      le-leb _ _ (c .before .before .if2 .left),
+      le-leb _ _ (c .before .if3 .left),
+      le-leb _ _ (c .if4 .left),
+    ))
 
 pub room-spec : {M : Type 1} → statement M
 room-spec = tie.close (tie.spec returns returns-2 returns-3 returns-4 returns-5)

@@ -8,6 +8,7 @@ use lib.ListN.{length, set}
 use Rattle.reading.specs.Reading.{run, pick}
 use Rattle.directory.specs.Out.{Out.is}
 use Rattle.directory.specs.declared.tag.Values.{Values}
+use Rattle.levels.specs.Clip.{clipOf}
 use Rattle.opcodes.specs.Opcode.{Opcode, opcodeAt}
 use Rattle.opcodes.specs.OpcodeList.{listFrom, listReading}
 use Rattle.opcodes.specs.Frame.{touches, alone}
@@ -82,6 +83,19 @@ passed s =
 
 unfoldable pub linkInto : ℕ → ℕ → ℕ → Opcode → Covered → Covered
 linkInto r c p o s = pick (touches o r c p) (linked r c p o s) (passed s)
+
+-- what stays so: the value is one from 0 to 1, and the slices are as long as these
+pub record Held (ps ns : List ℕ) (xs ys : List Float) (s : Covered) : Type 0 where
+  pub in-unit : clipOf (s .value) ≡ s .value
+  pub few : s .count ≤ s .index
+  pub places : length (s .places) ≡ length ps
+  pub ids : length (s .ids) ≡ length ns
+  pub before : length (s .before) ≡ length xs
+  pub after : length (s .after) ≡ length ys
+
+-- at first
+abbrev pub startOf : Float → List ℕ → List ℕ → List Float → List Float → Covered
+startOf x ps ns xs ys = record { index = 0; count = 0; value = x; places = ps; ids = ns; before = xs; after = ys }
 
 -- in the end
 unfoldable pub coveredOf : List Opcode → ℕ → ℕ → ℕ → Float → List ℕ → List ℕ → List Float → List Float → Covered

@@ -1,6 +1,6 @@
-use mathlib.Core.Path.{refl, sym, ap, _∙_}
-use Rattle.opcodes.specs.declared.list.Class.{Class}
-use Rattle.opcodes.specs.declared.list.Class.the-variants as class
+use mathlib.Core.Path.{sym, ap, _∙_}
+use denote.Ref.{now}
+use Rattle.opcodes.specs.OpcodeList.{classOf}
 use Rattle.chain.specs.Facts.Links.{skipsOf, marked}
 use Rattle.chain.proofs.LinkLaws.{class-skips, class-keeps}
 use borrow.Author.Needs.{needs}
@@ -29,16 +29,25 @@ enum-told-3 : tie.Need-enum-told-3
 enum-told-3 c = search needs
 
 returns : tie.Need-returns
-returns c = ?
+returns c =
+    let a = c .before .before .before .before .args in
+    let e = sym (c .enum-told .given .1) ∙ c .before .before .classify .ensures in
+    class-keeps (classOf (a .header)) (marked (a .index) (a .n) (now (a .skipped))) (sym (ap skipsOf e))
 
 same-length : tie.Need-same-length
 same-length c = search needs
 
 returns-2 : tie.Need-returns-2
-returns-2 c = ?
+returns-2 c =
+    let a = c .before .before .before .before .args in
+    let e = sym (c .enum-told2 .given .1) ∙ c .before .before .classify .ensures in
+    class-skips (classOf (a .header)) (marked (a .index) (a .n) (now (a .skipped))) (sym e)
 
 returns-3 : tie.Need-returns-3
-returns-3 c = ?
+returns-3 c =
+    let a = c .before .before .before .before .args in
+    let e = sym (c .enum-told3 .given .1) ∙ c .before .before .classify .ensures in
+    class-keeps (classOf (a .header)) (marked (a .index) (a .n) (now (a .skipped))) (sym (ap skipsOf e))
 
 pub mark-spec : {M : Type 1} → statement M
 mark-spec =
