@@ -3,7 +3,7 @@
 use mathlib.Core.Path.{_≡_, refl, sym, ap, _∙_, subst}
 use mathlib.Core.Bool.{Bool, true, false}
 use mathlib.Core.List.{List, [], _∷_, _++_, map}
-use Prim.Native.Nat.{ℕ, suc, _+_, _-_, _≤_}
+use Prim.Native.Nat.{ℕ, suc, _+_, _-_, _≤_, _<_}
 use native.Mathlib.Nat.{zero-add, add-zero}
 use native.Mathlib.Omega.{arith}
 use lib.Dec.{eqb, leb}
@@ -20,6 +20,7 @@ use Rattle.reading.proofs.Reading.{run-answer, pick-yes, pick-no}
 use Rattle.reading.proofs.Bytes.{length-part}
 use Rattle.directory.specs.Out.{Out, Out.is}
 use Rattle.directory.specs.declared.tag.Values.{Values}
+use Rattle.levels.specs.Clip.{clipOf}
 use Rattle.opcodes.specs.Grid.{onOf, gridOf}
 use Rattle.opcodes.specs.Facts.Grid.{Fits-in}
 use Rattle.opcodes.specs.Opcode.{Opcode, skipped, opcodeAt}
@@ -33,16 +34,17 @@ use Rattle.opcodes.specs.declared.list.Class.the-variants as class
 use Rattle.opcodes.proofs.OpcodeLists.{and-true}
 use Rattle.opcodes.proofs.Frames.{at-off, at-unit}
 use Rattle.opcodes.proofs.GainMaps.{map-accepted}
-use Rattle.opcodes.proofs.Listing.{value-inverse}
+use Rattle.opcodes.proofs.Listing.{headAt, list-length, value-inverse}
 use Rattle.rows.specs.Facts.Part.{Kept-in, keptOf}
-use Rattle.rows.specs.Facts.ListPart.{List-read}
+use Rattle.rows.specs.Facts.ListPart.{Opcode-read, List-read}
 use Rattle.rows.proofs.Parts as plain
 use Rattle.rows.proofs.Gains as gained
 use Rattle.rows.proofs.Gains.{kept-plain, kept-gained}
 use Rattle.rows.proofs.Walks.{carried-is, optional-is, compulsory-not, absent-is, folded}
+use Rattle.rows.proofs.Walks.{Progress, Step-on, walk-start, walk-next, step-read, step-onward, walk-end}
 use Rattle.chain.specs.Links.{kindId, opcodeId, linkOf, linksOf, isSkipped, placesWhere}
 use Rattle.chain.specs.Chain.{written, idOf, beforeOf, afterOf}
-use Rattle.chain.specs.Facts.Links.{Opcodes-of, touchOf, Covered, linked, passed, linkInto, Held, startOf, coveredOf}
+use Rattle.chain.specs.Facts.Links.{Opcodes-in, Opcodes-of, touchOf, Covered, linked, passed, linkInto, Held, startOf, coveredOf}
 use Rattle.chain.specs.Facts.Links.{skipsOf, Marked, marked, markInto, skippedOf}
 use Rattle.chain.specs.declared.links.Link.{Link}
 use Rattle.chain.specs.declared.links.Opcodes.{Opcodes}
@@ -191,6 +193,11 @@ module _ (f : List ℕ) (z : Size) (at : ℕ) (h : Header) (i : ℕ) (o : Opcode
         sym (ap opcodeId is-kept ∙ kind-id z (h .id) (part f (at + 16) (h .length)) (k .listed)) in
         let a : y ≡ opcodeAt o r c p x = d ∙ ap (λ (l : Opcode). opcodeAt l r c p x) (sym is-kept) in
         rw (n, a) (touch-on o r c p x (on-is ∙ t))
+
+-- by the header that was read
+pub read-as : (f : List ℕ) (z : Size) (at : ℕ) (h k : Header) → h ≡ k → (i : ℕ) (o : Opcode) →
+    is o ≡ run f (opcodeReading (classOf k) z i at k) → is o ≡ run f (opcodeReading (classOf h) z i at h)
+read-as f z at h k e i o r = subst (λ (l : Header). is o ≡ run f (opcodeReading (classOf l) z i at l)) (sym e) r
 
 -- a skipped one
 pub skips-is : (f : List ℕ) (z : Size) (at : ℕ) (h : Header) (i : ℕ) (o : Opcode) →
@@ -370,6 +377,55 @@ module _ (r c p : ℕ) where
       let k = written-is (map afterOf ls) ys (omega (arith, length-map ls afterOf)) in
       loop-left os _ ∙ rw (a, b, d, k, zero-add (length os), zero-add (length (placesWhere covers 0 os))) refl
 
+  -- the loop over the covering opcodes: what it has done when it comes to an opcode
+  module _ (f : List ℕ) (q : Opcodes) (x : Float) (ps ns : List ℕ) (xs ys : List Float) where
+    pub record Gone (s : Covered) (at : ℕ) : Type 0 where
+      pub progress : Progress (linkInto r c p) f (q .size) (q .count) (q .at) (q .bytes) (s .index) at (startOf x ps ns xs ys) s
+      pub held : Held ps ns xs ys s
+
+    module _ (h : Opcodes-in f q) where
+      pub gone-start : clipOf x ≡ x → Gone (startOf x ps ns xs ys) (q .at)
+      gone-start u =
+          record {
+            progress = walk-start _ _ _ _ _ _ _ (h .read);
+            held = record { in-unit = u; few = omega arith; places = refl; ids = refl; before = refl; after = refl };
+          }
+
+      module _ (s : Covered) (at : ℕ) (g : Gone s at) where
+        module _ (t : s .index < q .count) where
+          abbrev next : Step-on (linkInto r c p) f (q .size) (q .count) (q .at) (q .bytes) (s .index) at (startOf x ps ns xs ys) s
+          next = walk-next (linkInto r c p) f (q .size) (q .count) (q .at) (q .bytes) _ (s .index) at s t (g .progress)
+
+          pub gone-read : Opcode-read f (q .size) at (headAt f at)
+          gone-read = step-read (linkInto r c p) f (q .size) (q .count) (q .at) (q .bytes) _ (s .index) at s _ refl next (h .read .inside)
+
+          module _ (s′ : Covered) (at′ : ℕ)
+              (e : (i : ℕ) (o : Opcode) → is o ≡ run f (opcodeReading (classOf (headAt f at)) (q .size) i at (headAt f at)) → s′ ≡ linkInto r c p o s)
+              (d : at′ ≡ at + (16 + headAt f at .length)) where
+            abbrev done : s′ ≡ linkInto r c p (next .first) s
+            done = e (s .index) (next .first) (next .read)
+
+            pub gone-index : s′ .index ≡ s .index + 1
+            gone-index = ap (λ (k : Covered). k .index) done ∙ into-index (next .first) s
+
+            pub gone-on : Gone s′ at′
+            gone-on =
+                record {
+                  progress =
+                      subst (λ (n : ℕ). Progress (linkInto r c p) f (q .size) (q .count) (q .at) (q .bytes) n at′ (startOf x ps ns xs ys) s′)
+                      (sym gone-index)
+                      (rw d (step-onward (linkInto r c p) f (q .size) (q .count) (q .at) (q .bytes) _ (s .index) at s _ refl next s′ done));
+                  held = subst (Held ps ns xs ys) (sym done) (into-held (next .first) s ps ns xs ys (g .held));
+                }
+
+        pub gone-end :
+            q .count ≤ s .index → 32 ≤ length ps → 32 ≤ length ns → 32 ≤ length xs → 32 ≤ length ys →
+            (os : List Opcode) → is os ≡ run f (listFrom (q .size) (q .count) 0 (q .at) (q .bytes)) → s ≡ coveredOf os r c p x ps ns xs ys
+        gone-end t a b d k os e =
+            let n = list-length f (q .size) (q .count) 0 (q .at) (q .bytes) os e in
+            walk-end (linkInto r c p) f (q .size) (q .count) (q .at) (q .bytes) _ (s .index) at s t (g .progress) os e
+            ∙ loop-covered os x ps ns xs ys (omega (arith, n, h .few)) a b d k
+
 -- the skipped ones
 abbrev pub markOf : Opcode → Marked → Marked
 markOf o s = markInto (isSkipped o) s
@@ -382,6 +438,13 @@ mark-yes o s e = simp (e, pick-yes)
 mark-no : (o : Opcode) (s : Marked) → isSkipped o ≡ false → markOf o s ≡ marked (s .index + 1) (s .count) (s .slice)
 unfolding markInto
 mark-no o s e = simp (e, pick-no)
+
+-- no more are marked than were met, and the slice stays as long
+pub mark-held : (b : Bool) (s : Marked) → s .count ≤ s .index →
+    (markInto b s .count ≤ s .index + 1) × (length (markInto b s .slice) ≡ length (s .slice))
+unfolding markInto pick
+mark-held true s h = (omega arith, length-set (s .slice) (s .count) (s .index))
+mark-held false s h = (omega arith, refl)
 
 marks-left : (os : List Opcode) (s : Marked) →
     folded markOf os s
@@ -404,3 +467,7 @@ marks-skipped os ks few h =
     let w = where-few isSkipped 0 os in
     let a = written-is (placesWhere isSkipped 0 os) ks (omega arith) in
     marks-left os _ ∙ rw (a, zero-add (length os), zero-add (length (placesWhere isSkipped 0 os))) refl
+
+pub skipped-index : (os : List Opcode) (ks : List ℕ) → skippedOf os ks .index ≡ length os
+unfolding skippedOf
+skipped-index os ks = refl
