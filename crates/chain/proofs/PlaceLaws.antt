@@ -139,6 +139,20 @@ module _ (r c p : ℕ) where
       let l = links-no o os r c p x e in
       rw (w, l) (linked-further o os i _ _ (links-at os (i + 1) x d j (subst (λ (ls : List Link). j < length ls) l h))))
 
+  -- in a list from place 0 on
+  pub record Link-of (os : List Opcode) (k : ℕ) (l : Link) : Type 0 where
+    pub below : k < length os
+    pub covered : touches (getD os k skipped) r c p ≡ true
+    pub link : l ≡ linkOf (getD os k skipped) r c p (l .before)
+
+  pub link-of : (os : List Opcode) (x : Float) (d : Link) (j : ℕ) → j < length (linksOf os r c p x) →
+      Link-of os (getD (placesWhere covers 0 os) j 0) (getD (linksOf os r c p x) j d)
+  link-of os x d j h =
+      let l = links-at os 0 x d j h in
+      let e : l .at .index ≡ getD (placesWhere covers 0 os) j 0 = omega (arith, l .at .place) in
+      subst (λ (k : ℕ). Link-of os k (getD (linksOf os r c p x) j d)) e
+      (record { below = l .at .below; covered = l .at .holds; link = l .link })
+
   -- the first value is x, each other one that after the link before
   pub links-first : (os : List Opcode) (x : Float) (d : Link) → 0 < length (linksOf os r c p x) → getD (linksOf os r c p x) 0 d .before ≡ x
   links-first [] x d h = absurd (let h′ = rw (links-none r c p x) at h in omega (arith, h′))

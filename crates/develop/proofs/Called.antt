@@ -39,7 +39,7 @@ module _ (f : List ℕ) (v : View) (h : Viewed f v) (r c p : ℕ) where
   o = h .file
 
   -- the file's size is the code's
-  within-is : within (sizeOf (o .picture)) r c p ≡ within (v .size) r c p
+  pub within-is : within (sizeOf (o .picture)) r c p ≡ within (v .size) r c p
   within-is = ap (λ (z : Size). within z r c p) (ap sizeOf (h .picture) ∙ sym (h .size))
 
   pub viewed-active : within (v .size) r c p ≡ true → ActiveIn (v .picture .raw .tags) r c p
