@@ -1,4 +1,5 @@
 pub mod CardLaws
+pub mod Chains
 pub mod Demands
 pub mod Accurate
 pub mod Linear

@@ -3,10 +3,11 @@ use mathlib.Core.Path.{_≡_}
 use mathlib.Core.Bool.{false}
 use mathlib.Core.List.{List}
 use Prim.Native.Nat.{ℕ, suc, _+_, _/_, _%_, _≤_, _<_}
+use lib.Dec.{eqb}
 use lib.Ieee.{Float}
 use lib.ListN.{length, getD}
 use Rattle.reading.specs.Bytes.{replaced}
-use Rattle.reading.specs.Reading.{run, trace, reads, covers, traceWhole}
+use Rattle.reading.specs.Reading.{run, pick, trace, reads, covers, traceWhole}
 use Rattle.directory.specs.Out.{Out.is}
 use Rattle.raw.specs.Front.{frontReading}
 use Rattle.raw.specs.Stored.{storedReading}
@@ -17,6 +18,8 @@ use Rattle.opcodes.specs.Swap.{swappedFile}
 use Rattle.opcodes.specs.Frame.{Untouched, Apart}
 use Rattle.colour.specs.declared.Colour.{Colour}
 use Rattle.develop.specs.Calls.{Opened, opened, sizeOf, opcodesOf, colourFor, scaledIn, frameOf, pixelIn, valuesOf}
+use Rattle.chain.specs.Chain.{Slices, Chained, chainOf, chainCall}
+use Rattle.chain.specs.Explained.{Among}
 use Rattle.half.specs.Half.{halfFor, blocksOf, blockIn, halfWindowCall}
 use Rattle.develop.specs.Calls.{spotCall, windowCall, colourWindowCall, tagsOf, developedIn, aloneIn, pixelAlone, slotRow, slotColumn}
 use Rattle.demand.specs.Card.{cardCall}
@@ -41,6 +44,19 @@ Is-sample o r₀ c₀ p₀ r c p = Is-pixel o r₀ c₀ r c × (p ≡ p₀)
 -- the block in row i and column j of blocks holds the pixel at a stored row and column
 abbrev pub In-block : Opened → ℕ → ℕ → ℕ → ℕ → Type 0
 In-block o r₀ c₀ i j = (r : ℕ) × (c : ℕ) × (r / 2 ≡ i) × (c / 2 ≡ j) × Is-pixel o r₀ c₀ r c
+
+-- the place at which the opcode at place j stood before the k-th one and the next changed places
+abbrev pub exchanged : ℕ → ℕ → ℕ
+exchanged k j = pick (eqb j k) (suc k) (pick (eqb j (suc k)) k j)
+
+-- the places ls name the same opcodes after the exchange as ks did before
+abbrev pub Exchanged : ℕ → List ℕ → List ℕ → Type 0
+Exchanged k ks ls = (j : ℕ) → (Among j ls → Among (exchanged k j) ks) × (Among (exchanged k j) ks → Among j ls)
+
+-- two answers that differ in no more than the places that they name: number, detail, value, numbers and counts, ids, values before and after
+abbrev pub Same-but-places : Chained → Chained → Type 0
+Same-but-places a b =
+    (a .answer ≡ b .answer) × (a .lent .ids ≡ b .lent .ids) × (a .lent .before ≡ b .lent .before) × (a .lent .after ≡ b .lent .after)
 
 module _ (f : List ℕ) (o : Opened) where
   -- ---- "a byte counts as read when any call reads it, colour's tags included"
@@ -75,8 +91,9 @@ module _ (f : List ℕ) (o : Opened) where
 
   -- ---- what stays
 
-  -- each call that accepts f accepts g, and every call answers on g as on f: number, detail, value and whole slice
-  pub record Same-answers (g : List ℕ) : Type 0 where
+  -- each call that accepts f accepts g, and every call answers on g, in which the k-th opcode and the next have changed places, as on f:
+  -- number, detail, value and whole slice; of a chain all but the places that it names, which are the opcodes' new ones
+  pub record Same-answers (k : ℕ) (g : List ℕ) : Type 0 where
     pub accepted :
         (o′ : Opened) × (is o′ ≡ opened g) × (run g (colourFor (o′ .picture)) ≡ run f (colourFor (o .picture)))
         × (run g (halfFor (o′ .picture)) ≡ run f (halfFor (o .picture)))
@@ -85,6 +102,10 @@ module _ (f : List ℕ) (o : Opened) where
     pub spots : (r c p : ℕ) → spotCall g r c p ≡ spotCall f r c p
     pub colour-windows : (t l h w : ℕ) (old : List Float) → colourWindowCall g t l h w old ≡ colourWindowCall f t l h w old
     pub half-windows : (t l h w : ℕ) (old : List Float) → halfWindowCall g t l h w old ≡ halfWindowCall f t l h w old
+    pub chains : (r c p : ℕ) (old : Slices) → Same-but-places (chainCall g r c p old) (chainCall f r c p old)
+    pub chain-places :
+        (o′ : Opened) → is o′ ≡ opened g → (r c p : ℕ) →
+        Exchanged k (chainOf f o r c p .places) (chainOf g o′ r c p .places) × Exchanged k (chainOf f o r c p .skipped) (chainOf g o′ r c p .skipped)
 
   -- the stored pixel is not in the window
   abbrev pub Outside : ℕ → ℕ → ℕ → ℕ → ℕ → ℕ → Type 0
@@ -94,7 +115,7 @@ module _ (f : List ℕ) (o : Opened) where
   abbrev pub Outside-blocks : ℕ → ℕ → ℕ → ℕ → ℕ → ℕ → Type 0
   Outside-blocks r₀ c₀ t l h w = (i j : ℕ) → t ≤ i → i < t + h → l ≤ j → j < l + w → In-block o r₀ c₀ i j → ⊥
 
-  -- g is accepted as f is, and all but the stored sample at r₀, c₀, p₀ stays: every other sample's spot and developed value, every
+  -- g is accepted as f is, and all but the stored sample at r₀, c₀, p₀ stays: every other sample's spot, chain and developed value, every
   -- other pixel's and block's colour, the windows without it; of windows with it, number, detail and every other place of the slice
   pub record Same-elsewhere (r₀ c₀ p₀ : ℕ) (g : List ℕ) : Type 0 where
     pub accepted : is o ≡ opened g
@@ -120,6 +141,7 @@ module _ (f : List ℕ) (o : Opened) where
         let n = sizeOf (o .picture) .samples in (Is-sample o r₀ c₀ p₀ (slotRow t w n k) (slotColumn l w n k) (k % n) → ⊥) →
         getD (windowCall g t l h w old .slice) k d ≡ getD (windowCall f t l h w old .slice) k d
     pub spots : (r c p : ℕ) → (Is-sample o r₀ c₀ p₀ r c p → ⊥) → spotCall g r c p ≡ spotCall f r c p
+    pub chains : (r c p : ℕ) (old : Slices) → (Is-sample o r₀ c₀ p₀ r c p → ⊥) → chainCall g r c p old ≡ chainCall f r c p old
     pub colour-windows :
         (t l h w : ℕ) (old : List Float) → Outside r₀ c₀ t l h w → colourWindowCall g t l h w old ≡ colourWindowCall f t l h w old
     pub colour-window-numbers :
@@ -142,10 +164,13 @@ module _ (f : List ℕ) (o : Opened) where
   -- ---- the claim
 
   pub record Demand-3 : Type 0 where
-    -- the whole frame through the list and each sample alone agree, at every spot and in every window
+    -- the whole frame through the list and each sample alone agree, at every spot, at the end of its chain and in every window
     pub spot-values :
         (r c p : ℕ) → spotCall f r c p .number ≡ 0 →
         (spotCall f r c p .value ≡ developedIn f o r c p) × (spotCall f r c p .value ≡ aloneIn f o r c p)
+    pub chain-values :
+        (r c p : ℕ) (old : Slices) → chainCall f r c p old .answer .number ≡ 0 →
+        (chainCall f r c p old .answer .value ≡ developedIn f o r c p) × (chainCall f r c p old .answer .value ≡ aloneIn f o r c p)
     pub window-values :
         (t l h w : ℕ) (old : List Float) → windowCall f t l h w old .number ≡ 0 →
         (windowCall f t l h w old .slice ≡ valuesOf (developedIn f o) t l h w (sizeOf (o .picture) .samples))
@@ -167,7 +192,7 @@ module _ (f : List ℕ) (o : Opened) where
     pub swaps :
         (k : ℕ) → suc k < length (o .opcodes) → Apart (getD (o .opcodes) k skipped) (getD (o .opcodes) (suc k) skipped) →
         Unread-but-list k →
-        Same-answers (swappedFile f (tagsOf o .list .place + 4) k)
+        Same-answers k (swappedFile f (tagsOf o .list .place + 4) k)
     -- one stored sample's bytes, whether in the active area or not, may change
     pub changes :
         (r c p : ℕ) → r < tagsOf o .frame .length → c < tagsOf o .frame .width → p < tagsOf o .frame .samples →
