@@ -15,7 +15,8 @@ use Rattle.reading.specs.declared.number.Order.{Order}
 use Rattle.reading.specs.declared.number.Order.the-variants.{Big}
 use Rattle.reading.specs.Reading.{run}
 use Rattle.reading.proofs.Reading.{pick-yes, pick-no}
-use Rattle.directory.specs.Out.{Out.is}
+use Rattle.directory.specs.Out.{Out, Out.refused, Out.is}
+use Rattle.directory.proofs.Refusals.{either}
 use Rattle.directory.specs.declared.tag.Values.{Values}
 use Rattle.levels.specs.Level.{scaledOf}
 use Rattle.levels.specs.Levels.{blackFor, spanOf, levelAt, levelNumbers}
@@ -31,7 +32,7 @@ use Rattle.opcodes.specs.OpcodeList.{listReading, startOf}
 use Rattle.opcodes.specs.Frame.{touches, alone}
 use Rattle.opcodes.specs.declared.grid.Size.{Size}
 use Rattle.opcodes.proofs.OpcodeLists.{and-true}
-use Rattle.opcodes.proofs.Listing.{headAt, value-none, value-inverse}
+use Rattle.opcodes.proofs.Listing.{headAt, list-length, value-none, value-inverse}
 use Rattle.rows.specs.Facts.Part.{Sized-in}
 use Rattle.develop.specs.Calls.{Opened, opened, sizeOf, opcodesOf, tagsOf, scaledIn, developedIn, aloneIn, within, spotOf, spotCall}
 use Rattle.develop.specs.Facts.View.{Viewed}
@@ -40,12 +41,12 @@ use Rattle.develop.proofs.Views.{open-inverse}
 use Rattle.develop.proofs.Answers.{developed-alone, active-within}
 use Rattle.develop.proofs.Called.{within-is}
 use Rattle.chain.specs.Links.{opcodeId, isSkipped}
-use Rattle.chain.specs.Chain.{chainOf, Slices, slices, chainedWith, roomFor, roomIn, refusedChain, idOf, afterOf, shownOf, chainIn, chainCall}
+use Rattle.chain.specs.Chain.{chainOf, Slices, slices, Chained, chainedWith, roomFor, roomIn, refusedChain, idOf, afterOf, shownOf, chainIn, chainCall}
 use Rattle.chain.specs.Explained.{Explains, Explained}
 use Rattle.chain.specs.Facts.Links.{Opcodes-in, Opcodes-of, Covered, coveredOf, Marked, skippedOf}
 use Rattle.chain.specs.declared.links.Link.{Link}
 use Rattle.chain.specs.declared.links.Opcodes.{Opcodes}
-use Rattle.chain.proofs.LinkLaws.{links-length}
+use Rattle.chain.proofs.LinkLaws.{where-few, links-length}
 use Rattle.chain.proofs.PlaceLaws.{where-names, link-of, links-first, links-next, links-last, list-id}
 
 -- ---- an opcode's id, from the list that was read
@@ -163,3 +164,27 @@ module _ (f : List ℕ) (v : View) (q : Viewed f v) (r c p : ℕ) where
 
     pub chain-shown : within (v .size) r c p ≡ true → roomIn s ≡ true → shownOf (chainOf f (q .file) r c p) s ≡ chainCall f r c p s
     chain-shown t k = sym (simp (within-is f v q r c p, t, k, pick-yes)) ∙ called
+
+-- ---- no more than 32 opcodes cover a spot or are skipped
+list-few : (f : List ℕ) (z : Size) (v : Values) (os : List Opcode) → is os ≡ run f (listReading z (v .place) (v .count)) → length os ≤ 32
+list-few f z v os e =
+    cases (eqb (v .count) 0)
+    (λ n. let q = ap length (value-none f z (v .place) (v .count) os (eqb-true _ 0 n) e) in omega (arith, q))
+    (λ n.
+    let q = value-inverse f z (v .place) (v .count) (eqb-false _ 0 n) (numberOf Big (part f (v .place) 4)) refl os e in
+    omega (arith, q .0, list-length f z (numberOf Big (part f (v .place) 4)) 0 (v .place + 4) (v .count - 4) os (q .1)))
+
+abbrev Few : Chained → Type 0
+Few x = (x .answer .covering ≤ 32) × (x .answer .skipped ≤ 32)
+
+pub chain-few : (f : List ℕ) (r c p : ℕ) (s : Slices) → (chainCall f r c p s .answer .covering ≤ 32) × (chainCall f r c p s .answer .skipped ≤ 32)
+unfolding chainOf
+chain-few f r c p s = go (opened f) refl
+  where
+    go : (x : Out Opened) → x ≡ opened f → Few (chainIn f r c p s x)
+    go (refused n d) e = (omega arith, omega arith)
+    go (is o) e =
+        let l = list-few f (sizeOf (o .picture)) (tagsOf o .list) (o .opcodes) (open-inverse f o e .list) in
+        let a = where-few (λ (q : Opcode). touches q r c p) 0 (o .opcodes) in
+        let b = where-few isSkipped 0 (o .opcodes) in
+        either Few _ _ _ (either Few _ _ _ (omega arith, omega arith) (omega arith, omega arith)) (omega arith, omega arith)

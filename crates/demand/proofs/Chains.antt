@@ -33,6 +33,7 @@ use Rattle.chain.specs.Explained.{Among, Names}
 use Rattle.chain.specs.declared.links.Link.{Link}
 use Rattle.chain.proofs.LinkLaws.{where-none, where-yes, where-no, links-none, links-yes, links-no}
 use Rattle.chain.proofs.PlaceLaws.{where-names}
+use Rattle.chain.proofs.ChainLaws.{numbersIn}
 use Rattle.demand.specs.Demand.{exchanged, Exchanged, Same-but-places}
 
 -- ---- two neighbours in each other's place
@@ -193,3 +194,26 @@ pub shown-but-places :
     (a b : Chain) (s : Slices) → a .levels ≡ b .levels → a .value ≡ b .value → a .links ≡ b .links →
     length (a .places) ≡ length (b .places) → length (a .skipped) ≡ length (b .skipped) → Same-but-places (shownOf a s) (shownOf b s)
 shown-but-places a b s n v l i j = rw (n, v, l, i, j) (refl, refl, refl, refl)
+
+-- where the numbers and the developed value stay, the whole chain stays
+pub chain-same : (g f : List ℕ) (o : Opened) (r c p : ℕ) → numbersIn g o r c p ≡ numbersIn f o r c p →
+    developedIn g o r c p ≡ developedIn f o r c p → chainOf g o r c p ≡ chainOf f o r c p
+unfolding chainOf
+chain-same g f o r c p n v = rw (n, v) refl
+
+-- the value of an answer
+pub chain-value :
+    (f : List ℕ) (o : Opened) (r c p : ℕ) (s : Slices) →
+    chainAt (within (sizeOf (o .picture)) r c p) s (shownOf (chainOf f o r c p) s) .answer .number ≡ 0 →
+    let v = chainAt (within (sizeOf (o .picture)) r c p) s (shownOf (chainOf f o r c p) s) .answer .value in
+    (v ≡ developedIn f o r c p) × (v ≡ aloneIn f o r c p)
+unfolding pick chainOf
+chain-value f o r c p s = go (within (sizeOf (o .picture)) r c p) (roomIn s) refl
+  where
+    go : (b d : Bool) → within (sizeOf (o .picture)) r c p ≡ b →
+        pick b (pick d (shownOf (chainOf f o r c p) s) (refusedChain 14 0 s)) (refusedChain 13 0 s) .answer .number ≡ 0 →
+        let v = pick b (pick d (shownOf (chainOf f o r c p) s) (refusedChain 14 0 s)) (refusedChain 13 0 s) .answer .value in
+        (v ≡ developedIn f o r c p) × (v ≡ aloneIn f o r c p)
+    go true true t n = (refl, developed-alone f o r c p (within-active (o .picture) r c p t))
+    go true false t n = absurd (omega arith)
+    go false d t n = absurd (omega arith)

@@ -22,7 +22,7 @@ use Rattle.raw.proofs.TagFacts.{place-inside, scaled-same}
 use Rattle.raw.proofs.Accepted.{Inside, front-accepted}
 use Rattle.opcodes.specs.Opcode.{Opcode, skipped}
 use Rattle.opcodes.specs.OpcodeList.{keptIn, skippedIn}
-use Rattle.opcodes.specs.Frame.{Frame, standing, alone, Untouched, Apart}
+use Rattle.opcodes.specs.Frame.{Frame, standing, alone, touches, Untouched, Apart}
 use Rattle.opcodes.specs.Swap.{swappedFile, swapAt}
 use Rattle.opcodes.specs.declared.grid.Size.{Size}
 use Rattle.opcodes.proofs.Frames.{framed-same, untouched}
@@ -31,12 +31,20 @@ use Rattle.opcodes.proofs.Swaps.{swapped-length, swapped-unread, swapped-inside
 use Rattle.colour.specs.declared.Colour.{Colour}
 use Rattle.colour.specs.declared.pixel.Xyz.{Xyz}
 use Rattle.develop.specs.Calls.{Opened, openReading, opened, sizeOf, opcodesOf, colourFor, scaledIn, frameOf, pixelIn, channelOf}
+use Rattle.levels.specs.Level.{scaledOf}
+use Rattle.levels.specs.declared.LevelNumbers.{LevelNumbers}
+use Rattle.chain.specs.Links.{linksOf, isSkipped, placesWhere}
+use Rattle.chain.specs.Chain.{Chain, chainOf, Slices, Chained, shownOf, chainCall}
+use Rattle.chain.proofs.ChainLaws.{numbersIn}
 use Rattle.half.specs.Half.{halfFor, blocksOf, blockIn, halvedOf, halfWindowOf, halfWindowCall}
 use Rattle.develop.specs.Calls.{within, valuesOf, Window, filledOf, spotOf, spotCall, windowOf, windowCall, colouredOf, colourWindowOf}
 use Rattle.demand.specs.Card.{cardOf, cardCall}
 use Rattle.develop.specs.Calls.{colourWindowCall, tagsOf, developedIn, aloneIn, pixelAlone, slotRow, slotColumn}
 use Rattle.demand.specs.Demand.{opcodeStart, storedPlace, Is-pixel, Is-sample, In-block, Not-in-tags, Meets-demand-3}
 use Rattle.demand.specs.Demand.{Unread-but-list, Unread-but-sample, Outside, Outside-blocks, Same-answers, Same-elsewhere}
+use Rattle.demand.specs.Demand.{Exchanged, Same-but-places}
+use Rattle.demand.proofs.Chains.{where-exchanged, where-swapped, links-swapped, numbers-same, chain-related, same-itself, chain-called}
+use Rattle.demand.proofs.Chains.{shown-but-places, chain-same, chain-value}
 use Rattle.half.specs.declared.half_window.Half.{Half}
 use Rattle.develop.proofs.Views.{open-is, open-inverse, list-inside}
 use Rattle.develop.proofs.Answers.{frame-alone, developed-alone, spotAt, spot-same, spot-value, values-same, filled-same}
@@ -108,14 +116,24 @@ module _ (f g : List ℕ) (lo hi : ℕ) (k : Kept f g lo hi) where
   scaled-again o r c p h =
       scaled-same g f (o .picture .order) (tagsOf o) (o .stored) r c p (stretch-kept (cellOf (tagsOf o) (o .stored .offsets) r c p) h)
 
+  numbers-again :
+      (o : Opened) (r c p : ℕ) → ((i : ℕ) → lo ≤ i → i < hi → covers (cellOf (tagsOf o) (o .stored .offsets) r c p) i ≡ false) →
+      numbersIn g o r c p ≡ numbersIn f o r c p
+  numbers-again o r c p h =
+      numbers-same g f (o .picture .order) (tagsOf o) (o .stored) r c p (stretch-kept (cellOf (tagsOf o) (o .stored .offsets) r c p) h)
+
 -- ---- the same frame: every call answers the same
 module _
-    (f g : List ℕ) (o : Opened) (os : List Opcode) (ef : is o ≡ opened f)
+    (f g : List ℕ) (o : Opened) (os : List Opcode) (k : ℕ) (ef : is o ≡ opened f)
     (eg : is (record { picture = o .picture; opcodes = os; stored = o .stored }) ≡ opened g)
     (frames : frameOf g (record { picture = o .picture; opcodes = os; stored = o .stored }) ≡ frameOf f o)
     (counts : (keptIn os ≡ keptIn (o .opcodes)) × (skippedIn os ≡ skippedIn (o .opcodes)))
     (colours : run g (colourFor (o .picture)) ≡ run f (colourFor (o .picture)))
-    (halves : run g (halfFor (o .picture)) ≡ run f (halfFor (o .picture))) where
+    (halves : run g (halfFor (o .picture)) ≡ run f (halfFor (o .picture)))
+    (numbers : (r c p : ℕ) → ActiveIn (tagsOf o) r c p → numbersIn g o r c p ≡ numbersIn f o r c p)
+    (links : (r c p : ℕ) (x : Float) → linksOf os r c p x ≡ linksOf (o .opcodes) r c p x)
+    (as-many : (t : Opcode → Bool) → length (placesWhere t 0 os) ≡ length (placesWhere t 0 (o .opcodes)))
+    (moved : (t : Opcode → Bool) → Exchanged k (placesWhere t 0 (o .opcodes)) (placesWhere t 0 os)) where
   abbrev other : Opened
   other = record { picture = o .picture; opcodes = os; stored = o .stored }
 
@@ -159,7 +177,27 @@ module _
       go (refused n d) = refl
       go (is m) = ap (λ (q : Frame). filledOf (blocksOf size) 3 t l h w old (blockIn m (standing q))) frames
 
-  same-answers : Same-answers f o g
+  same-chain : (r c p : ℕ) (old : Slices) → Same-but-places (chainCall g r c p old) (chainCall f r c p old)
+  unfolding chainOf
+  same-chain r c p old =
+      let a = chain-called g other eg r c p old in
+      let b = chain-called f o ef r c p old in
+      rw (a, b) (chain-related Same-but-places same-itself (o .picture) r c p old _ _ (λ act.
+      let n = numbers r c p act in
+      shown-but-places (chainOf g other r c p) (chainOf f o r c p) old n (ap (λ (q : Frame). standing q r c p) frames)
+      (ap (λ (m : LevelNumbers). linksOf os r c p (scaledOf (m .level))) n ∙ links r c p (scaledOf (numbersIn f o r c p .level)))
+      (as-many (λ (q : Opcode). touches q r c p)) (as-many isSkipped)))
+
+  same-chain-places :
+      (o′ : Opened) → is o′ ≡ opened g → (r c p : ℕ) →
+      Exchanged k (chainOf f o r c p .places) (chainOf g o′ r c p .places) × Exchanged k (chainOf f o r c p .skipped) (chainOf g o′ r c p .skipped)
+  unfolding chainOf
+  same-chain-places o′ e r c p =
+      subst (λ (q : Opened).
+      Exchanged k (chainOf f o r c p .places) (chainOf g q r c p .places) × Exchanged k (chainOf f o r c p .skipped) (chainOf g q r c p .skipped))
+      (same-value other o′ (eg ∙ sym e)) (moved (λ (q : Opcode). touches q r c p), moved isSkipped)
+
+  same-answers : Same-answers f o k g
   same-answers =
       record {
         accepted = (other, eg, colours, halves);
@@ -168,6 +206,8 @@ module _
         spots = same-spot;
         colour-windows = same-colour-window;
         half-windows = same-half-window;
+        chains = same-chain;
+        chain-places = same-chain-places;
       }
 
 module _ (f : List ℕ) (o : Opened) (e : is o ≡ opened f) where
@@ -178,6 +218,13 @@ module _ (f : List ℕ) (o : Opened) (e : is o ≡ opened f) where
   spots r c p n =
       let q : spotCall f r c p ≡ spotOf f r c p (is o) = ap (spotOf f r c p) (sym e) in
       rw q (spot-value f o r c p (rw q at n))
+
+  chains :
+      (r c p : ℕ) (old : Slices) → chainCall f r c p old .answer .number ≡ 0 →
+      (chainCall f r c p old .answer .value ≡ developedIn f o r c p) × (chainCall f r c p old .answer .value ≡ aloneIn f o r c p)
+  chains r c p old n =
+      let q = chain-called f o e r c p old in
+      rw q (chain-value f o r c p old (rw q at n))
 
   windows :
       (t l h w : ℕ) (old : List Float) → windowCall f t l h w old .number ≡ 0 →
@@ -236,7 +283,7 @@ module _ (f : List ℕ) (o : Opened) (e : is o ≡ opened f) where
   swap-two :
       (k : ℕ) → suc k < length (o .opcodes) → Apart (getD (o .opcodes) k skipped) (getD (o .opcodes) (suc k) skipped) →
       Unread-but-list f o k →
-      Same-answers f o (swappedFile f (tagsOf o .list .place + 4) k)
+      Same-answers f o k (swappedFile f (tagsOf o .list .place + 4) k)
   swap-two k two far unread =
       let z : Size = sizeOf (o .picture) in
       let s : ℕ = tagsOf o .list .place in
@@ -258,12 +305,16 @@ module _ (f : List ℕ) (o : Opened) (e : is o ≡ opened f) where
       ∙ ap (alone (o .opcodes) r c p)
       (scaled-again f g _ _ kept o r c p (λ i x y. unread i x y .1 r c p (record { row = a; column = b; plane = d }))))
       ∙ sym (frame-alone f o) in
-      same-answers f g o (swapAt k (o .opcodes)) e
+      same-answers f g o (swapAt k (o .opcodes)) k e
       (opened-again f g _ _ kept o e tagless (swapAt k (o .opcodes)) (list-swapped f z s n some (o .opcodes) list k two inn))
       frames
       (swapped-counts k (o .opcodes))
       (colours-again f g _ _ kept o e tagless)
       (halves-again f g _ _ kept o e tagless)
+      (λ r c p act. numbers-again f g _ _ kept o r c p (λ i x y. unread i x y .1 r c p act))
+      (λ r c p x. links-swapped k (o .opcodes) far r c p x)
+      (λ t. where-swapped t 0 k (o .opcodes))
+      (λ t. where-exchanged t k (o .opcodes) two)
 
 -- ---- all but one sample: what every call answers
 module _
@@ -271,6 +322,7 @@ module _
     (colours : run g (colourFor (o .picture)) ≡ run f (colourFor (o .picture)))
     (halves : run g (halfFor (o .picture)) ≡ run f (halfFor (o .picture)))
     (same : (r c p : ℕ) → ActiveIn (tagsOf o) r c p → (Is-sample o r₀ c₀ p₀ r c p → ⊥) → developedIn g o r c p ≡ developedIn f o r c p)
+    (numbers : (r c p : ℕ) → ActiveIn (tagsOf o) r c p → (Is-sample o r₀ c₀ p₀ r c p → ⊥) → numbersIn g o r c p ≡ numbersIn f o r c p)
   where
     abbrev area : Size
     area = sizeOf (o .picture)
@@ -318,6 +370,13 @@ module _
         ap (spotOf g r c p) (sym eg)
         ∙ spot-same (o .picture) (developedIn g o r c p) (developedIn f o r c p) r c p (λ a. same r c p a off)
         ∙ ap (spotOf f r c p) ef
+
+    same-chains : (r c p : ℕ) (old : Slices) → (Is-sample o r₀ c₀ p₀ r c p → ⊥) → chainCall g r c p old ≡ chainCall f r c p old
+    same-chains r c p old off =
+        chain-called g o eg r c p old
+        ∙ chain-related (λ (x y : Chained). x ≡ y) (λ x. refl) (o .picture) r c p old _ _
+        (λ a. ap (λ (ch : Chain). shownOf ch old) (chain-same g f o r c p (numbers r c p a off) (same r c p a off)))
+        ∙ sym (chain-called f o ef r c p old)
 
     coloured-is : (q : List ℕ) → is o ≡ opened q → (t l h w : ℕ) (old : List Float) →
         colourWindowCall q t l h w old ≡ colouredOf q t l h w old o (run q (colourFor (o .picture)))
@@ -442,6 +501,7 @@ module _
           window-numbers = same-window-numbers;
           window-places = same-window-places;
           spots = same-spots;
+          chains = same-chains;
           colour-windows = same-colour-windows;
           colour-window-numbers = same-colour-numbers;
           colour-window-places = same-colour-places;
@@ -478,11 +538,13 @@ change-one f o e r₀ c₀ p₀ hr hc hp new sized unread′ =
     developed-alone g o r c p act
     ∙ ap (alone (o .opcodes) r c p) (scaled-again f g _ _ kept o r c p (λ i x y. unread′ i x y .2 r c p act off))
     ∙ sym (developed-alone f o r c p act))
+    (λ r c p act off. numbers-again f g _ _ kept o r c p (λ i x y. unread′ i x y .2 r c p act off))
 
 pub meets-demand-3 : (f : List ℕ) → Meets-demand-3 f
 meets-demand-3 f o e =
     record {
       spot-values = spots f o e;
+      chain-values = chains f o e;
       window-values = windows f o e;
       colour-window-values = colour-windows f o e;
       half-window-values = half-windows f o e;

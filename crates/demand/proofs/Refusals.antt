@@ -16,6 +16,7 @@ use Rattle.colour.specs.declared.Colour.{Colour}
 use Rattle.colour.proofs.Refusals.{colour-small}
 use Rattle.develop.specs.Calls.{Opened, openReading, opened, colourFor, spotOf, spotCall, Window, filledOf}
 use Rattle.demand.specs.Card.{cardOf, cardCall}
+use Rattle.chain.specs.Chain.{Slices, Chained, chainIn, chainCall}
 use Rattle.half.specs.Half.{halfFor, halvedOf, halfWindowOf, halfWindowCall}
 use Rattle.develop.specs.Calls.{windowOf, windowCall, colouredOf, colourWindowOf, colourWindowCall}
 use Rattle.develop.specs.declared.spot.SpotAnswer.{SpotAnswer}
@@ -53,6 +54,16 @@ spot-fits f r c p = go (opened f) (opened-small f)
     go : (o : Out Opened) → Small-refusal o → Fits (spotOf f r c p o .number) (spotOf f r c p o .detail)
     go (refused n d) h = h
     go (is o) h = either (λ (s : SpotAnswer). Fits (s .number) (s .detail)) _ _ _ (lit< tt, lit< tt) (lit< tt, lit< tt)
+
+pub chain-fits : (f : List ℕ) (r c p : ℕ) (old : Slices) → Fits (chainCall f r c p old .answer .number) (chainCall f r c p old .answer .detail)
+chain-fits f r c p old = go (opened f) (opened-small f)
+  where
+    fits : Chained → Type 0
+    fits x = Fits (x .answer .number) (x .answer .detail)
+
+    go : (o : Out Opened) → Small-refusal o → Fits (chainIn f r c p old o .answer .number) (chainIn f r c p old o .answer .detail)
+    go (refused n d) h = h
+    go (is o) h = either fits _ _ _ (either fits _ _ _ (lit< tt, lit< tt) (lit< tt, lit< tt)) (lit< tt, lit< tt)
 
 abbrev Fits-window : Window → Type 0
 Fits-window s = Fits (s .number) (s .detail)

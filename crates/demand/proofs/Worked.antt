@@ -289,7 +289,7 @@ swap-unread i a b =
 pub demanded : Demand-3 file held
 demanded = meets-demand-3 file held accepted
 
-pub swapped : Same-answers file held (swappedFile file 260 0)
+pub swapped : Same-answers file held 0 (swappedFile file 260 0)
 swapped = demanded .swaps 0 (omega arith) apart swap-unread
 
 -- where ScalePerRow's id was, there is MapPolynomial's

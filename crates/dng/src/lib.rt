@@ -3,9 +3,10 @@
 ghost use mathlib.Core.Path.{_≡_};
 ghost use Prim.Native.Nat.{_<_};
 ghost use Rattle.develop.specs.Calls.{spotCall, windowCall, colourWindowCall};
+ghost use Rattle.chain.specs.Chain.{slices, chainCall};
 ghost use Rattle.demand.specs.Card.{cardCall};
 ghost use Rattle.half.specs.Half.{halfWindowCall};
-ghost use Rattle.dng.specs.Interface.{numbersOf, packedOf};
+ghost use Rattle.dng.specs.Interface.{numbersOf, chainNumbersOf, packedOf};
 use demand::card;
 use develop::colour_window;
 use develop::spot;
@@ -103,5 +104,52 @@ pub extern "C" fn dng_half_window(
     ensures { λ r. ⌜ now (out .exit) ≡ halfWindowCall (now (file .entry)) top left height width (now (out .entry)) .slice ⌝ }
 {
     let answer = half_window::half_window(file, top, left, height, width, out);
+    packed(answer.number, answer.detail)
+}
+
+// Stored sample, table value, cell's black, column delta, row delta, B, M, L, opcodes covering, opcodes skipped.
+#[no_mangle]
+pub extern "C" fn dng_chain(
+    file: &[u8],
+    row: usize,
+    column: usize,
+    plane: usize,
+    numbers: &mut [i64; 10],
+    value: &mut f64,
+    places: &mut [u64],
+    ids: &mut [u64],
+    before: &mut [f64],
+    after: &mut [f64],
+    skipped: &mut [u64],
+) -> u64
+    ensures { λ r. ⌜ r ≡ packedOf (chainCall (now (file .entry)) row column plane (slices (now (places .entry)) (now (ids .entry)) (now (before .entry)) (now (after .entry)) (now (skipped .entry))) .answer .number) (chainCall (now (file .entry)) row column plane (slices (now (places .entry)) (now (ids .entry)) (now (before .entry)) (now (after .entry)) (now (skipped .entry))) .answer .detail) ⌝ }
+    ensures { λ r. ⌜ (now (numbers .exit) ≡ chainNumbersOf (chainCall (now (file .entry)) row column plane (slices (now (places .entry)) (now (ids .entry)) (now (before .entry)) (now (after .entry)) (now (skipped .entry))) .answer)) × (now (value .exit) ≡ chainCall (now (file .entry)) row column plane (slices (now (places .entry)) (now (ids .entry)) (now (before .entry)) (now (after .entry)) (now (skipped .entry))) .answer .value) ⌝ }
+    ensures { λ r. ⌜ slices (now (places .exit)) (now (ids .exit)) (now (before .exit)) (now (after .exit)) (now (skipped .exit)) ≡ chainCall (now (file .entry)) row column plane (slices (now (places .entry)) (now (ids .entry)) (now (before .entry)) (now (after .entry)) (now (skipped .entry))) .lent ⌝ }
+{
+    let answer = chain::chain(
+        file,
+        row,
+        column,
+        plane,
+        places,
+        ids,
+        before,
+        after,
+        skipped,
+    );
+    let levels = answer.levels;
+    *numbers = [
+        levels.stored as i64,
+        levels.table_value as i64,
+        levels.cell,
+        levels.column_delta,
+        levels.row_delta,
+        levels.black,
+        levels.greatest_black,
+        levels.level as i64,
+        answer.covering as i64,
+        answer.skipped as i64,
+    ];
+    *value = answer.value;
     packed(answer.number, answer.detail)
 }

@@ -31,8 +31,7 @@ returns c =
     let a = c .before .before .before .before .before .before .before .before .before .before .before .args in
     let f = now (a .file) in
     let old = slices (now (a .places)) (now (a .ids)) (now (a .«before»)) (now (a .after)) (now (a .skipped)) in
-    let o = subst (OpeningIs f) (c .before .before .number .given .1) (c .before .before .before .before .«open» .ensures) in
-    (
+    let o = subst (OpeningIs f) (c .before .before .number .given .1) (c .before .before .before .before .«open» .ensures) in (
       ap (λ (x : ChainAnswer). chainedWith x old) (c .refused .ensures) ∙ ap (chainIn f (a .row) (a .column) (a .plane) old) o,
       explained f (a .row) (a .column) (a .plane),
     )

@@ -20,8 +20,7 @@ chain-at-requires c κs =
     let w = t .before .before .before in
     let s = w .before .before .before .before .before .before .before in
     let a = s .args in
-    let i = sym (w .within .ensures) ∙ t .before .before .if1 .taken in
-    (
+    let i = sym (w .within .ensures) ∙ t .before .before .if1 .taken in (
       (s .pre, viewed-active (now (a .file)) (a .view) (s .pre) (a .spot .row .0) (a .spot .column .0) (a .spot .plane) i),
       sym (t .before .room .ensures) ∙ t .if2 .taken,
     )
