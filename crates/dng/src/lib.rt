@@ -1,12 +1,13 @@
 // The C interface: each function dng_NAME makes the call of its name and hands over its whole answer; `packed` puts number and
 // detail in one.
 ghost use mathlib.Core.Path.{_≡_};
-ghost use Prim.Native.Nat.{_<_};
+ghost use Prim.Native.Nat.{_≤_, _<_};
 ghost use Rattle.develop.specs.Calls.{spotCall, windowCall, colourWindowCall};
 ghost use Rattle.chain.specs.Chain.{slices, chainCall};
 ghost use Rattle.demand.specs.Card.{cardCall};
 ghost use Rattle.half.specs.Half.{halfWindowCall};
 ghost use Rattle.dng.specs.Interface.{numbersOf, chainNumbersOf, packedOf};
+use chain::ChainAnswer;
 use demand::card;
 use develop::colour_window;
 use develop::spot;
@@ -108,6 +109,25 @@ pub extern "C" fn dng_half_window(
 }
 
 // Stored sample, table value, cell's black, column delta, row delta, B, M, L, opcodes covering, opcodes skipped.
+fn chain_numbers(answer: ChainAnswer) -> [i64; 10]
+    requires { ⌜ (answer .covering ≤ 32) × (answer .skipped ≤ 32) ⌝ }
+    ensures { λ r. ⌜ r ≡ chainNumbersOf answer ⌝ }
+{
+    let levels = answer.levels;
+    [
+        levels.stored as i64,
+        levels.table_value as i64,
+        levels.cell,
+        levels.column_delta,
+        levels.row_delta,
+        levels.black,
+        levels.greatest_black,
+        levels.level as i64,
+        answer.covering as i64,
+        answer.skipped as i64,
+    ]
+}
+
 #[no_mangle]
 pub extern "C" fn dng_chain(
     file: &[u8],
@@ -137,19 +157,7 @@ pub extern "C" fn dng_chain(
         after,
         skipped,
     );
-    let levels = answer.levels;
-    *numbers = [
-        levels.stored as i64,
-        levels.table_value as i64,
-        levels.cell,
-        levels.column_delta,
-        levels.row_delta,
-        levels.black,
-        levels.greatest_black,
-        levels.level as i64,
-        answer.covering as i64,
-        answer.skipped as i64,
-    ];
+    *numbers = chain_numbers(answer);
     *value = answer.value;
     packed(answer.number, answer.detail)
 }
