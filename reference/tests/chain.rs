@@ -1,0 +1,745 @@
+//! "Why is this sample what it is?" (document 02, T-06): the eight numbers, the chain
+//! of the covering opcodes, the skipped ones, and the five slices.
+
+mod common;
+
+use std::array;
+use std::ops::Range;
+
+use common::*;
+use reference::builder::{Area, Dng, GainMap, Opcode, Picture, Tag};
+use reference::bytes::{ByteOrder, LAYOUTS};
+use reference::cases::{answer_line, ask_chain, untouched, AskedChain, Call};
+use reference::chain::Link;
+use reference::chains::{self, skipped, Worked, FULL};
+use reference::develop::{accept, Accepted};
+use reference::generate::{generate, generate_valid};
+use reference::opcodes::{long, FrameSize, Opcode as Read};
+use reference::random::Random;
+use reference::{card, chain, spot, Answer, Chain, LevelNumbers};
+
+const HUGE: [u64; 5] = [u64::MAX, u64::MAX - 1, 1 << 63, (1 << 32) + 1, 1 << 32];
+
+/// Places on both sides of a slice that are not lent.
+const MARGIN: usize = 3;
+
+/// The least lengths of the five slices.
+const LEAST: [usize; 5] = [32; 5];
+
+fn ask(file: &[u8], spot: [u64; 3], lengths: [usize; 5]) -> AskedChain {
+    ask_chain(chain, file, spot, lengths, MARGIN)
+}
+
+/// What a chain that is answered says, read from its slices.
+#[derive(Clone, Debug, PartialEq)]
+struct Told {
+    value: u64,
+    level: [i64; 8],
+    /// Place, id, and the bits before and after.
+    links: Vec<[u64; 4]>,
+    skipped: Vec<u64>,
+}
+
+/// The first places of the slices, as many as the counts say; every other place, and
+/// every margin, must be as it was.
+#[track_caller]
+fn told(asked: &AskedChain) -> Told {
+    let Chain { value, level, covering, skipped, .. } = asked.chain;
+    assert_eq!(asked.chain.answer(), DONE);
+    let counts = [covering, covering, covering, covering, skipped].map(|count| count as usize);
+    for (slice, (bits, count)) in asked.slices.iter().zip(counts).enumerate() {
+        for (place, bits) in bits.iter().enumerate() {
+            let used = (MARGIN..MARGIN + count).contains(&place);
+            assert_eq!(*bits != untouched(slice, place), used, "slice {slice}, place {place}");
+        }
+    }
+    let used: [&[u64]; 5] = array::from_fn(|slice| &asked.slices[slice][MARGIN..MARGIN + counts[slice]]);
+    let links = (0..counts[0]).map(|i| [0, 1, 2, 3].map(|slice: usize| used[slice][i])).collect();
+    Told { value: value.to_bits(), level: level.numbers(), links, skipped: used[4].to_vec() }
+}
+
+#[track_caller]
+fn told_of(file: &[u8], spot: [u64; 3]) -> Told {
+    told(&ask(file, spot, LEAST))
+}
+
+/// A refusal has zeros, and every place of every slice is as it was.
+#[track_caller]
+fn is_refused(asked: &AskedChain, answer: Answer) {
+    let Chain { value, level, covering, skipped, .. } = asked.chain;
+    assert_eq!(asked.chain.answer(), answer);
+    assert_eq!((value.to_bits(), covering, skipped), (0, 0, 0));
+    assert_eq!(level, LevelNumbers::default());
+    assert_eq!(level.numbers(), [0; 8]);
+    for (slice, bits) in asked.slices.iter().enumerate() {
+        let kept = bits.iter().enumerate().all(|(place, bits)| *bits == untouched(slice, place));
+        assert!(kept, "slice {slice} of a chain refused by {answer:?}");
+    }
+}
+
+fn of_link(link: &Link) -> [u64; 4] {
+    [link.place, link.id, link.before.to_bits(), link.after.to_bits()]
+}
+
+fn of_worked(worked: &Worked) -> Told {
+    let Worked { level, links, skipped, .. } = worked;
+    let links = links.iter().map(of_link).collect();
+    Told { value: worked.value().to_bits(), level: *level, links, skipped: skipped.clone() }
+}
+
+/// A file of 8-bit samples in both byte orders and layouts, the raw IFD as IFD 0 and
+/// below it.
+fn each_way(dng: &Dng) -> Vec<Vec<u8>> {
+    let mut files = Vec::new();
+    for depth in [0, 2] {
+        for (order, widths) in BOTH.into_iter().flat_map(|order| LAYOUTS.map(|widths| (order, widths))) {
+            files.push(Dng { order, widths, ..dng.clone().nested(depth) }.file());
+        }
+    }
+    files
+}
+
+/// An 8-bit file whose samples are all 1.0.
+fn full(rows: u32, columns: u32, samples: u32) -> Dng {
+    chains::full(ByteOrder::Little, [rows, columns, samples])
+}
+
+/// Every active row, column and plane.
+fn spots(file: &[u8]) -> Vec<[u64; 3]> {
+    let card = card(file);
+    let rows = (0..card.rows).flat_map(|row| (0..card.columns).map(move |column| (row, column)));
+    rows.flat_map(|(row, column)| (0..card.samples).map(move |plane| [row, column, plane])).collect()
+}
+
+#[test]
+fn chains_worked_out_by_hand() {
+    for worked in BOTH.into_iter().flat_map(chains::worked) {
+        for (widths, depth) in LAYOUTS.into_iter().flat_map(|widths| [(widths, 0), (widths, 3)]) {
+            let file = Dng { widths, ..worked.dng.clone().nested(depth) }.file();
+            assert_eq!(told_of(&file, worked.spot), of_worked(&worked), "{}", worked.label);
+        }
+    }
+    assert!(chains::worked(ByteOrder::Big).len() > 60);
+}
+
+/// "the eight numbers are demand 2's for this spot, the first from the stored bytes".
+#[test]
+fn the_stored_sample_is_read_from_its_bytes() {
+    for (bits, samples) in [(8, 1), (16, 1), (8, 3), (16, 3)] {
+        let picture = Picture { rows_per_strip: 2, ..Picture::counting(5, 5, samples, bits) };
+        for order in BOTH {
+            let stored: Vec<u16> = (0..25 * samples as u16).map(|i| i.wrapping_mul(771) ^ 0x1234).collect();
+            let picture = Picture { stored: stored.clone(), ..picture.clone() };
+            let dng = Dng::new(order, &picture).with(Tag::longs(50829, &[2, 1, 5, 4]));
+            let file = dng.file();
+            for [row, column, plane] in spots(&file) {
+                let place = ((row + 2) * 5 + column + 1) * u64::from(samples) + plane;
+                let expected = i64::from(stored[place as usize]) & ((1 << bits) - 1);
+                let [stored, table, ..] = told_of(&file, [row, column, plane]).level;
+                assert_eq!([stored, table], [expected; 2]);
+            }
+        }
+    }
+}
+
+/// Each kind alone, on a sample of 1.0.
+#[test]
+fn every_id_is_named() {
+    let area = Area::whole(2, 3, 1);
+    let map = |gain| GainMap::spread(&[[gain]]);
+    for (opcode, id, after) in [
+        (Opcode::map_table(area, &[5, 0]), 7, 0.0),
+        (Opcode::map_polynomial(area, &[0.25, 0.5]), 8, 0.75),
+        (Opcode::gain_map(area, &map(0.375)), 9, 0.375),
+        (Opcode::per_line(10, area, &[0.0, -0.5]), 10, 0.5),
+        (Opcode::per_line(11, area, &[0.0, -0.25, 0.0]), 11, 0.75),
+        (Opcode::per_line(12, area, &[0.0, 0.625]), 12, 0.625),
+        (Opcode::per_line(13, area, &[0.0, 0.125, 0.0]), 13, 0.125),
+    ] {
+        let link = [0, id, 1.0f64.to_bits(), f64::to_bits(after)];
+        let expected = Told { value: after.to_bits(), level: FULL, links: vec![link], skipped: vec![] };
+        for flags in [0, 1, 0xFFFF_FFFE] {
+            // Flag bit 0 does not make a listed one skipped.
+            let list = [opcode.clone().with_flags(flags)];
+            for file in each_way(&full(2, 3, 1).with_opcodes(&list)) {
+                assert_eq!(told_of(&file, [1, 1, 0]), expected, "{id}");
+            }
+        }
+        let later = opcode.with_version(0x0107_0101).with_flags(1);
+        let told = told_of(&full(2, 3, 1).with_opcodes(&[later]).file(), [1, 1, 0]);
+        assert_eq!((told.links, told.skipped, told.value), (vec![], vec![0], 1.0f64.to_bits()));
+    }
+}
+
+/// "Covering is by the grid alone": numbers between 0 and 1 that stay as they were,
+/// and 0 and 1 themselves.
+#[test]
+fn an_opcode_that_changes_nothing_covers_all_the_same() {
+    let stored = [0, 1, 40, 200, 254, 255];
+    let area = Area::whole(1, 6, 1);
+    let identity: Vec<u16> = (0..=65_535).collect();
+    let list = [
+        Opcode::map_table(area, &identity),
+        Opcode::map_polynomial(area, &[0.0, 1.0]),
+        Opcode::gain_map(area, &GainMap::spread(&[[1.0, 1.0], [1.0, 1.0]])),
+        Opcode::per_line(10, area, &[0.0]),
+        Opcode::per_line(11, area, &[-0.0; 6]),
+        Opcode::per_line(12, area, &[1.0]),
+        Opcode::per_line(13, area, &[1.0; 6]),
+    ];
+    let alone = list.iter().zip(7..).map(|(opcode, id)| (vec![opcode.clone()], vec![id]));
+    let all = (list.to_vec(), vec![7, 8, 9, 10, 11, 12, 13]);
+    for (list, ids) in alone.chain([all]) {
+        let dng = Dng::new(ByteOrder::Big, &Picture::row(8, &stored)).with_opcodes(&list);
+        for file in each_way(&dng) {
+            for (column, stored) in (0..).zip(stored) {
+                // White is 255, so that L is 257 x stored.
+                let bits = (f64::from(257 * u32::from(stored)) / 65535.0).to_bits();
+                let expected: Vec<[u64; 4]> =
+                    (0..).zip(&ids).map(|(place, id)| [place, *id, bits, bits]).collect();
+                let told = told_of(&file, [0, column, 0]);
+                assert_eq!((told.links, told.value), (expected, bits), "{ids:?}");
+            }
+        }
+    }
+}
+
+/// Rows, columns or planes.
+type Lines = &'static [u64];
+
+/// Those of some grids, listed by hand.
+#[test]
+fn a_grid_covers_its_own_spots_and_no_others() {
+    let whole = Area::whole(7, 8, 3);
+    let grids: [(Area, Lines, Lines, Lines); 9] = [
+        (whole, &[0, 1, 2, 3, 4, 5, 6], &[0, 1, 2, 3, 4, 5, 6, 7], &[0, 1, 2]),
+        (Area { top: 2, bottom: 5, ..whole }, &[2, 3, 4], &[0, 1, 2, 3, 4, 5, 6, 7], &[0, 1, 2]),
+        (Area { left: 3, right: 4, ..whole }, &[0, 1, 2, 3, 4, 5, 6], &[3], &[0, 1, 2]),
+        (Area { plane: 1, planes: 1, top: 6, ..whole }, &[6], &[0, 1, 2, 3, 4, 5, 6, 7], &[1]),
+        (Area { plane: 1, planes: 2, left: 7, ..whole }, &[0, 1, 2, 3, 4, 5, 6], &[7], &[1, 2]),
+        (Area { top: 1, bottom: 6, row_pitch: 2, right: 1, ..whole }, &[1, 3, 5], &[0], &[0, 1, 2]),
+        (
+            Area { top: 1, bottom: 5, row_pitch: 2, planes: 2, ..whole },
+            &[1, 3],
+            &[0, 1, 2, 3, 4, 5, 6, 7],
+            &[0, 1],
+        ),
+        (Area { left: 1, right: 8, column_pitch: 3, bottom: 2, ..whole }, &[0, 1], &[1, 4, 7], &[0, 1, 2]),
+        (
+            Area { top: 3, left: 2, plane: 2, planes: 1, row_pitch: u32::MAX, column_pitch: 5, ..whole },
+            &[3],
+            &[2, 7],
+            &[2],
+        ),
+    ];
+    let opcodes = grids.map(|(area, ..)| Opcode::map_polynomial(area, &[0.0, 1.0]));
+    let dng = full(7, 8, 3).with_opcodes(&opcodes);
+    for file in each_way(&dng) {
+        for [row, column, plane] in spots(&file) {
+            let covering: Vec<u64> = (0..)
+                .zip(&grids)
+                .filter(|(_, (_, rows, columns, planes))| {
+                    rows.contains(&row) && columns.contains(&column) && planes.contains(&plane)
+                })
+                .map(|(place, _)| place)
+                .collect();
+            let told = told_of(&file, [row, column, plane]);
+            let named: Vec<u64> = told.links.iter().map(|[place, ..]| *place).collect();
+            assert_eq!(named, covering, "{row} {column} {plane}");
+        }
+    }
+}
+
+/// How an opcode of a list behaves at the spot.
+#[derive(Clone, Copy, Debug, PartialEq)]
+enum Kind {
+    Covers,
+    Beside,
+    Skipped,
+}
+
+/// A list of such opcodes on a frame of 2 x 2 samples, of which the first is asked.
+/// Those that cover it take half of what is there.
+fn list_of(kinds: &[Kind]) -> Vec<Opcode> {
+    let area = Area::whole(2, 2, 1);
+    let of_kind = |kind: &Kind| match kind {
+        Kind::Covers => Opcode::per_line(12, Area { bottom: 1, ..area }, &[0.5]),
+        Kind::Beside => Opcode::per_line(13, Area { left: 1, ..area }, &[0.25]),
+        Kind::Skipped => skipped(),
+    };
+    kinds.iter().map(of_kind).collect()
+}
+
+/// What is told of such a list.
+fn told_by(kinds: &[Kind]) -> Told {
+    let places =
+        |wanted| (0..).zip(kinds).filter(move |(_, kind)| **kind == wanted).map(|(place, _): (u64, _)| place);
+    let halved = |times: usize| 0.5f64.powi(times as i32).to_bits();
+    let links: Vec<[u64; 4]> = places(Kind::Covers)
+        .enumerate()
+        .map(|(times, place)| [place, 12, halved(times), halved(times + 1)])
+        .collect();
+    Told { value: halved(links.len()), level: FULL, links, skipped: places(Kind::Skipped).collect() }
+}
+
+fn lists() -> Vec<Vec<Kind>> {
+    use Kind::{Beside, Covers, Skipped};
+    let mut lists = Vec::new();
+    for length in 0..=32 {
+        // All of one kind; one of another kind at each place.
+        for kind in [Covers, Beside, Skipped] {
+            let same = vec![kind; length];
+            for (place, other) in (0..length).flat_map(|i| [(i, Covers), (i, Beside), (i, Skipped)]) {
+                let mut list = same.clone();
+                list[place] = other;
+                lists.push(list);
+            }
+            lists.push(same);
+        }
+        lists.push((0..length).map(|i| [Covers, Skipped][i % 2]).collect());
+        lists.push((0..length).map(|i| [Skipped, Covers, Beside][i % 3]).collect());
+        lists.push((0..length).map(|i| [Beside, Covers, Covers, Skipped, Skipped][i % 5]).collect());
+    }
+    let random = &mut Random::new(60);
+    for _ in 0..300 {
+        let length = random.index(33);
+        lists.push((0..length).map(|_| random.pick(&[Covers, Beside, Skipped])).collect());
+    }
+    lists
+}
+
+/// From no opcode to 32, with skipped ones first, last, between and everywhere.
+#[test]
+fn lists_of_every_length() {
+    let lists = lists();
+    assert!(lists.contains(&vec![Kind::Covers; 32]) && lists.contains(&vec![Kind::Skipped; 32]));
+    for (turn, kinds) in lists.iter().enumerate() {
+        let dng = full(2, 2, 1).with_opcodes(&list_of(kinds));
+        let file = Dng { widths: LAYOUTS[turn % 2], ..dng }.file();
+        assert_eq!(told_of(&file, [0; 3]), told_by(kinds), "{kinds:?}");
+    }
+    // No list at all.
+    assert_eq!(told_of(&full(2, 2, 1).file(), [0; 3]), told_by(&[]));
+}
+
+/// The skipped ones are the same for every spot.
+#[test]
+fn skipped_opcodes_do_not_ask_for_the_spot() {
+    let area = Area { top: 1, left: 1, planes: 2, ..Area::whole(3, 3, 3) };
+    let kept = Opcode::map_polynomial(area, &[0.5]);
+    let file = full(3, 3, 3).with_opcodes(&[skipped(), kept.clone(), skipped(), kept, skipped()]).file();
+    for [row, column, plane] in spots(&file) {
+        let told = told_of(&file, [row, column, plane]);
+        let covered = row >= 1 && column >= 1 && plane < 2;
+        let half = 0.5f64.to_bits();
+        let links = [[1, 8, 1.0f64.to_bits(), half], [3, 8, half, half]];
+        assert_eq!(told.links, if covered { links.to_vec() } else { vec![] });
+        assert_eq!(told.skipped, [0, 2, 4]);
+    }
+}
+
+/// A file of which 32 opcodes cover the spot, one of which all are skipped, and one
+/// without a list.
+fn few_and_many() -> [Vec<u8>; 3] {
+    let of = |kind| full(2, 2, 1).with_opcodes(&list_of(&[kind; 32]));
+    [of(Kind::Covers), of(Kind::Skipped), full(2, 2, 1)].map(|dng| dng.file())
+}
+
+/// "14 if any of the five slices has fewer than 32 places", whatever is needed of
+/// them; longer ones keep what they held.
+#[test]
+fn each_slice_has_32_places_or_more() {
+    for file in few_and_many() {
+        let expected = told_of(&file, [0; 3]);
+        for slice in 0..5 {
+            for length in (0..=40).chain([63, 64, 65, 1_000]) {
+                let mut lengths = LEAST;
+                lengths[slice] = length;
+                let asked = ask(&file, [0; 3], lengths);
+                if length < 32 {
+                    is_refused(&asked, refusal(14, 0));
+                } else {
+                    assert_eq!(told(&asked), expected);
+                }
+            }
+        }
+        for length in [0, 1, 30, 31] {
+            is_refused(&ask(&file, [0; 3], [length; 5]), refusal(14, 0));
+            // One that will do among others that will not.
+            for slice in 0..5 {
+                let mut lengths = [length; 5];
+                lengths[slice] = 100;
+                is_refused(&ask(&file, [0; 3], lengths), refusal(14, 0));
+            }
+        }
+        for lengths in [[33; 5], [40, 32, 33, 50, 64], [32, 33, 34, 35, 36]] {
+            assert_eq!(told(&ask(&file, [0; 3], lengths)), expected);
+        }
+    }
+}
+
+/// "Refusals: as spot": outside in each direction, also as far as 64 bits reach; with
+/// slices that would do and that would not.
+#[test]
+fn refusal_13_is_that_of_spot_and_comes_before_14() {
+    for dng in [full(3, 4, 1), full(3, 4, 3), mosaic(6, 5).with(Tag::longs(50829, &[1, 2, 4, 6]))] {
+        let file = dng.with_opcodes(&[skipped()]).file();
+        let samples = card(&file).samples;
+        let mut outside = vec![[3, 4, samples]];
+        for (axis, whole) in [3, 4, samples].into_iter().enumerate() {
+            for far in HUGE.into_iter().chain([whole, whole + 1]) {
+                for inside in [[0; 3], [2, 3, samples - 1]] {
+                    let mut place = inside;
+                    place[axis] = far;
+                    outside.push(place);
+                }
+            }
+        }
+        outside.extend(HUGE.map(|far| [far; 3]));
+        for place in outside {
+            let [row, column, plane] = place;
+            assert_eq!(spot(&file, row, column, plane).0, refusal(13, 0));
+            is_refused(&ask(&file, place, LEAST), refusal(13, 0));
+            for slice in 0..5 {
+                for length in [0, 31, 33] {
+                    let mut lengths = LEAST;
+                    lengths[slice] = length;
+                    is_refused(&ask(&file, place, lengths), refusal(13, 0));
+                }
+            }
+            is_refused(&ask(&file, place, [0; 5]), refusal(13, 0));
+        }
+        for place in spots(&file) {
+            assert_eq!(ask(&file, place, LEAST).chain.answer(), DONE);
+        }
+    }
+}
+
+/// A refusal of the file comes before both, whatever else is asked.
+#[test]
+fn refusals_of_the_file_come_first() {
+    let nan = Opcode::map_polynomial(Area::whole(2, 2, 1), &[f64::NAN]);
+    let files = [
+        (vec![], refusal(1, 0)),
+        (b"IIII0000".to_vec(), refusal(2, 0)),
+        (mosaic(2, 2).without(262).file(), refusal(5, 262)),
+        (mosaic(2, 2).with(Tag::bytes(51022, &[0])).file(), refusal(8, 51022)),
+        (mosaic(2, 2).with(Tag::shorts(50720, &[3, 2])).file(), refusal(4, 50720)),
+        (mosaic(2, 2).with(Tag::shorts(50717, &[0])).file(), refusal(9, 0)),
+        (mosaic(2, 2).with_opcodes(&[skipped(), Opcode::new(14, 0, vec![])]).file(), refusal(11, 1)),
+        (
+            mosaic(2, 2).with_opcodes(&[skipped(), skipped(), Opcode::new(7, 0, vec![])]).file(),
+            refusal(10, 2),
+        ),
+        (mosaic(2, 2).with_opcodes(&vec![skipped(); 33]).file(), refusal(11, 32)),
+        (mosaic(2, 2).with_opcodes(&[nan]).file(), refusal(12, 0)),
+        (mosaic(2, 2).with(Tag::undefined(51009, &[0; 5])).file(), refusal(10, 0)),
+    ];
+    for (file, expected) in files {
+        assert_eq!(answer_to(&file), expected);
+        for place in [[0; 3], [2, 0, 0], [0, 2, 0], [0, 0, 1], [u64::MAX; 3]] {
+            for lengths in [LEAST, [31; 5], [0; 5], [32, 32, 31, 32, 32], [32, 32, 32, 32, 31], [40; 5]] {
+                is_refused(&ask(&file, place, lengths), expected);
+            }
+        }
+    }
+    // Colour's tags refuse no chain, nor does 15.
+    let coloured = mosaic(2, 2).with_first(Tag::bytes(50723, &[1])).with_first(Tag::bytes(50964, &[1]));
+    assert_eq!(ask(&coloured.file(), [0; 3], LEAST).chain.answer(), DONE);
+    let coloured = linear(2, 2).with_first(Tag::bytes(50728, &[1])).with(Tag::bytes(33421, &[1]));
+    assert_eq!(ask(&coloured.file(), [0; 3], LEAST).chain.answer(), DONE);
+}
+
+/// Every spot of generated files: the value and its number and detail are the
+/// spot's; the first value before is the scaled value, each other one the value after
+/// of the link before it, the last value after the spot's; the places are those of
+/// the grids that hold the spot, found by walking over each grid, the ids those of
+/// their headers.
+#[test]
+fn chains_hang_together() {
+    let (mut answered, mut linked, mut none) = (0, 0, 0);
+    for index in 0..1_200 {
+        let file = generate(61, index).file;
+        let Ok(accepted) = accept(&file) else { continue };
+        let FrameSize { rows, columns, samples } = accepted.size();
+        if rows * columns * samples > 400 {
+            continue;
+        }
+        let covering = places_by_walking(&accepted);
+        let ids = accepted.raw.opcode_list.map(ids_in_headers).unwrap_or_default();
+        for spot_of in spots(&file) {
+            let [row, column, plane] = spot_of;
+            let told = told_of(&file, spot_of);
+            let scaled = accepted.scaled(row, column, plane).to_bits();
+            let mut x = scaled;
+            for [_, _, before, after] in &told.links {
+                assert_eq!(*before, x);
+                x = *after;
+            }
+            let (of_spot, value) = spot(&file, row, column, plane);
+            assert_eq!((of_spot, value.to_bits(), value.to_bits()), (DONE, told.value, x));
+            let places: Vec<u64> = told.links.iter().map(|[place, ..]| *place).collect();
+            assert_eq!(places, covering[accepted.index(row, column, plane)]);
+            assert!(told.links.iter().all(|[place, id, ..]| ids[*place as usize] == *id));
+            let card = card(&file);
+            assert_eq!(told.skipped.len() as u64, card.skipped);
+            let [_, table, cell, column_delta, row_delta, black, greatest, level] = told.level;
+            assert_eq!(cell + column_delta + row_delta, black);
+            assert!(black <= greatest);
+            assert_eq!((level as f64 / 65535.0).to_bits(), scaled);
+            if 256 * table <= black {
+                assert_eq!(level, 0);
+            }
+            answered += 1;
+            linked += told.links.len();
+            none += u32::from(told.links.is_empty());
+        }
+    }
+    println!("{answered} chains, {linked} links, {none} without one");
+    assert!(answered > 20_000 && linked > 20_000 && none > 10_000, "{answered} {linked} {none}");
+}
+
+/// The id of every opcode of a list, by its headers.
+fn ids_in_headers(list: &[u8]) -> Vec<u64> {
+    let mut ids = Vec::new();
+    let mut start = 4;
+    while start < list.len() {
+        ids.push(long(list, start));
+        start += 16 + long(list, start + 12) as usize;
+    }
+    ids
+}
+
+/// For every sample of the frame the places of the opcodes whose grids hold it.
+fn places_by_walking(accepted: &Accepted) -> Vec<Vec<u64>> {
+    let FrameSize { rows, columns, samples } = accepted.size();
+    let mut covering = vec![Vec::new(); (rows * columns * samples) as usize];
+    for (place, opcode) in (0..).zip(&accepted.opcodes) {
+        let Read::Kept(grid, _) = opcode else { continue };
+        let mut row = grid.top;
+        while row < grid.bottom {
+            let mut column = grid.left;
+            while column < grid.right {
+                for plane in grid.plane..grid.plane + grid.planes {
+                    covering[accepted.index(row, column, plane)].push(place);
+                }
+                column += grid.column_pitch;
+            }
+            row += grid.row_pitch;
+        }
+    }
+    covering
+}
+
+/// M is the greatest B that is shown of any sample of the plane.
+#[test]
+fn the_greatest_black_is_one_that_is_shown() {
+    let mut differing = 0;
+    for index in 0..400 {
+        let file = generate_valid(62, index);
+        let all: Vec<([u64; 3], [i64; 8])> =
+            spots(&file).into_iter().map(|spot| (spot, told_of(&file, spot).level)).collect();
+        let samples = card(&file).samples;
+        let greatest: Vec<i64> = (0..samples)
+            .map(|plane| all.iter().filter(|(spot, _)| spot[2] == plane).map(|(_, level)| level[5]).max())
+            .map(|greatest| greatest.expect("an area has a sample"))
+            .collect();
+        assert!(all.iter().all(|(spot, level)| level[6] == greatest[spot[2] as usize]));
+        differing += u32::from(greatest.iter().any(|m| *m != greatest[0]));
+    }
+    assert!(differing > 80, "{differing}");
+}
+
+/// Above the limit of the whole frame the numbers are those of a small one.
+#[test]
+fn a_great_frame_has_the_same_chains() {
+    let picture = Picture { rows_per_strip: 7, ..Picture::counting(1_200, 1_000, 1, 8) };
+    let area = Area { top: 1, left: 2, row_pitch: 3, column_pitch: 5, ..Area::whole(1_000, 1_200, 1) };
+    let mut deltas = vec![(0, 1); 1_000];
+    (deltas[10], deltas[999]) = ((-3, 2), (7, 4));
+    let list = [skipped(), Opcode::map_polynomial(area, &[0.25, 0.5]), Opcode::map_polynomial(area, &[0.75])];
+    let dng = Dng::new(ByteOrder::Big, &picture)
+        .with(Tag::shorts(50713, &[2, 1]))
+        .with(Tag::shorts(50714, &[16, 8]))
+        .with(Tag::srationals(50716, &deltas))
+        .with_opcodes(&list);
+    let file = dng.file();
+    // Sample 10 x 1,200 + 12 is 12,012, or 236 past 46 x 256; M is 16, of even rows.
+    let told = told_of(&file, [10, 12, 0]);
+    let d = 256 * 236 - (4_096 - 384);
+    let level = level_by_search(d, 256 * (255 - 16));
+    assert_eq!(told.level, [236, 236, 4_096, 0, -384, 4_096 - 384, 4_096, level.into()]);
+    let x = f64::from(level) / 65535.0;
+    let (second, third) = (0.5 * x + 0.25, 0.75);
+    let bits = [x, second, third].map(f64::to_bits);
+    assert_eq!(told.links, [[1, 8, bits[0], bits[1]], [2, 8, bits[1], bits[2]]]);
+    assert_eq!((told.skipped, told.value), (vec![0], bits[2]));
+    // The row's delta is not part of M where another sum is greater.
+    let told = told_of(&file, [999, 0, 0]);
+    assert_eq!(told.level[2..7], [2_048, 0, 448, 2_496, 4_096]);
+    assert_eq!(told.links, Vec::<[u64; 4]>::new());
+}
+
+const SIDE: u32 = 4;
+
+fn random_opcode(random: &mut Random) -> Opcode {
+    if random.one_in(5) {
+        return skipped();
+    }
+    let (top, left, plane) = (random.small(0, SIDE - 1), random.small(0, SIDE - 1), random.small(0, 2));
+    let area = Area {
+        top,
+        left,
+        bottom: random.small(top + 1, SIDE),
+        right: random.small(left + 1, SIDE),
+        plane,
+        planes: random.small(1, 3 - plane),
+        row_pitch: random.small(1, 3),
+        column_pitch: random.small(1, 3),
+    };
+    let rows = (area.bottom - area.top).div_ceil(area.row_pitch) as usize;
+    let columns = (area.right - area.left).div_ceil(area.column_pitch) as usize;
+    let number = random.between(1, 999) as f32 / 1000.0;
+    match random.small(7, 13) {
+        7 => Opcode::map_table(area, &[5, 60_000, 300, 20_000]),
+        8 => Opcode::map_polynomial(area, &[0.125, number.into()]),
+        9 => Opcode::gain_map(area, &GainMap::spread(&[[number, 0.5], [0.25, 1.5]])),
+        id @ (10 | 12) => Opcode::per_line(id, area, &vec![number; rows]),
+        id => Opcode::per_line(id, area, &vec![number; columns]),
+    }
+}
+
+/// Have the opcodes at k and k + 1 no sample in common?
+fn apart(accepted: &Accepted, k: usize) -> bool {
+    let shares = |places: &Vec<u64>| [k, k + 1].iter().all(|place| places.contains(&(*place as u64)));
+    !places_by_walking(accepted).iter().any(shares)
+}
+
+/// Demand 3, as reading 73 has it: two neighbours whose grids are apart change places,
+/// and of the chain nothing changes but the places: k for k + 1 and k + 1 for k, in
+/// list order.
+#[test]
+fn neighbours_on_disjoint_grids_change_places_in_the_chain() {
+    let random = &mut Random::new(63);
+    let base = Dng::new(ByteOrder::Little, &Picture::counting(SIDE, SIDE, 3, 8));
+    let exchange = |places: Vec<u64>, k: u64| {
+        let mut places: Vec<u64> = places
+            .into_iter()
+            .map(|place| match place {
+                _ if place == k => k + 1,
+                _ if place == k + 1 => k,
+                _ => place,
+            })
+            .collect();
+        places.sort_unstable();
+        places
+    };
+    let (mut swaps, mut moved, mut moved_skipped) = (0, 0, 0);
+    for _ in 0..600 {
+        let list: Vec<Opcode> = (0..2 + random.index(4)).map(|_| random_opcode(random)).collect();
+        let k = random.index(list.len() - 1);
+        let mut exchanged = list.clone();
+        exchanged.swap(k, k + 1);
+        let [file, other] = [&list, &exchanged].map(|list| base.clone().with_opcodes(list).file());
+        if !apart(&accept(&file).expect("a good file"), k) {
+            continue;
+        }
+        swaps += 1;
+        for place in spots(&file) {
+            let [before, after] = [&file, &other].map(|file| told_of(file, place));
+            assert_eq!((before.value, before.level), (after.value, after.level));
+            let split = |told: &Told| -> (Vec<u64>, Vec<[u64; 3]>) {
+                told.links.iter().map(|[place, id, before, after]| (*place, [*id, *before, *after])).unzip()
+            };
+            let ((places, links), (new_places, new_links)) = (split(&before), split(&after));
+            assert_eq!(links, new_links);
+            assert_eq!(exchange(places.clone(), k as u64), new_places);
+            assert_eq!(exchange(before.skipped.clone(), k as u64), after.skipped);
+            moved += u32::from(places != new_places);
+            moved_skipped += u32::from(before.skipped != after.skipped);
+        }
+    }
+    assert!(swaps > 150 && moved > 1_000 && moved_skipped > 1_000, "{swaps} {moved} {moved_skipped}");
+}
+
+/// Demand 3: one stored sample changes, and every other sample's chain stays, whole.
+#[test]
+fn one_stored_sample_changes_one_chain() {
+    let random = &mut Random::new(64);
+    let (mut changed, mut outside) = (0, 0);
+    for (samples, bits) in [(1, 8), (1, 16), (3, 8), (3, 16)] {
+        let picture = Picture { rows_per_strip: 2, ..Picture::counting(5, 5, samples, bits) };
+        let list: Vec<Opcode> = [7, 8, 9]
+            .map(|id| {
+                let area = Area { row_pitch: 2, ..Area::whole(3, 4, samples) };
+                match id {
+                    7 => Opcode::map_table(area, &[9, 20_000, 40_000]),
+                    8 => Opcode::map_polynomial(area, &[0.125, 0.5]),
+                    _ => Opcode::gain_map(area, &GainMap::spread(&[[0.5, 0.25], [0.75, 0.625]])),
+                }
+            })
+            .into_iter()
+            .chain([skipped()])
+            .collect();
+        let dng = Dng::new(ByteOrder::Big, &picture)
+            .with(Tag::longs(50829, &[1, 1, 4, 5]))
+            .with(Tag::shorts(50714, &vec![3; samples as usize]))
+            .with_opcodes(&list);
+        let layout = dng.layout();
+        let all = |file: &[u8]| -> Vec<Told> {
+            spots(file).into_iter().map(|place| told_of(file, place)).collect()
+        };
+        let before = all(&layout.file);
+        let size = (bits / 8) as usize;
+        for sample in 0..25 * samples as usize {
+            let (row, column, plane) =
+                (sample / (5 * samples as usize), sample / samples as usize % 5, sample % samples as usize);
+            let in_strip = (row % 2 * 5 + column) * samples as usize + plane;
+            let start = layout.blocks[row / 2] + size * in_strip;
+            let after = all(&poked(&layout.file, start, &random.bytes(size)));
+            let active: [Range<usize>; 2] = [1..4, 1..5];
+            let own = (active[0].contains(&row) && active[1].contains(&column))
+                .then(|| ((row - 1) * 4 + column - 1) * samples as usize + plane);
+            for (place, (before, after)) in before.iter().zip(&after).enumerate() {
+                assert!(Some(place) == own || before == after, "{place} of {own:?}");
+                changed += u32::from(before != after);
+            }
+            outside += u32::from(own.is_none());
+        }
+    }
+    assert!(changed > 80 && outside > 80, "{changed} changed, {outside} outside");
+}
+
+/// The line of a chain that is answered, and of two that are not.
+#[test]
+fn a_chain_as_a_line_of_text() {
+    let dng = full(1, 1, 1).with_opcodes(&list_of_one());
+    let line =
+        |file: &[u8], row, slices| answer_line(file, &Call::Chain { row, column: 0, plane: 0, slices });
+    let untouched = |count: usize| " -".repeat(count);
+    let [one, half, quarter] = ["3ff0000000000000", "3fe0000000000000", "3fd0000000000000"];
+    let expected = [
+        "chain 0 0 0 32 33 32 34 32 -> 0 0 3fd0000000000000 255 255 0 0 0 0 0 65535 2 1".to_string(),
+        format!("| 0 2{}", untouched(30)),
+        format!("| 12 10{}", untouched(31)),
+        format!("| {one} {half}{}", untouched(30)),
+        format!("| {half} {quarter}{}", untouched(32)),
+        format!("| 1{}", untouched(31)),
+    ];
+    assert_eq!(line(&dng.file(), 0, [32, 33, 32, 34, 32]), expected.join(" "));
+    let zeros = "0000000000000000 0 0 0 0 0 0 0 0 0 0";
+    assert_eq!(
+        line(&dng.file(), 0, [1, 0, 2, 0, 31]),
+        format!("chain 0 0 0 1 0 2 0 31 -> 14 0 {zeros} | - | | - - | |{}", untouched(31))
+    );
+    assert_eq!(line(&[], 9, [0; 5]), format!("chain 9 0 0 0 0 0 0 0 -> 1 0 {zeros} | | | | |"));
+    let words = ["chain", "0", "0", "0", "32", "32", "32", "32", "32"];
+    let call = Call::Chain { row: 0, column: 0, plane: 0, slices: LEAST };
+    assert_eq!(Call::parse(&words), Some(call));
+    assert_eq!((Call::parse(&words[..8]), Call::parse(&[&words[..], &["0"]].concat())), (None, None));
+}
+
+fn list_of_one() -> [Opcode; 3] {
+    let one = Area::whole(1, 1, 1);
+    [Opcode::per_line(12, one, &[0.5]), skipped(), Opcode::per_line(10, one, &[-0.25])]
+}
