@@ -1,11 +1,9 @@
 //! Chains behind spots (document 02, T-06), worked out by hand and not by `chain`, for
-//! `tests/chain.rs` and for the comparison; and the kinds of chains.
+//! `tests/chain.rs` and for the comparison.
 
 use crate::builder::{Area, Dng, GainMap, Opcode, Picture, Tag};
 use crate::bytes::ByteOrder;
 use crate::chain::Link;
-use crate::develop::Accepted;
-use crate::opcodes::{Grid, Opcode as Read};
 
 /// One spot of a file, and what its chain must be.
 pub struct Worked {
@@ -34,7 +32,11 @@ pub fn worked(order: ByteOrder) -> Vec<Worked> {
     all.extend(planes(order));
     all.extend(defaults(order));
     all.extend(lists(order));
+    all.extend(grids(order));
+    all.extend(grids_of_planes(order));
     all.extend(every_kind(order));
+    all.extend(each_id(order));
+    all.extend(unchanged(order));
     all.extend(gain_maps(order));
     all
 }
@@ -198,7 +200,7 @@ pub fn skipped() -> Opcode {
     Opcode::new(14, 1, vec![0xEE; 5])
 }
 
-/// The board's examples 7, 8 and 11, and example 6's grid.
+/// The board's examples 7, 8 and 11.
 fn lists(order: ByteOrder) -> Vec<Worked> {
     let one = Area::whole(1, 1, 1);
     let (half, quarter) = (Opcode::per_line(12, one, &[0.5]), Opcode::per_line(10, one, &[0.25]));
@@ -242,7 +244,6 @@ fn lists(order: ByteOrder) -> Vec<Worked> {
         let numbers = [stored, stored, 4_096, 0, 0, 4_096, 4_096, level];
         all.push(Worked { links, ..bare("example 11", &eleventh, [0, column, 0], numbers) });
     }
-    all.extend(grids(order));
     all
 }
 
@@ -271,6 +272,157 @@ fn grids(order: ByteOrder) -> Vec<Worked> {
         }
     }
     all
+}
+
+/// Rows, columns or planes.
+type Lines = &'static [u64];
+
+/// Grids that miss spots by a row, a column, a plane or a pitch; each leaves the
+/// numbers as they were. Their rows, columns and planes are listed by hand.
+fn grids_of_planes(order: ByteOrder) -> Vec<Worked> {
+    let whole = Area::whole(7, 8, 3);
+    let every_row: Lines = &[0, 1, 2, 3, 4, 5, 6];
+    let every_column: Lines = &[0, 1, 2, 3, 4, 5, 6, 7];
+    let every_plane: Lines = &[0, 1, 2];
+    let pitched = Area { row_pitch: u32::MAX, column_pitch: 5, plane: 2, planes: 1, ..whole };
+    let grids: [(Area, Lines, Lines, Lines); 9] = [
+        (whole, every_row, every_column, every_plane),
+        (Area { top: 2, bottom: 5, ..whole }, &[2, 3, 4], every_column, every_plane),
+        (Area { left: 3, right: 4, ..whole }, every_row, &[3], every_plane),
+        (Area { plane: 1, planes: 1, top: 6, ..whole }, &[6], every_column, &[1]),
+        (Area { plane: 1, planes: 2, left: 7, ..whole }, every_row, &[7], &[1, 2]),
+        (Area { top: 1, bottom: 6, row_pitch: 2, right: 1, ..whole }, &[1, 3, 5], &[0], every_plane),
+        (Area { top: 1, bottom: 5, row_pitch: 2, planes: 2, ..whole }, &[1, 3], every_column, &[0, 1]),
+        (Area { left: 1, column_pitch: 3, bottom: 2, ..whole }, &[0, 1], &[1, 4, 7], every_plane),
+        (Area { top: 3, left: 2, ..pitched }, &[3], &[2, 7], &[2]),
+    ];
+    let opcodes = grids.map(|(area, ..)| Opcode::map_polynomial(area, &[0.0, 1.0]));
+    let dng = full(order, [7, 8, 3]).with_opcodes(&opcodes);
+    let mut all = Vec::new();
+    for row in 0..7 {
+        for (column, plane) in (0..8).flat_map(|column| [0, 1, 2].map(|plane| (column, plane))) {
+            let covers = |(_, rows, columns, planes): &(Area, Lines, Lines, Lines)| {
+                rows.contains(&row) && columns.contains(&column) && planes.contains(&plane)
+            };
+            let covering = (0..).zip(&grids).filter(|(_, grid)| covers(grid));
+            let links = covering.map(|(place, _)| link(place, 8, 1.0, 1.0)).collect();
+            all.push(Worked { links, ..bare("rows, columns and planes", &dng, [row, column, plane], FULL) });
+        }
+    }
+    all
+}
+
+/// Each kind alone; flag bit 0 does not make it a skipped one, a later version does.
+fn each_id(order: ByteOrder) -> Vec<Worked> {
+    let area = Area::whole(2, 3, 1);
+    let mut all = Vec::new();
+    for (opcode, id, after) in [
+        (Opcode::map_table(area, &[5, 0]), 7, 0.0),
+        (Opcode::map_polynomial(area, &[0.25, 0.5]), 8, 0.75),
+        (constant_gain(area, &[0.375]), 9, 0.375),
+        (Opcode::per_line(10, area, &[0.0, -0.5]), 10, 0.5),
+        (Opcode::per_line(11, area, &[0.0, -0.25, 0.0]), 11, 0.75),
+        (Opcode::per_line(12, area, &[0.0, 0.625]), 12, 0.625),
+        (Opcode::per_line(13, area, &[0.0, 0.125, 0.0]), 13, 0.125),
+    ] {
+        for flags in [0, 1, 0xFFFF_FFFE] {
+            let dng = full(order, [2, 3, 1]).with_opcodes(&[opcode.clone().with_flags(flags)]);
+            let links = vec![link(0, id, 1.0, after)];
+            all.push(Worked { links, ..bare("each id", &dng, [1, 1, 0], FULL) });
+        }
+        let later = opcode.with_version(0x0107_0101).with_flags(1);
+        let dng = full(order, [2, 3, 1]).with_opcodes(&[later]);
+        all.push(Worked { skipped: vec![0], ..bare("each id, later", &dng, [1, 1, 0], FULL) });
+    }
+    all
+}
+
+/// Opcodes that leave 0, 1 and what is between as they were, each alone and all of
+/// them: they cover all the same. White is 255, so that L is 257 x stored.
+fn unchanged(order: ByteOrder) -> Vec<Worked> {
+    let stored = [0, 1, 40, 200, 254, 255];
+    let area = Area::whole(1, 6, 1);
+    let identity: Vec<u16> = (0..=65_535).collect();
+    let list = [
+        Opcode::map_table(area, &identity),
+        Opcode::map_polynomial(area, &[0.0, 1.0]),
+        Opcode::gain_map(area, &GainMap::spread(&[[1.0, 1.0], [1.0, 1.0]])),
+        Opcode::per_line(10, area, &[0.0]),
+        Opcode::per_line(11, area, &[-0.0; 6]),
+        Opcode::per_line(12, area, &[1.0]),
+        Opcode::per_line(13, area, &[1.0; 6]),
+    ];
+    let alone = list.iter().zip(7..).map(|(opcode, id)| (vec![opcode.clone()], vec![id]));
+    let mut all = Vec::new();
+    for (list, ids) in alone.chain([(list.to_vec(), vec![7, 8, 9, 10, 11, 12, 13])]) {
+        let dng = Dng::new(order, &Picture::row(8, &stored)).with_opcodes(&list);
+        for (column, stored) in (0..).zip(stored.map(i64::from)) {
+            let level = 257 * stored;
+            let x = level as f64 / 65535.0;
+            let links = (0..).zip(&ids).map(|(place, id)| link(place, *id, x, x)).collect();
+            let numbers = [stored, stored, 0, 0, 0, 0, 0, level];
+            all.push(Worked { links, ..bare("unchanged", &dng, [0, column, 0], numbers) });
+        }
+    }
+    all
+}
+
+/// How an opcode of a list stands to the first sample of a frame of 2 x 2.
+#[derive(Clone, Copy, Debug, PartialEq, Eq)]
+pub enum Stands {
+    Covering,
+    Beside,
+    Skipped,
+}
+
+/// The chain of that sample, a 1.0; every opcode that covers it takes half of what is
+/// there.
+pub fn of_list(order: ByteOrder, list: &[Stands]) -> Worked {
+    let area = Area::whole(2, 2, 1);
+    let opcode = |stands: &Stands| match stands {
+        Stands::Covering => Opcode::per_line(12, Area { bottom: 1, ..area }, &[0.5]),
+        Stands::Beside => Opcode::per_line(13, Area { left: 1, ..area }, &[0.25]),
+        Stands::Skipped => skipped(),
+    };
+    let opcodes: Vec<Opcode> = list.iter().map(opcode).collect();
+    let places = |wanted| {
+        let found = (0..).zip(list).filter(move |(_, stands)| **stands == wanted);
+        found.map(|(place, _)| place)
+    };
+    let halved = |times: i32| 0.5f64.powi(times);
+    let covering = (0..).zip(places(Stands::Covering));
+    let links = covering.map(|(times, place)| link(place, 12, halved(times), halved(times + 1))).collect();
+    let skipped = places(Stands::Skipped).collect();
+    let dng = full(order, [2, 2, 1]).with_opcodes(&opcodes);
+    Worked { links, skipped, ..bare("a list", &dng, [0; 3], FULL) }
+}
+
+/// Lists of no opcode to 32: all of one kind; one of another kind at each place; and
+/// kinds in turn.
+pub fn every_list() -> Vec<Vec<Stands>> {
+    let kinds @ [covering, beside, skipped] = [Stands::Covering, Stands::Beside, Stands::Skipped];
+    let mut lists = Vec::new();
+    for length in 0..=32 {
+        for kind in kinds {
+            let same = vec![kind; length];
+            for (place, other) in (0..length).flat_map(|place| kinds.map(|other| (place, other))) {
+                if other != kind {
+                    let mut list = same.clone();
+                    list[place] = other;
+                    lists.push(list);
+                }
+            }
+            lists.push(same);
+        }
+        for turns in [
+            &[covering, skipped][..],
+            &[skipped, covering, beside],
+            &[beside, covering, covering, skipped, skipped],
+        ] {
+            lists.push(turns.iter().copied().cycle().take(length).collect());
+        }
+    }
+    lists
 }
 
 /// All seven kinds on one sample, among skipped ones, which a listed id with a later
@@ -331,162 +483,4 @@ fn gain_maps(order: ByteOrder) -> Vec<Worked> {
         all.push(Worked { links, ..bare("map planes", &dng, [0, 0, plane], FULL) });
     }
     all
-}
-
-/// Every kind of an answered chain.
-pub const KINDS: [&str; 44] = [
-    "chain of an empty list",
-    "chain that no opcode covers",
-    "chain of one opcode",
-    "chain of two or more",
-    "chain of nine or more",
-    "chain of some of the kept",
-    "chain of the whole list",
-    "chain of a list all skipped",
-    "skipped before a chain",
-    "skipped within a chain",
-    "skipped behind a chain",
-    "chain with MapTable",
-    "chain with MapPolynomial",
-    "chain with GainMap",
-    "chain with DeltaPerRow",
-    "chain with DeltaPerColumn",
-    "chain with ScalePerRow",
-    "chain with ScalePerColumn",
-    "one id twice in a chain",
-    "number left as it was",
-    "number between left as it was",
-    "number set to 0",
-    "number set to 1",
-    "number between",
-    "missed by a row before",
-    "missed by a row behind",
-    "missed by a column before",
-    "missed by a column behind",
-    "missed by a plane",
-    "missed by the row pitch",
-    "missed by the column pitch",
-    "chain of a mosaic",
-    "chain of plane 0",
-    "chain of plane 1",
-    "chain of plane 2",
-    "another M on another plane",
-    "M above B",
-    "B below 0",
-    "M below 0",
-    "column delta below 0",
-    "row delta below 0",
-    "table value",
-    "past the table's end",
-    "level between 0 and 65535",
-];
-
-/// The kinds to which the chain of an active sample belongs.
-pub fn kinds(accepted: &Accepted, spot: [u64; 3]) -> Vec<&'static str> {
-    let mut all = of_list(accepted, spot);
-    all.extend(of_level(accepted, spot));
-    all.extend(accepted.opcodes.iter().filter_map(|opcode| match opcode {
-        Read::Kept(grid, _) => missed_by(grid, spot),
-        Read::Skipped => None,
-    }));
-    all.sort_unstable();
-    all.dedup();
-    all
-}
-
-fn met<const N: usize>(kinds: [(bool, &'static str); N]) -> Vec<&'static str> {
-    kinds.into_iter().filter(|(met, _)| *met).map(|(_, kind)| kind).collect()
-}
-
-fn of_list(accepted: &Accepted, [row, column, plane]: [u64; 3]) -> Vec<&'static str> {
-    let links: Vec<Link> = accepted.links(row, column, plane).collect();
-    let skipped: Vec<u64> = accepted.skipped_places().collect();
-    let (count, length) = (links.len(), accepted.opcodes.len());
-    let kept = length - skipped.len();
-    let [first, last] = [links.first(), links.last()].map(|link| link.map(|link| link.place));
-    let any = |met: &dyn Fn(&Link) -> bool| links.iter().any(met);
-    let stays = |link: &Link| link.before.to_bits() == link.after.to_bits();
-    let between = |x: f64| x > 0.0 && x < 1.0;
-    let id = |id: u64| any(&|link| link.id == id);
-    let twice = links.iter().any(|one| any(&|other| other.id == one.id && other.place != one.place));
-    met([
-        (length == 0, "chain of an empty list"),
-        (count == 0 && kept > 0, "chain that no opcode covers"),
-        (count == 1, "chain of one opcode"),
-        (count >= 2, "chain of two or more"),
-        (count >= 9, "chain of nine or more"),
-        (count > 0 && count < kept, "chain of some of the kept"),
-        (count >= 2 && count == length, "chain of the whole list"),
-        (length > 0 && kept == 0, "chain of a list all skipped"),
-        (first.is_some_and(|first| skipped.iter().any(|place| *place < first)), "skipped before a chain"),
-        (
-            skipped.iter().any(|place| Some(*place) > first && first.is_some() && Some(*place) < last),
-            "skipped within a chain",
-        ),
-        (last.is_some_and(|last| skipped.iter().any(|place| *place > last)), "skipped behind a chain"),
-        (id(7), "chain with MapTable"),
-        (id(8), "chain with MapPolynomial"),
-        (id(9), "chain with GainMap"),
-        (id(10), "chain with DeltaPerRow"),
-        (id(11), "chain with DeltaPerColumn"),
-        (id(12), "chain with ScalePerRow"),
-        (id(13), "chain with ScalePerColumn"),
-        (twice, "one id twice in a chain"),
-        (any(&stays), "number left as it was"),
-        (any(&|link| stays(link) && between(link.after)), "number between left as it was"),
-        (any(&|link| link.before != 0.0 && link.after == 0.0), "number set to 0"),
-        (any(&|link| link.before != 1.0 && link.after == 1.0), "number set to 1"),
-        (any(&|link| between(link.after)), "number between"),
-    ])
-}
-
-fn of_level(accepted: &Accepted, [row, column, plane]: [u64; 3]) -> Vec<&'static str> {
-    let numbers = accepted.level_numbers(row, column, plane);
-    let samples = accepted.size().samples;
-    let another = |other| accepted.raw.levels.greatest_black(other) != numbers.greatest_black.into();
-    let table = accepted.raw.table.as_ref();
-    met([
-        (samples == 1, "chain of a mosaic"),
-        (samples == 3 && plane == 0, "chain of plane 0"),
-        (samples == 3 && plane == 1, "chain of plane 1"),
-        (samples == 3 && plane == 2, "chain of plane 2"),
-        ((0..samples).any(another), "another M on another plane"),
-        (numbers.greatest_black > numbers.black, "M above B"),
-        (numbers.black < 0, "B below 0"),
-        (numbers.greatest_black < 0, "M below 0"),
-        (numbers.column_delta < 0, "column delta below 0"),
-        (numbers.row_delta < 0, "row delta below 0"),
-        (numbers.table != numbers.stored, "table value"),
-        (table.is_some_and(|table| numbers.stored >= table.len() as i64), "past the table's end"),
-        ((1..65_535).contains(&numbers.level), "level between 0 and 65535"),
-    ])
-}
-
-/// How a grid misses a spot by one row, column or plane, or by one pitch alone.
-fn missed_by(grid: &Grid, [row, column, plane]: [u64; 3]) -> Option<&'static str> {
-    let on = |row, column, plane| grid.place_of(row, column, plane).is_some();
-    if on(row, column, plane) {
-        return None;
-    }
-    let planes = grid.plane..grid.plane + grid.planes;
-    if !planes.contains(&plane) {
-        return on(row, column, grid.plane).then_some("missed by a plane");
-    }
-    if on(grid.top, column, plane) {
-        return match row {
-            _ if row + 1 == grid.top => Some("missed by a row before"),
-            _ if row == grid.bottom => Some("missed by a row behind"),
-            _ if (grid.top..grid.bottom).contains(&row) => Some("missed by the row pitch"),
-            _ => None,
-        };
-    }
-    if on(row, grid.left, plane) {
-        return match column {
-            _ if column + 1 == grid.left => Some("missed by a column before"),
-            _ if column == grid.right => Some("missed by a column behind"),
-            _ if (grid.left..grid.right).contains(&column) => Some("missed by the column pitch"),
-            _ => None,
-        };
-    }
-    None
 }

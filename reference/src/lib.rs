@@ -25,6 +25,7 @@ pub mod tag_test;
 pub mod blocks;
 pub mod builder;
 pub mod cases;
+pub mod chain_kinds;
 pub mod chains;
 pub mod denormals;
 pub mod fractions;

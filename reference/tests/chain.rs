@@ -4,6 +4,7 @@
 mod common;
 
 use std::array;
+use std::collections::BTreeSet;
 use std::ops::Range;
 
 use common::*;
@@ -11,7 +12,7 @@ use reference::builder::{Area, Dng, GainMap, Opcode, Picture, Tag};
 use reference::bytes::{ByteOrder, LAYOUTS};
 use reference::cases::{answer_line, ask_chain, untouched, AskedChain, Call};
 use reference::chain::Link;
-use reference::chains::{self, skipped, Worked, FULL};
+use reference::chains::{self, skipped, Stands, Worked, FULL};
 use reference::develop::{accept, Accepted};
 use reference::generate::{generate, generate_valid};
 use reference::opcodes::{long, FrameSize, Opcode as Read};
@@ -87,18 +88,6 @@ fn of_worked(worked: &Worked) -> Told {
     Told { value: worked.value().to_bits(), level: *level, links, skipped: skipped.clone() }
 }
 
-/// A file of 8-bit samples in both byte orders and layouts, the raw IFD as IFD 0 and
-/// below it.
-fn each_way(dng: &Dng) -> Vec<Vec<u8>> {
-    let mut files = Vec::new();
-    for depth in [0, 2] {
-        for (order, widths) in BOTH.into_iter().flat_map(|order| LAYOUTS.map(|widths| (order, widths))) {
-            files.push(Dng { order, widths, ..dng.clone().nested(depth) }.file());
-        }
-    }
-    files
-}
-
 /// An 8-bit file whose samples are all 1.0.
 fn full(rows: u32, columns: u32, samples: u32) -> Dng {
     chains::full(ByteOrder::Little, [rows, columns, samples])
@@ -111,15 +100,82 @@ fn spots(file: &[u8]) -> Vec<[u64; 3]> {
     rows.flat_map(|(row, column)| (0..card.samples).map(move |plane| [row, column, plane])).collect()
 }
 
-#[test]
-fn chains_worked_out_by_hand() {
+/// The chains worked out by hand that have these labels, in both byte orders and
+/// layouts, the raw IFD as IFD 0 and below it.
+#[track_caller]
+fn worked_out(labels: &[&str]) {
+    let mut asked = BTreeSet::new();
     for worked in BOTH.into_iter().flat_map(chains::worked) {
+        if !labels.contains(&worked.label) {
+            continue;
+        }
+        asked.insert(worked.label);
         for (widths, depth) in LAYOUTS.into_iter().flat_map(|widths| [(widths, 0), (widths, 3)]) {
             let file = Dng { widths, ..worked.dng.clone().nested(depth) }.file();
             assert_eq!(told_of(&file, worked.spot), of_worked(&worked), "{}", worked.label);
         }
     }
-    assert!(chains::worked(ByteOrder::Big).len() > 60);
+    assert_eq!(asked.len(), labels.len());
+}
+
+const LEVELS: [&str; 9] = [
+    "example 1",
+    "example 3",
+    "example 4",
+    "a table and deltas",
+    "planes of LinearRaw",
+    "no tags",
+    "a table of one entry",
+    "row deltas alone",
+    "column deltas alone",
+];
+const LISTS: [&str; 9] = [
+    "example 6",
+    "example 7",
+    "example 7 the other way round",
+    "example 7 among skipped ones",
+    "example 8",
+    "example 11",
+    "every kind",
+    "between two points",
+    "map planes",
+];
+const IDS: [&str; 2] = ["each id", "each id, later"];
+const GRIDS: [&str; 1] = ["rows, columns and planes"];
+const UNCHANGED: [&str; 1] = ["unchanged"];
+
+#[test]
+fn the_eight_numbers_by_hand() {
+    worked_out(&LEVELS);
+}
+
+#[test]
+fn chains_of_lists_by_hand() {
+    worked_out(&LISTS);
+}
+
+#[test]
+fn every_id_is_named() {
+    worked_out(&IDS);
+}
+
+#[test]
+fn a_grid_covers_its_own_spots_and_no_others() {
+    worked_out(&GRIDS);
+}
+
+/// "Covering is by the grid alone."
+#[test]
+fn an_opcode_that_changes_nothing_covers_all_the_same() {
+    worked_out(&UNCHANGED);
+}
+
+#[test]
+fn every_chain_worked_out_by_hand_is_asked() {
+    let all = [&LEVELS[..], &LISTS, &IDS, &GRIDS, &UNCHANGED].concat();
+    let worked = chains::worked(ByteOrder::Big);
+    assert!(worked.iter().all(|worked| all.contains(&worked.label)));
+    assert!(worked.len() > 300, "{}", worked.len());
 }
 
 /// "the eight numbers are demand 2's for this spot, the first from the stored bytes".
@@ -142,184 +198,27 @@ fn the_stored_sample_is_read_from_its_bytes() {
     }
 }
 
-/// Each kind alone, on a sample of 1.0.
-#[test]
-fn every_id_is_named() {
-    let area = Area::whole(2, 3, 1);
-    let map = |gain| GainMap::spread(&[[gain]]);
-    for (opcode, id, after) in [
-        (Opcode::map_table(area, &[5, 0]), 7, 0.0),
-        (Opcode::map_polynomial(area, &[0.25, 0.5]), 8, 0.75),
-        (Opcode::gain_map(area, &map(0.375)), 9, 0.375),
-        (Opcode::per_line(10, area, &[0.0, -0.5]), 10, 0.5),
-        (Opcode::per_line(11, area, &[0.0, -0.25, 0.0]), 11, 0.75),
-        (Opcode::per_line(12, area, &[0.0, 0.625]), 12, 0.625),
-        (Opcode::per_line(13, area, &[0.0, 0.125, 0.0]), 13, 0.125),
-    ] {
-        let link = [0, id, 1.0f64.to_bits(), f64::to_bits(after)];
-        let expected = Told { value: after.to_bits(), level: FULL, links: vec![link], skipped: vec![] };
-        for flags in [0, 1, 0xFFFF_FFFE] {
-            // Flag bit 0 does not make a listed one skipped.
-            let list = [opcode.clone().with_flags(flags)];
-            for file in each_way(&full(2, 3, 1).with_opcodes(&list)) {
-                assert_eq!(told_of(&file, [1, 1, 0]), expected, "{id}");
-            }
-        }
-        let later = opcode.with_version(0x0107_0101).with_flags(1);
-        let told = told_of(&full(2, 3, 1).with_opcodes(&[later]).file(), [1, 1, 0]);
-        assert_eq!((told.links, told.skipped, told.value), (vec![], vec![0], 1.0f64.to_bits()));
-    }
-}
-
-/// "Covering is by the grid alone": numbers between 0 and 1 that stay as they were,
-/// and 0 and 1 themselves.
-#[test]
-fn an_opcode_that_changes_nothing_covers_all_the_same() {
-    let stored = [0, 1, 40, 200, 254, 255];
-    let area = Area::whole(1, 6, 1);
-    let identity: Vec<u16> = (0..=65_535).collect();
-    let list = [
-        Opcode::map_table(area, &identity),
-        Opcode::map_polynomial(area, &[0.0, 1.0]),
-        Opcode::gain_map(area, &GainMap::spread(&[[1.0, 1.0], [1.0, 1.0]])),
-        Opcode::per_line(10, area, &[0.0]),
-        Opcode::per_line(11, area, &[-0.0; 6]),
-        Opcode::per_line(12, area, &[1.0]),
-        Opcode::per_line(13, area, &[1.0; 6]),
-    ];
-    let alone = list.iter().zip(7..).map(|(opcode, id)| (vec![opcode.clone()], vec![id]));
-    let all = (list.to_vec(), vec![7, 8, 9, 10, 11, 12, 13]);
-    for (list, ids) in alone.chain([all]) {
-        let dng = Dng::new(ByteOrder::Big, &Picture::row(8, &stored)).with_opcodes(&list);
-        for file in each_way(&dng) {
-            for (column, stored) in (0..).zip(stored) {
-                // White is 255, so that L is 257 x stored.
-                let bits = (f64::from(257 * u32::from(stored)) / 65535.0).to_bits();
-                let expected: Vec<[u64; 4]> =
-                    (0..).zip(&ids).map(|(place, id)| [place, *id, bits, bits]).collect();
-                let told = told_of(&file, [0, column, 0]);
-                assert_eq!((told.links, told.value), (expected, bits), "{ids:?}");
-            }
-        }
-    }
-}
-
-/// Rows, columns or planes.
-type Lines = &'static [u64];
-
-/// Those of some grids, listed by hand.
-#[test]
-fn a_grid_covers_its_own_spots_and_no_others() {
-    let whole = Area::whole(7, 8, 3);
-    let grids: [(Area, Lines, Lines, Lines); 9] = [
-        (whole, &[0, 1, 2, 3, 4, 5, 6], &[0, 1, 2, 3, 4, 5, 6, 7], &[0, 1, 2]),
-        (Area { top: 2, bottom: 5, ..whole }, &[2, 3, 4], &[0, 1, 2, 3, 4, 5, 6, 7], &[0, 1, 2]),
-        (Area { left: 3, right: 4, ..whole }, &[0, 1, 2, 3, 4, 5, 6], &[3], &[0, 1, 2]),
-        (Area { plane: 1, planes: 1, top: 6, ..whole }, &[6], &[0, 1, 2, 3, 4, 5, 6, 7], &[1]),
-        (Area { plane: 1, planes: 2, left: 7, ..whole }, &[0, 1, 2, 3, 4, 5, 6], &[7], &[1, 2]),
-        (Area { top: 1, bottom: 6, row_pitch: 2, right: 1, ..whole }, &[1, 3, 5], &[0], &[0, 1, 2]),
-        (
-            Area { top: 1, bottom: 5, row_pitch: 2, planes: 2, ..whole },
-            &[1, 3],
-            &[0, 1, 2, 3, 4, 5, 6, 7],
-            &[0, 1],
-        ),
-        (Area { left: 1, right: 8, column_pitch: 3, bottom: 2, ..whole }, &[0, 1], &[1, 4, 7], &[0, 1, 2]),
-        (
-            Area { top: 3, left: 2, plane: 2, planes: 1, row_pitch: u32::MAX, column_pitch: 5, ..whole },
-            &[3],
-            &[2, 7],
-            &[2],
-        ),
-    ];
-    let opcodes = grids.map(|(area, ..)| Opcode::map_polynomial(area, &[0.0, 1.0]));
-    let dng = full(7, 8, 3).with_opcodes(&opcodes);
-    for file in each_way(&dng) {
-        for [row, column, plane] in spots(&file) {
-            let covering: Vec<u64> = (0..)
-                .zip(&grids)
-                .filter(|(_, (_, rows, columns, planes))| {
-                    rows.contains(&row) && columns.contains(&column) && planes.contains(&plane)
-                })
-                .map(|(place, _)| place)
-                .collect();
-            let told = told_of(&file, [row, column, plane]);
-            let named: Vec<u64> = told.links.iter().map(|[place, ..]| *place).collect();
-            assert_eq!(named, covering, "{row} {column} {plane}");
-        }
-    }
-}
-
-/// How an opcode of a list behaves at the spot.
-#[derive(Clone, Copy, Debug, PartialEq)]
-enum Kind {
-    Covers,
-    Beside,
-    Skipped,
-}
-
-/// A list of such opcodes on a frame of 2 x 2 samples, of which the first is asked.
-/// Those that cover it take half of what is there.
-fn list_of(kinds: &[Kind]) -> Vec<Opcode> {
-    let area = Area::whole(2, 2, 1);
-    let of_kind = |kind: &Kind| match kind {
-        Kind::Covers => Opcode::per_line(12, Area { bottom: 1, ..area }, &[0.5]),
-        Kind::Beside => Opcode::per_line(13, Area { left: 1, ..area }, &[0.25]),
-        Kind::Skipped => skipped(),
-    };
-    kinds.iter().map(of_kind).collect()
-}
-
-/// What is told of such a list.
-fn told_by(kinds: &[Kind]) -> Told {
-    let places =
-        |wanted| (0..).zip(kinds).filter(move |(_, kind)| **kind == wanted).map(|(place, _): (u64, _)| place);
-    let halved = |times: usize| 0.5f64.powi(times as i32).to_bits();
-    let links: Vec<[u64; 4]> = places(Kind::Covers)
-        .enumerate()
-        .map(|(times, place)| [place, 12, halved(times), halved(times + 1)])
-        .collect();
-    Told { value: halved(links.len()), level: FULL, links, skipped: places(Kind::Skipped).collect() }
-}
-
-fn lists() -> Vec<Vec<Kind>> {
-    use Kind::{Beside, Covers, Skipped};
-    let mut lists = Vec::new();
-    for length in 0..=32 {
-        // All of one kind; one of another kind at each place.
-        for kind in [Covers, Beside, Skipped] {
-            let same = vec![kind; length];
-            for (place, other) in (0..length).flat_map(|i| [(i, Covers), (i, Beside), (i, Skipped)]) {
-                let mut list = same.clone();
-                list[place] = other;
-                lists.push(list);
-            }
-            lists.push(same);
-        }
-        lists.push((0..length).map(|i| [Covers, Skipped][i % 2]).collect());
-        lists.push((0..length).map(|i| [Skipped, Covers, Beside][i % 3]).collect());
-        lists.push((0..length).map(|i| [Beside, Covers, Covers, Skipped, Skipped][i % 5]).collect());
-    }
-    let random = &mut Random::new(60);
-    for _ in 0..300 {
-        let length = random.index(33);
-        lists.push((0..length).map(|_| random.pick(&[Covers, Beside, Skipped])).collect());
-    }
-    lists
-}
-
 /// From no opcode to 32, with skipped ones first, last, between and everywhere.
 #[test]
 fn lists_of_every_length() {
-    let lists = lists();
-    assert!(lists.contains(&vec![Kind::Covers; 32]) && lists.contains(&vec![Kind::Skipped; 32]));
-    for (turn, kinds) in lists.iter().enumerate() {
-        let dng = full(2, 2, 1).with_opcodes(&list_of(kinds));
-        let file = Dng { widths: LAYOUTS[turn % 2], ..dng }.file();
-        assert_eq!(told_of(&file, [0; 3]), told_by(kinds), "{kinds:?}");
+    let mut lists = chains::every_list();
+    let random = &mut Random::new(60);
+    for _ in 0..300 {
+        let length = random.index(33);
+        let kinds = [Stands::Covering, Stands::Beside, Stands::Skipped];
+        lists.push((0..length).map(|_| random.pick(&kinds)).collect());
+    }
+    for (turn, list) in lists.iter().enumerate() {
+        let worked = chains::of_list(BOTH[turn / 2 % 2], list);
+        let file = Dng { widths: LAYOUTS[turn % 2], ..worked.dng.clone() }.file();
+        assert_eq!(told_of(&file, [0; 3]), of_worked(&worked), "{list:?}");
+    }
+    for kind in [Stands::Covering, Stands::Beside, Stands::Skipped] {
+        assert!([0, 1, 31, 32].iter().all(|length| lists.contains(&vec![kind; *length])));
     }
     // No list at all.
-    assert_eq!(told_of(&full(2, 2, 1).file(), [0; 3]), told_by(&[]));
+    let none = Told { value: 1.0f64.to_bits(), level: FULL, links: vec![], skipped: vec![] };
+    assert_eq!(told_of(&full(2, 2, 1).file(), [0; 3]), none);
 }
 
 /// The skipped ones are the same for every spot.
@@ -341,8 +240,8 @@ fn skipped_opcodes_do_not_ask_for_the_spot() {
 /// A file of which 32 opcodes cover the spot, one of which all are skipped, and one
 /// without a list.
 fn few_and_many() -> [Vec<u8>; 3] {
-    let of = |kind| full(2, 2, 1).with_opcodes(&list_of(&[kind; 32]));
-    [of(Kind::Covers), of(Kind::Skipped), full(2, 2, 1)].map(|dng| dng.file())
+    let of = |kind| chains::of_list(ByteOrder::Big, &[kind; 32]).dng;
+    [of(Stands::Covering), of(Stands::Skipped), full(2, 2, 1)].map(|dng| dng.file())
 }
 
 /// "14 if any of the five slices has fewer than 32 places", whatever is needed of

@@ -5,7 +5,7 @@ use std::collections::{BTreeMap, BTreeSet};
 use reference::bytes::{ByteOrder, Widths};
 use reference::cases::{answer_line, ask_chain, Call, Fingerprint};
 use reference::chain::LEAST_PLACES;
-use reference::chains;
+use reference::chain_kinds;
 use reference::denormals::{self, Signed};
 use reference::develop::{accept, Accepted};
 use reference::directory::walk;
@@ -425,17 +425,17 @@ fn chains_of_every_kind_are_asked() {
             let answered = kinds[0] == "number 0";
             kinds.into_iter().for_each(|kind| *questions.entry(kind).or_default() += 1);
             if let Some(accepted) = accepted.as_ref().filter(|_| answered) {
-                let kinds = chains::kinds(accepted, spot);
+                let kinds = chain_kinds::kinds(accepted, spot);
                 kinds.into_iter().for_each(|kind| *counts.entry(kind).or_default() += 1);
             }
         }
     }
     println!("{counts:?}");
     println!("{questions:?}");
-    for kind in chains::KINDS {
+    for kind in chain_kinds::KINDS {
         assert!(counts.get(kind).is_some_and(|count| *count >= 40), "{kind}: {counts:?}");
     }
-    assert_eq!(counts.len(), chains::KINDS.len(), "{counts:?}");
+    assert_eq!(counts.len(), chain_kinds::KINDS.len(), "{counts:?}");
     // Every number up to 14.
     for number in 0..=14 {
         let count = questions.get(&format!("number {number}"));
