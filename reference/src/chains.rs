@@ -31,6 +31,7 @@ pub fn worked(order: ByteOrder) -> Vec<Worked> {
     all.extend(tables_and_deltas(order));
     all.extend(planes(order));
     all.extend(defaults(order));
+    all.extend(extremes(order));
     all.extend(lists(order));
     all.extend(grids(order));
     all.extend(grids_of_planes(order));
@@ -184,6 +185,59 @@ fn defaults(order: ByteOrder) -> Vec<Worked> {
         all.push(bare("column deltas alone", &columns, spot, numbers));
     }
     all
+}
+
+/// The greatest cell, the least deltas, and a row's delta that makes S a 256th; then
+/// the least B, which makes S the greatest, 3 x 256 x 65,535: a stored 0 is 2/3 of it.
+fn extremes(order: ByteOrder) -> Vec<Worked> {
+    let (greatest, least) = (16_776_960, -16_776_960);
+    let stored = [0, 65_535, 65_534, 65_535];
+    let narrow = Dng::new(order, &picture(2, 1, 16, &stored))
+        .with(Tag::shorts(50714, &[65_535]))
+        .with(Tag::srationals(50715, &[(-65_535, 1); 2]))
+        .with(Tag::srationals(50716, &[(-65_535, 1), (16_776_959, 256)]));
+    let mut all: Vec<Worked> = [
+        ([0, 0, 0], 0, least, 65_535),
+        ([0, 1, 0], 65_535, least, 65_535),
+        ([1, 0, 0], 65_534, 16_776_959, 0),
+        ([1, 1, 0], 65_535, 16_776_959, 65_535),
+    ]
+    .into_iter()
+    .map(|(spot, stored, delta, level)| {
+        let numbers = [stored, stored, greatest, least, delta, delta, 16_776_959, level];
+        bare("the greatest black", &narrow, spot, numbers)
+    })
+    .collect();
+    let wide = Dng::new(order, &Picture::row(16, &[0, 1, 32_767, 65_535]))
+        .with(Tag::srationals(50715, &[(-65_535, 1); 4]))
+        .with(Tag::srationals(50716, &[(-65_535, 1)]));
+    let levels = [(0, 0, 43_690), (1, 1, 43_690), (2, 32_767, 54_612), (3, 65_535, 65_535)];
+    all.extend(levels.map(|(column, stored, level)| {
+        let numbers = [stored, stored, 0, least, least, 2 * least, 2 * least, level];
+        bare("the least black", &wide, [0, column, 0], numbers)
+    }));
+    all
+}
+
+/// A frame of more than 2^16 samples: one on two grids, and the greatest delta, which is
+/// not part of M.
+pub fn great(order: ByteOrder) -> Vec<Worked> {
+    let picture = Picture { rows_per_strip: 7, ..Picture::counting(300, 300, 1, 8) };
+    let area = Area { top: 1, left: 2, row_pitch: 3, column_pitch: 5, ..Area::whole(300, 300, 1) };
+    let mut deltas = [(0, 1); 300];
+    (deltas[10], deltas[299]) = ((-3, 2), (7, 4));
+    let list = [skipped(), Opcode::map_polynomial(area, &[0.25, 0.5]), Opcode::map_polynomial(area, &[0.75])];
+    let dng = Dng::new(order, &picture)
+        .with(Tag::shorts(50713, &[2, 1]))
+        .with(Tag::shorts(50714, &[16, 8]))
+        .with(Tag::srationals(50716, &deltas))
+        .with_opcodes(&list);
+    // Sample 300 x 10 + 12 is 196 past 11 x 256, sample 300 x 299 is 100 past 350 x 256.
+    let on_grids = bare("great", &dng, [10, 12, 0], [196, 196, 4_096, 0, -384, 3_712, 4_096, 49_768]);
+    let x = 49_768.0 / 65535.0;
+    let links = vec![link(1, 8, x, 0.5 * x + 0.25), link(2, 8, 0.5 * x + 0.25, 0.75)];
+    let last_row = bare("great", &dng, [299, 0, 0], [100, 100, 2_048, 0, 448, 2_496, 4_096, 24_747]);
+    vec![Worked { links, skipped: vec![0], ..on_grids }, Worked { skipped: vec![0], ..last_row }]
 }
 
 /// Numbers of an 8-bit sample of 1.0 without levels.

@@ -118,7 +118,7 @@ fn worked_out(labels: &[&str]) {
     assert_eq!(asked.len(), labels.len());
 }
 
-const LEVELS: [&str; 9] = [
+const LEVELS: [&str; 11] = [
     "example 1",
     "example 3",
     "example 4",
@@ -128,6 +128,8 @@ const LEVELS: [&str; 9] = [
     "a table of one entry",
     "row deltas alone",
     "column deltas alone",
+    "the greatest black",
+    "the least black",
 ];
 const LISTS: [&str; 9] = [
     "example 6",
@@ -449,34 +451,15 @@ fn the_greatest_black_is_one_that_is_shown() {
     assert!(differing > 80, "{differing}");
 }
 
-/// Above the limit of the whole frame the numbers are those of a small one.
+/// Above the limit of the whole frame the program goes sample by sample.
 #[test]
-fn a_great_frame_has_the_same_chains() {
-    let picture = Picture { rows_per_strip: 7, ..Picture::counting(1_200, 1_000, 1, 8) };
-    let area = Area { top: 1, left: 2, row_pitch: 3, column_pitch: 5, ..Area::whole(1_000, 1_200, 1) };
-    let mut deltas = vec![(0, 1); 1_000];
-    (deltas[10], deltas[999]) = ((-3, 2), (7, 4));
-    let list = [skipped(), Opcode::map_polynomial(area, &[0.25, 0.5]), Opcode::map_polynomial(area, &[0.75])];
-    let dng = Dng::new(ByteOrder::Big, &picture)
-        .with(Tag::shorts(50713, &[2, 1]))
-        .with(Tag::shorts(50714, &[16, 8]))
-        .with(Tag::srationals(50716, &deltas))
-        .with_opcodes(&list);
-    let file = dng.file();
-    // Sample 10 x 1,200 + 12 is 12,012, or 236 past 46 x 256; M is 16, of even rows.
-    let told = told_of(&file, [10, 12, 0]);
-    let d = 256 * 236 - (4_096 - 384);
-    let level = level_by_search(d, 256 * (255 - 16));
-    assert_eq!(told.level, [236, 236, 4_096, 0, -384, 4_096 - 384, 4_096, level.into()]);
-    let x = f64::from(level) / 65535.0;
-    let (second, third) = (0.5 * x + 0.25, 0.75);
-    let bits = [x, second, third].map(f64::to_bits);
-    assert_eq!(told.links, [[1, 8, bits[0], bits[1]], [2, 8, bits[1], bits[2]]]);
-    assert_eq!((told.skipped, told.value), (vec![0], bits[2]));
-    // The row's delta is not part of M where another sum is greater.
-    let told = told_of(&file, [999, 0, 0]);
-    assert_eq!(told.level[2..7], [2_048, 0, 448, 2_496, 4_096]);
-    assert_eq!(told.links, Vec::<[u64; 4]>::new());
+fn a_great_frame_has_chains() {
+    for worked in BOTH.into_iter().flat_map(chains::great) {
+        for widths in LAYOUTS {
+            let file = Dng { widths, ..worked.dng.clone() }.file();
+            assert_eq!(told_of(&file, worked.spot), of_worked(&worked));
+        }
+    }
 }
 
 const SIDE: u32 = 4;
