@@ -433,26 +433,25 @@ fn chains_of_every_kind_are_asked() {
     println!("{counts:?}");
     println!("{questions:?}");
     for kind in chain_kinds::KINDS {
-        assert!(counts.get(kind).is_some_and(|count| *count >= 40), "{kind}: {counts:?}");
+        assert!(counts.get(kind).is_some_and(|count| *count >= 300), "{kind}: {counts:?}");
     }
     assert_eq!(counts.len(), chain_kinds::KINDS.len(), "{counts:?}");
-    // Every number up to 14.
-    for number in 0..=14 {
-        let count = questions.get(&format!("number {number}"));
-        assert!(count.is_some_and(|count| *count >= 40), "{number}: {questions:?}");
-    }
-    // Four places on each of three axes; of five slices three lengths, and two of
-    // these beside another refusal.
-    let places = ["first", "last", "one past the last", "huge"];
-    let places =
-        places.iter().flat_map(|place| ["row", "column", "plane"].map(|axis| format!("{place} {axis}")));
+    // Every number up to 14; four places on each of three axes; three lengths of each of
+    // five slices, and two of these beside another refusal.
+    let numbers = (0..=14).map(|number| (format!("number {number}"), 250));
+    let places = [("first", 5_000), ("last", 5_000), ("one past the last", 850), ("huge", 450)];
+    let places = places
+        .into_iter()
+        .flat_map(|(place, least)| ["row", "column", "plane"].map(|axis| (format!("{place} {axis}"), least)));
     let slices = ["places", "ids", "before", "after", "skipped"].into_iter().flat_map(|name| {
-        let alone = ["no", "31", "33"].map(|length| format!("{length} {name}"));
-        let beside = ["no", "31"].map(|length| format!("{length} {name}, refused before 14"));
+        let alone = [("no", 40), ("31", 80), ("33", 700)];
+        let alone = alone.map(|(length, least)| (format!("{length} {name}"), least));
+        let beside = [("no", 40), ("31", 80)];
+        let beside = beside.map(|(length, least)| (format!("{length} {name}, refused before 14"), least));
         alone.into_iter().chain(beside)
     });
-    for kind in places.chain(slices) {
-        assert!(questions.get(&kind).is_some_and(|count| *count >= 20), "{kind}: {questions:?}");
+    for (kind, least) in numbers.chain(places).chain(slices) {
+        assert!(questions.get(&kind).is_some_and(|count| *count >= least), "{kind}: {questions:?}");
     }
 }
 
