@@ -30,6 +30,33 @@ pub struct Crop {
     pub rows: u64,
 }
 
+/// The chain behind a spot (document 02, T-06): the answer, the spot's value, the
+/// eight numbers of its level, and how many opcodes cover the spot and how many of
+/// the list are skipped.
+#[derive(Clone, Copy, Debug, PartialEq)]
+pub struct Chain {
+    pub number: u32,
+    pub detail: u32,
+    pub value: f64,
+    pub level: LevelNumbers,
+    pub covering: u64,
+    pub skipped: u64,
+}
+
+/// "stored sample, table value, cell's black, column delta, row delta, B, M, L";
+/// all but the first two and the last are in 256ths, with their sign.
+#[derive(Clone, Copy, Debug, Default, PartialEq, Eq)]
+pub struct LevelNumbers {
+    pub stored: i64,
+    pub table: i64,
+    pub cell: i64,
+    pub column_delta: i64,
+    pub row_delta: i64,
+    pub black: i64,
+    pub greatest_black: i64,
+    pub level: i64,
+}
+
 impl Answer {
     pub const DONE: Answer = Answer { number: 0, detail: 0 };
     pub const FILE_SIZE: Answer = Answer::plain(1);
@@ -96,6 +123,33 @@ impl Card {
 
     pub fn answer(&self) -> Answer {
         Answer { number: self.number, detail: self.detail }
+    }
+}
+
+impl Chain {
+    /// "a refusal returns zeros"
+    pub fn refused(answer: Answer) -> Chain {
+        Chain {
+            number: answer.number,
+            detail: answer.detail,
+            value: 0.0,
+            level: LevelNumbers::default(),
+            covering: 0,
+            skipped: 0,
+        }
+    }
+
+    pub fn answer(&self) -> Answer {
+        Answer { number: self.number, detail: self.detail }
+    }
+}
+
+impl LevelNumbers {
+    /// In the document's order.
+    pub fn numbers(&self) -> [i64; 8] {
+        let LevelNumbers { stored, table, cell, column_delta, row_delta, black, greatest_black, level } =
+            *self;
+        [stored, table, cell, column_delta, row_delta, black, greatest_black, level]
     }
 }
 

@@ -1,8 +1,10 @@
-//! "The four calls", and the one of half-size colour (document 02, T-01).
+//! "The four calls", the one of half-size colour (document 02, T-01) and the one of
+//! the chain behind a spot (T-06).
 
-use crate::answer::{Answer, Card};
-use crate::develop::{accept, Developed};
-use crate::opcodes::{FrameSize, Opcode};
+use crate::answer::{Answer, Card, Chain};
+use crate::chain::{Link, Slices};
+use crate::develop::{accept, Accepted, Developed};
+use crate::opcodes::FrameSize;
 use crate::raw_tags::inside;
 use crate::{colour, pattern};
 
@@ -14,7 +16,7 @@ pub fn card(file: &[u8]) -> Card {
         Err(refusal) => return Card::refused(refusal),
     };
     let FrameSize { rows, columns, samples } = accepted.size();
-    let skipped = accepted.opcodes.iter().filter(|o| matches!(o, Opcode::Skipped)).count() as u64;
+    let skipped = accepted.skipped_places().count() as u64;
     let kept = accepted.opcodes.len() as u64 - skipped;
     Card { number: 0, detail: 0, rows, columns, samples, kept, skipped, crop: accepted.raw.crop }
 }
@@ -44,6 +46,25 @@ pub fn spot(file: &[u8], row: u64, column: u64, plane: u64) -> (Answer, f64) {
         Ok(value) => (Answer::DONE, value),
         Err(refusal) => (refusal, 0.0),
     }
+}
+
+/// The spot with the chain behind it. "Four lent slices take the place, id, value
+/// before and value after of each covering correction", a fifth "the places of
+/// exactly the skipped corrections"; refused, it "leaves the slices unchanged".
+#[allow(clippy::too_many_arguments)]
+pub fn chain(
+    file: &[u8],
+    row: u64,
+    column: u64,
+    plane: u64,
+    places: &mut [u64],
+    ids: &mut [u64],
+    before: &mut [f64],
+    after: &mut [f64],
+    skipped: &mut [u64],
+) -> Chain {
+    let slices = Slices { places, ids, before, after, skipped };
+    chain_or_refusal(file, row, column, plane, slices).unwrap_or_else(Chain::refused)
 }
 
 /// In active rows and columns, "from the corner of ActiveArea", or in blocks
@@ -101,12 +122,35 @@ fn half_window_or_refusal(file: &[u8], wanted: Rectangle, out: &mut [f64]) -> Re
 }
 
 fn spot_or_refusal(file: &[u8], row: u64, column: u64, plane: u64) -> Result<f64, Answer> {
+    let accepted = accept_spot(file, row, column, plane)?;
+    Ok(Developed::new(&accepted).value(row, column, plane))
+}
+
+/// 13: "spot outside it or no such plane".
+fn accept_spot(file: &[u8], row: u64, column: u64, plane: u64) -> Result<Accepted<'_>, Answer> {
     let accepted = accept(file)?;
     let FrameSize { rows, columns, samples } = accepted.size();
     if row >= rows || column >= columns || plane >= samples {
         return Err(Answer::OUTSIDE);
     }
-    Ok(Developed::new(&accepted).value(row, column, plane))
+    Ok(accepted)
+}
+
+/// "as spot; then 14 if any of the five slices has fewer than 32 places"
+fn chain_or_refusal(file: &[u8], row: u64, column: u64, plane: u64, slices: Slices) -> Result<Chain, Answer> {
+    let accepted = accept_spot(file, row, column, plane)?;
+    slices.test()?;
+    let links: Vec<Link> = accepted.links(row, column, plane).collect();
+    let skipped: Vec<u64> = accepted.skipped_places().collect();
+    slices.fill(&links, &skipped);
+    Ok(Chain {
+        number: 0,
+        detail: 0,
+        value: Developed::new(&accepted).value(row, column, plane),
+        level: accepted.level_numbers(row, column, plane),
+        covering: links.len() as u64,
+        skipped: skipped.len() as u64,
+    })
 }
 
 impl Rectangle {

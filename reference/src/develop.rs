@@ -43,12 +43,18 @@ impl Accepted<'_> {
         self.raw.frame_size()
     }
 
-    /// The scaled value of an active sample. The stored row and column are
-    /// found through the corner of the active area; the levels count from it.
-    pub fn scaled(&self, row: u64, column: u64, plane: u64) -> f64 {
+    /// The stored sample of an active one: its row and column are found through
+    /// the corner of the active area.
+    pub fn stored(&self, row: u64, column: u64, plane: u64) -> u64 {
         let stored_row = self.raw.active.top + row;
         let stored_column = self.raw.active.left + column;
-        let stored = self.raw.stored.sample(&self.file, stored_row, stored_column, plane);
+        self.raw.stored.sample(&self.file, stored_row, stored_column, plane)
+    }
+
+    /// The scaled value of an active sample; the levels count from the corner of
+    /// the active area.
+    pub fn scaled(&self, row: u64, column: u64, plane: u64) -> f64 {
+        let stored = self.stored(row, column, plane);
         self.raw.levels.scaled(self.raw.linear(stored), row, column, plane)
     }
 
@@ -95,17 +101,10 @@ impl Accepted<'_> {
         ((row * size.columns + column) * size.samples + plane) as usize
     }
 
-    /// One developed value, without a frame.
+    /// One developed value, without a frame: the last of its chain.
     pub fn one_sample(&self, row: u64, column: u64, plane: u64) -> f64 {
-        let mut x = self.scaled(row, column, plane);
-        for opcode in &self.opcodes {
-            if let Opcode::Kept(grid, action) = opcode {
-                if let Some(on_grid) = grid.place_of(row, column, plane) {
-                    x = action.apply(on_grid, x);
-                }
-            }
-        }
-        x
+        let last = self.links(row, column, plane).last();
+        last.map_or_else(|| self.scaled(row, column, plane), |link| link.after)
     }
 }
 

@@ -64,9 +64,9 @@ impl Levels {
     /// them; the maximum still goes over every active row.
     pub fn greatest_of_rows(&self, plane: u64) -> i128 {
         let first_rows = 0..self.repeat_rows.min(self.rows());
-        let without_delta = |row| self.greatest_of_row(row, plane) - self.row_delta[row as usize];
+        let without_delta = |row| self.greatest_of_row(row, plane) - self.row_delta(row);
         let of_cells: Vec<i128> = first_rows.map(without_delta).collect();
-        let in_row = |row| of_cells[(row % self.repeat_rows) as usize] + self.row_delta[row as usize];
+        let in_row = |row| of_cells[(row % self.repeat_rows) as usize] + self.row_delta(row);
         greatest((0..self.rows()).map(in_row))
     }
 
@@ -91,10 +91,22 @@ impl Levels {
     /// B: "the BlackLevel cell at (active row mod repeat rows, active column
     /// mod repeat columns, plane) + the column's 50715 + the row's 50716"
     pub fn black_at(&self, row: u64, column: u64, plane: u64) -> i128 {
+        self.cell_at(row, column, plane) + self.column_delta(column) + self.row_delta(row)
+    }
+
+    pub fn cell_at(&self, row: u64, column: u64, plane: u64) -> i128 {
         let cell_row = row % self.repeat_rows;
         let cell_column = column % self.repeat_columns;
         let cell = (cell_row * self.repeat_columns + cell_column) * self.samples + plane;
-        self.black[cell as usize] + self.column_delta[column as usize] + self.row_delta[row as usize]
+        self.black[cell as usize]
+    }
+
+    pub fn column_delta(&self, column: u64) -> i128 {
+        self.column_delta[column as usize]
+    }
+
+    pub fn row_delta(&self, row: u64) -> i128 {
+        self.row_delta[row as usize]
     }
 
     /// L of the value v at an active row and column.

@@ -227,6 +227,19 @@ impl Grid {
 }
 
 impl Action {
+    /// The id of its header.
+    pub fn id(&self) -> u64 {
+        match self {
+            Action::MapTable(_) => 7,
+            Action::MapPolynomial(_) => 8,
+            Action::GainMap(_) => GAIN_MAP,
+            Action::DeltaPerRow(_) => 10,
+            Action::DeltaPerColumn(_) => 11,
+            Action::ScalePerRow(_) => 12,
+            Action::ScalePerColumn(_) => 13,
+        }
+    }
+
     /// The clipped result for the number x at a sample of the grid.
     pub fn apply(&self, at: OnGrid, x: f64) -> f64 {
         clip(match self {

@@ -3,7 +3,9 @@
 use std::collections::{BTreeMap, BTreeSet};
 
 use reference::bytes::{ByteOrder, Widths};
-use reference::cases::{answer_line, Call, Fingerprint};
+use reference::cases::{answer_line, ask_chain, Call, Fingerprint};
+use reference::chain::LEAST_PLACES;
+use reference::chain_kinds;
 use reference::denormals::{self, Signed};
 use reference::develop::{accept, Accepted};
 use reference::directory::walk;
@@ -12,7 +14,7 @@ use reference::generate::{generate, generate_valid};
 use reference::opcodes::{Action, FrameSize, Grid, Opcode};
 use reference::pattern;
 use reference::tag_test::{fine, Fraction, Tags, LONG, RATIONAL, SHORT, SRATIONAL};
-use reference::{card, colour_window, half_window, spot, window, Answer, Crop};
+use reference::{card, chain, colour_window, half_window, spot, window, Answer, Crop};
 
 /// The number and detail of a call's answer.
 fn answer(file: &[u8], call: &Call) -> Answer {
@@ -28,25 +30,37 @@ fn answer(file: &[u8], call: &Call) -> Answer {
         Call::HalfWindow { top, left, height, width, slice } => {
             half_window(file, top, left, height, width, &mut vec![0.0; slice])
         }
+        Call::Chain { row, column, plane, slices } => {
+            ask_chain(chain, file, [row, column, plane], slices, 0).chain.answer()
+        }
     }
 }
 
-/// Of the first 3,000 cases of seed 1: their files and calls, their answers.
+/// Of the first 3,000 cases of seed 1: their files and calls, their answers; and the
+/// same of the chains, which stand behind the other calls.
 const FILES: Fingerprint = Fingerprint(1422759722047140062);
 const ANSWERS: Fingerprint = Fingerprint(15691782298073813641);
+const CHAINS: [Fingerprint; 2] = [Fingerprint(6082898961075918548), Fingerprint(18153210243148326481)];
 
 #[test]
 fn the_first_cases_have_a_known_fingerprint() {
     let (mut files, mut answers) = (Fingerprint::new(), Fingerprint::new());
+    let mut chains = [Fingerprint::new(); 2];
     for index in 0..3_000 {
         let case = generate(1, index);
         files.add(&case.file);
         for call in &case.calls {
-            files.add(format!("{call:?}").as_bytes());
-            answers.add(answer_line(&case.file, call).as_bytes());
+            let (question, line) = (format!("{call:?}"), answer_line(&case.file, call));
+            let [asked, answered] = match call {
+                Call::Chain { .. } => chains.each_mut(),
+                _ => [&mut files, &mut answers],
+            };
+            asked.add(question.as_bytes());
+            answered.add(line.as_bytes());
         }
     }
     assert_eq!((files, answers), (FILES, ANSWERS));
+    assert_eq!(chains, CHAINS);
 }
 
 /// Of a file with several faults, the first one's name.
@@ -364,6 +378,80 @@ fn crops_of_every_kind_are_accepted_and_refused() {
             println!("{label}: {number} {detail}, {count:?}");
             assert!(count.is_some_and(|count| *count >= 3), "{label}: {number} {detail}, {count:?}");
         }
+    }
+}
+
+/// The kinds of a chain's question: where its spot lies, which of its slices are too
+/// short or longer, and what it is answered.
+fn kinds_of_question(file: &[u8], spot: [u64; 3], slices: [usize; 5]) -> Vec<String> {
+    let card = card(file);
+    let sides = [card.rows, card.columns, card.samples];
+    let answer = ask_chain(chain, file, spot, slices, 0).chain.answer();
+    let mut kinds = vec![format!("number {}", answer.number)];
+    if card.number == 0 {
+        for (axis, (at, whole)) in ["row", "column", "plane"].into_iter().zip(spot.into_iter().zip(sides)) {
+            let places =
+                [(0, "first"), (whole - 1, "last"), (whole, "one past the last"), (u64::MAX, "huge")];
+            kinds.extend(places.iter().filter(|(n, _)| *n == at).map(|(_, name)| format!("{name} {axis}")));
+        }
+    }
+    let names = ["places", "ids", "before", "after", "skipped"];
+    for (name, length) in names.into_iter().zip(slices) {
+        let of_length = match length {
+            0 => "no",
+            _ if length + 1 == LEAST_PLACES => "31",
+            _ if length == LEAST_PLACES + 1 => "33",
+            _ => continue,
+        };
+        let outcome =
+            if answer == Answer::DONE || answer == Answer::SLICE { "" } else { ", refused before 14" };
+        kinds.push(format!("{of_length} {name}{outcome}"));
+    }
+    kinds
+}
+
+/// In 12,000 files; where the spot is answered, the kinds of its chain.
+#[test]
+fn chains_of_every_kind_are_asked() {
+    let mut counts: BTreeMap<&str, u32> = BTreeMap::new();
+    let mut questions: BTreeMap<String, u32> = BTreeMap::new();
+    for index in 0..12_000 {
+        let case = generate(11, index);
+        let accepted = accept(&case.file).ok();
+        for call in &case.calls {
+            let Call::Chain { row, column, plane, slices } = *call else { continue };
+            let spot = [row, column, plane];
+            let kinds = kinds_of_question(&case.file, spot, slices);
+            let answered = kinds[0] == "number 0";
+            kinds.into_iter().for_each(|kind| *questions.entry(kind).or_default() += 1);
+            if let Some(accepted) = accepted.as_ref().filter(|_| answered) {
+                let kinds = chain_kinds::kinds(accepted, spot);
+                kinds.into_iter().for_each(|kind| *counts.entry(kind).or_default() += 1);
+            }
+        }
+    }
+    println!("{counts:?}");
+    println!("{questions:?}");
+    for kind in chain_kinds::KINDS {
+        assert!(counts.get(kind).is_some_and(|count| *count >= 300), "{kind}: {counts:?}");
+    }
+    assert_eq!(counts.len(), chain_kinds::KINDS.len(), "{counts:?}");
+    // Every number up to 14; four places on each of three axes; three lengths of each of
+    // five slices, and two of these beside another refusal.
+    let numbers = (0..=14).map(|number| (format!("number {number}"), 250));
+    let places = [("first", 5_000), ("last", 5_000), ("one past the last", 850), ("huge", 450)];
+    let places = places
+        .into_iter()
+        .flat_map(|(place, least)| ["row", "column", "plane"].map(|axis| (format!("{place} {axis}"), least)));
+    let slices = ["places", "ids", "before", "after", "skipped"].into_iter().flat_map(|name| {
+        let alone = [("no", 40), ("31", 80), ("33", 700)];
+        let alone = alone.map(|(length, least)| (format!("{length} {name}"), least));
+        let beside = [("no", 40), ("31", 80)];
+        let beside = beside.map(|(length, least)| (format!("{length} {name}, refused before 14"), least));
+        alone.into_iter().chain(beside)
+    });
+    for (kind, least) in numbers.chain(places).chain(slices) {
+        assert!(questions.get(&kind).is_some_and(|count| *count >= least), "{kind}: {questions:?}");
     }
 }
 

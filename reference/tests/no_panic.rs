@@ -17,6 +17,7 @@ fn ask_everything(file: &[u8]) {
         Call::Spot { row: 0, column: 0, plane: 0 },
         Call::ColourWindow { top: 0, left: 0, height: 1, width: 1, slice: 3 },
         Call::HalfWindow { top: 0, left: 0, height: 1, width: 1, slice: 3 },
+        Call::Chain { row: 0, column: 0, plane: 0, slices: [32; 5] },
     ];
     for call in &calls {
         answer_line(file, call);

@@ -7,12 +7,17 @@ mod common;
 use common::*;
 use reference::builder::{pattern_tags, Area, Dng, Opcode, OpcodeList, Tag, PATTERN_TAGS};
 use reference::bytes::LAYOUTS;
-use reference::{card, colour_window, half_window};
+use reference::cases::{ask_chain, AskedChain};
+use reference::{card, chain, colour_window, half_window};
 
-fn all_answers(file: &[u8]) -> (reference::Card, Vec<u64>, Vec<u64>) {
+fn all_answers(file: &[u8]) -> (reference::Card, Vec<u64>, Vec<u64>, Vec<AskedChain>) {
     let mut colours = vec![UNTOUCHED; 2 * 2 * 3];
     assert_eq!(colour_window(file, 0, 0, 2, 2, &mut colours), DONE);
-    (card(file), bits(&frame_of(file)), bits(&colours))
+    let chain_of = |sample: u64| {
+        let spot = [sample / 6, sample / 3 % 2, sample % 3];
+        ask_chain(chain, file, spot, [32; 5], 0)
+    };
+    (card(file), bits(&frame_of(file)), bits(&colours), (0..12).map(chain_of).collect())
 }
 
 /// A file with something of everything that is not read.

@@ -3,8 +3,8 @@
 
 use std::{fmt, panic, thread};
 
-use reference::cases::Call;
-use reference::{Answer, Card};
+use reference::cases::{self, ask_chain, AskedChain, Call, ChainCall, SLICES};
+use reference::{Answer, Card, Chain};
 
 use crate::core;
 
@@ -17,6 +17,7 @@ pub struct Program {
     spot: fn(&[u8], u64, u64, u64) -> (Answer, f64),
     colour_window: Window,
     half_window: Window,
+    chain: ChainCall,
 }
 
 const CORE: Program = Program {
@@ -25,6 +26,7 @@ const CORE: Program = Program {
     spot: core::spot,
     colour_window: core::colour_window,
     half_window: core::half_window,
+    chain: core::chain,
 };
 
 pub const REFERENCE: Program = Program {
@@ -33,6 +35,7 @@ pub const REFERENCE: Program = Program {
     spot: reference::spot,
     colour_window: reference::colour_window,
     half_window: reference::half_window,
+    chain: reference::chain,
 };
 
 /// The stack of the thread that asks the core. A call of the core may use 64 KiB
@@ -52,14 +55,16 @@ pub fn ask_core<'a>(calls: impl Iterator<Item = (&'a [u8], &'a Call)> + Send) ->
 /// Places on both sides of a lent slice, which no call may write.
 const MARGIN: usize = 3;
 
-/// What stands at a place of a lent slice and of its margins before the call:
-/// a NaN, which no call can answer, and another one at every place.
+/// What stands at a place of a window's slice and of its margins before the call:
+/// a NaN, which no call can answer, and another one at every place. A chain's have
+/// `cases::untouched`.
 fn untouched(place: usize) -> u64 {
     0x7FF8_5A5A_0000_0000 | place as u64
 }
 
 /// Number and detail; then the card's five counts and its crop (left, top, columns,
-/// rows), the bits of the spot, or those of the slice with its margins.
+/// rows), the bits of the spot, or those of the slice with its margins. Of a chain
+/// the bits of the value, the ten numbers, and the five slices with their margins.
 #[derive(Clone, Debug, PartialEq, Eq)]
 pub struct Outcome {
     pub answer: Answer,
@@ -88,8 +93,35 @@ impl Program {
             Call::HalfWindow { top, left, height, width, slice } => {
                 lend(slice, |out| (self.half_window)(file, top, left, height, width, out))
             }
+            Call::Chain { row, column, plane, slices } => {
+                of_chain(ask_chain(self.chain, file, [row, column, plane], slices, MARGIN))
+            }
         }
     }
+}
+
+/// The value of a chain and its ten numbers stand before its slices.
+const HEAD: usize = 11;
+/// Where the counts of covering and of skipped opcodes stand.
+const COUNTS: [usize; 2] = [9, 10];
+
+fn of_chain(AskedChain { chain, slices }: AskedChain) -> Outcome {
+    let Chain { value, level, covering, skipped, .. } = chain;
+    let mut bits = vec![value.to_bits()];
+    bits.extend(level.numbers().map(|number| number as u64));
+    bits.extend([covering, skipped]);
+    bits.extend(slices.concat());
+    Outcome { answer: chain.answer(), bits }
+}
+
+/// Where each slice of a chain, with its margins, begins among the bits.
+fn starts(lengths: [usize; SLICES]) -> [usize; SLICES] {
+    let mut next = HEAD;
+    lengths.map(|length| {
+        let start = next;
+        next += length + 2 * MARGIN;
+        start
+    })
 }
 
 fn lend(slice: usize, call: impl FnOnce(&mut [f64]) -> Answer) -> Outcome {
@@ -101,7 +133,9 @@ fn lend(slice: usize, call: impl FnOnce(&mut [f64]) -> Answer) -> Outcome {
 impl Outcome {
     /// "a refused card holds five zeros", and four more of the crop; "a refused spot +0.0; a refused window
     /// or colour window leaves its slice untouched", and so does a half window;
-    /// an accepted one writes every place of its slice and no other.
+    /// an accepted one writes every place of its slice and no other. A refused chain
+    /// has zeros; an accepted one writes the first places of its slices, as many as
+    /// its counts say, and no others.
     pub fn is_whole(&self, call: &Call) -> bool {
         let done = self.answer == Answer::DONE;
         match *call {
@@ -113,15 +147,42 @@ impl Outcome {
                 let stays = |(i, bits): (usize, &u64)| (*bits == untouched(i)) != (done && in_slice(&i));
                 self.bits.iter().enumerate().all(stays)
             }
+            Call::Chain { slices, .. } => {
+                let zeros = self.bits[..HEAD].iter().all(|bits| *bits == 0);
+                (done || zeros) && (0..SLICES).all(|slice| self.is_slice_whole(slices, slice))
+            }
         }
     }
 
-    /// The values of an accepted spot or window of any kind.
+    /// Has a slice of a chain been written at its first places alone?
+    fn is_slice_whole(&self, lengths: [usize; SLICES], slice: usize) -> bool {
+        let start = starts(lengths)[slice];
+        let count = self.bits[COUNTS[usize::from(slice == SLICES - 1)]];
+        let written = |i: &usize| *i >= MARGIN && ((*i - MARGIN) as u64) < count;
+        let bits = self.bits[start..start + lengths[slice] + 2 * MARGIN].iter().enumerate();
+        let stays = |(i, bits): (usize, &u64)| (*bits == cases::untouched(slice, i)) != written(&i);
+        count <= lengths[slice] as u64 && bits.into_iter().all(stays)
+    }
+
+    /// What an accepted chain says: its ten numbers, of each covering opcode place,
+    /// id, before and after, and the skipped places.
+    pub fn told(&self, lengths: [usize; SLICES]) -> (Vec<i64>, Vec<[u64; 4]>, Vec<u64>) {
+        let numbers = self.bits[1..HEAD].iter().map(|bits| *bits as i64).collect();
+        let [covering, skipped] = COUNTS.map(|at| self.bits[at]);
+        let at = starts(lengths).map(|start| start + MARGIN);
+        let link = |i: u64| [0, 1, 2, 3].map(|slice: usize| self.bits[at[slice] + i as usize]);
+        let links = (0..covering.min(lengths[0] as u64)).map(link).collect();
+        let skipped = skipped.min(lengths[4] as u64) as usize;
+        (numbers, links, self.bits[at[4]..at[4] + skipped].to_vec())
+    }
+
+    /// The values of an accepted spot or window of any kind; of a chain the spot's.
     pub fn values(&self, call: &Call) -> &[u64] {
         match *call {
             _ if self.answer != Answer::DONE => &[],
             Call::Card => &[],
             Call::Spot { .. } => &self.bits,
+            Call::Chain { .. } => &self.bits[..1],
             Call::Window { slice, .. }
             | Call::ColourWindow { slice, .. }
             | Call::HalfWindow { slice, .. } => &self.bits[MARGIN..MARGIN + slice],
@@ -137,13 +198,29 @@ impl fmt::Display for Shown<'_> {
     fn fmt(&self, f: &mut fmt::Formatter) -> fmt::Result {
         let Shown(one, other, call) = self;
         write!(f, "{} {}", one.answer.number, one.answer.detail)?;
-        let first = match call {
-            Call::Card | Call::Spot { .. } => 0,
-            Call::Window { .. } | Call::ColourWindow { .. } | Call::HalfWindow { .. } => MARGIN as i64,
+        let Some(i) = one.bits.iter().zip(&other.bits).position(|(a, b)| a != b) else {
+            return Ok(());
         };
-        match one.bits.iter().zip(&other.bits).position(|(a, b)| a != b) {
-            Some(i) => write!(f, " with {:016x} at place {}", one.bits[i], i as i64 - first),
-            None => Ok(()),
+        let (name, place) = match **call {
+            Call::Card | Call::Spot { .. } => ("place", i as i64),
+            Call::Window { .. } | Call::ColourWindow { .. } | Call::HalfWindow { .. } => {
+                ("place", i as i64 - MARGIN as i64)
+            }
+            Call::Chain { slices, .. } => place_in_chain(i, slices),
+        };
+        write!(f, " with {:016x} at {name} {place}", one.bits[i])
+    }
+}
+
+/// What stands at one of a chain's bits: the value at 0, a number from 0, or a place
+/// of a slice.
+fn place_in_chain(i: usize, lengths: [usize; SLICES]) -> (&'static str, i64) {
+    match starts(lengths).iter().rposition(|start| *start <= i) {
+        _ if i == 0 => ("value", 0),
+        None => ("number", i as i64 - 1),
+        Some(slice) => {
+            let names = ["places", "ids", "before", "after", "skipped"];
+            (names[slice], i as i64 - (starts(lengths)[slice] + MARGIN) as i64)
         }
     }
 }

@@ -4,6 +4,9 @@
 use std::collections::BTreeMap;
 
 use reference::bytes::{ByteOrder, Widths};
+use reference::cases::Call;
+use reference::chain::LEAST_PLACES;
+use reference::chain_kinds;
 use reference::colour;
 use reference::denormals;
 use reference::develop::{accept, Accepted};
@@ -14,7 +17,8 @@ use reference::pattern::{self, Pattern};
 use reference::tag_test::{fine, Fraction, Tags, IFD8, LONG, LONG8, RATIONAL, SHORT, SLONG8, SRATIONAL};
 use reference::Crop;
 
-/// Every kind that must occur in each layout.
+/// Every kind of file that must occur in each layout. Those of chains are
+/// `chain_kinds::KINDS`.
 const KINDS: [&str; 112] = [
     "mosaic 8 II",
     "mosaic 8 MM",
@@ -140,8 +144,8 @@ pub struct Kinds {
 }
 
 impl Kinds {
-    /// Counts the kinds of an accepted file, each once.
-    pub fn add(&mut self, bytes: &[u8]) {
+    /// Counts the kinds of an accepted file and of its chains, each once.
+    pub fn add(&mut self, bytes: &[u8], calls: &[Call]) {
         let Ok(accepted) = accept(bytes) else {
             return;
         };
@@ -153,6 +157,7 @@ impl Kinds {
         kinds.extend(of_gain_maps(&accepted));
         kinds.extend(of_colour(&accepted));
         kinds.extend(of_blocks(&accepted));
+        kinds.extend(of_chains(&accepted, calls));
         kinds.sort_unstable();
         kinds.dedup();
         for kind in kinds {
@@ -162,14 +167,29 @@ impl Kinds {
 
     pub fn print(&self) {
         let count = |kind: &&str| format!("{kind} {}", self.met.get(*kind).unwrap_or(&0));
-        for line in KINDS.chunks(8) {
+        for line in KINDS.chunks(8).chain(chain_kinds::KINDS.chunks(6)) {
             println!("  {}", line.iter().map(count).collect::<Vec<_>>().join(", "));
         }
     }
 
     pub fn missing(&self) -> Vec<&'static str> {
-        KINDS.into_iter().filter(|kind| !self.met.contains_key(kind)).collect()
+        let all = KINDS.into_iter().chain(chain_kinds::KINDS);
+        all.filter(|kind| !self.met.contains_key(kind)).collect()
     }
+}
+
+/// Of the chains that are answered.
+fn of_chains(accepted: &Accepted, calls: &[Call]) -> Vec<&'static str> {
+    let FrameSize { rows, columns, samples } = accepted.size();
+    let answered = |call: &Call| match *call {
+        Call::Chain { row, column, plane, slices } => {
+            let inside = row < rows && column < columns && plane < samples;
+            let fitting = slices.iter().all(|length| *length >= LEAST_PLACES);
+            (inside && fitting).then_some([row, column, plane])
+        }
+        _ => None,
+    };
+    calls.iter().filter_map(answered).flat_map(|spot| chain_kinds::kinds(accepted, spot)).collect()
 }
 
 fn of_frame(accepted: &Accepted) -> Vec<&'static str> {

@@ -4,6 +4,7 @@
 
 mod accuracy;
 mod blacks;
+mod chain;
 mod colour;
 pub mod crop;
 mod denormals;
@@ -28,7 +29,7 @@ use reference::bytes::{ByteOrder, Widths, LAYOUTS};
 use reference::cases::Call;
 use reference::tag_test::{IFD, IFD8, LONG, LONG8};
 
-use crate::questions::{colour_window, half_window, window};
+use crate::questions::{chain, chain_with, colour_window, half_window, window};
 use crate::tally::Tally;
 
 /// A number and a detail.
@@ -84,9 +85,10 @@ pub fn check(tally: &mut Tally) {
     colour::check(tally);
     pattern::check(tally);
     places::check(tally);
+    chain::check(tally);
 }
 
-/// The five calls of a file whose card is stated. What refuses the card
+/// The six calls of a file whose card is stated. What refuses the card
 /// refuses every call, whatever else is asked.
 fn check_file(tally: &mut Tally, label: &str, file: &[u8], answer: Answer) {
     tally.files += 1;
@@ -99,6 +101,7 @@ fn check_file(tally: &mut Tally, label: &str, file: &[u8], answer: Answer) {
             tally.ask(label, file, &half_window(rectangle, 3), stated);
         }
         tally.ask(label, file, &Call::Spot { row: 0, column: 0, plane: 0 }, stated);
+        tally.ask(label, file, &chain_with([0; 3], 0, 31), stated);
         return;
     }
     let [rows, columns, samples] = [0, 1, 2].map(|i| card.bits[i]);
@@ -106,7 +109,9 @@ fn check_file(tally: &mut Tally, label: &str, file: &[u8], answer: Answer) {
     let rectangle = [rows - height, columns - width, height, width];
     let pixels = (height * width) as usize;
     tally.ask(label, file, &window(rectangle, pixels * samples as usize), stated);
-    tally.ask(label, file, &Call::Spot { row: rows - 1, column: columns - 1, plane: samples - 1 }, stated);
+    let [row, column, plane] = [rows - 1, columns - 1, samples - 1];
+    tally.ask(label, file, &Call::Spot { row, column, plane }, stated);
+    tally.ask(label, file, &chain([row, column, plane]), stated);
     let other_kind = Some((15, 0));
     let (of_colour, of_half) = if samples == 1 { (other_kind, None) } else { (None, other_kind) };
     tally.ask(label, file, &colour_window(rectangle, pixels * 3), of_colour);

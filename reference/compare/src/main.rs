@@ -1,5 +1,5 @@
 //! `compare SEED COUNT`: so many generated files through the core and through
-//! the independent program, by all five calls. Every answer must be the same
+//! the independent program, by all six calls. Every answer must be the same
 //! in every bit, and every refusal must have been met; then the same of the
 //! files at the limits, whose answers are stated; then listings of some of
 //! these files by the core's listing program.
@@ -11,7 +11,7 @@ use compare::kinds::Kinds;
 use compare::limits;
 use compare::listing::{self, Listed};
 use compare::questions::questions;
-use compare::tally::{Stated, Tally, CARD, COLOUR_WINDOW, HALF_WINDOW, PRINTED};
+use compare::tally::{Stated, Tally, CARD, CHAIN, COLOUR_WINDOW, HALF_WINDOW, PRINTED};
 use reference::bytes::{Widths, MARKS};
 use reference::generate::generate;
 
@@ -61,6 +61,7 @@ fn missing(tally: &Tally) -> Vec<String> {
         tally.missing(CARD, &of_card),
         tally.missing(COLOUR_WINDOW, &COLOUR),
         tally.missing(HALF_WINDOW, &of_half),
+        tally.missing(CHAIN, &of_card),
     ]
     .concat();
     let numbers = tally.missing_numbers();
@@ -121,9 +122,10 @@ fn generated(seed: u64, count: u64) -> [Generated; 2] {
             listed.extend(Listed::new(&label, &case.file));
         }
         tally.files += 1;
-        kinds.add(&case.file);
         let more = questions(&reference::card(&case.file), index);
-        for call in case.calls.iter().chain(&more) {
+        let calls = [case.calls, more].concat();
+        kinds.add(&case.file, &calls);
+        for call in &calls {
             tally.ask(&label, &case.file, call, None);
         }
     }

@@ -2,7 +2,8 @@
 //! empty, one past each edge, sums and products that wrap, and slices of the
 //! right length, one short, one long and empty.
 
-use reference::cases::Call;
+use reference::cases::{Call, SLICES};
+use reference::chain::LEAST_PLACES;
 use reference::Card;
 
 /// Of a greater frame no whole window is asked.
@@ -31,6 +32,18 @@ pub fn half_window([top, left, height, width]: Rectangle, slice: usize) -> Call 
     Call::HalfWindow { top, left, height, width, slice }
 }
 
+/// A chain with the shortest slices that will do.
+pub fn chain([row, column, plane]: [u64; 3]) -> Call {
+    Call::Chain { row, column, plane, slices: [LEAST_PLACES; SLICES] }
+}
+
+/// A chain of which one slice has so many places.
+pub fn chain_with([row, column, plane]: [u64; 3], slice: usize, length: usize) -> Call {
+    let mut slices = [LEAST_PLACES; SLICES];
+    slices[slice] = length;
+    Call::Chain { row, column, plane, slices }
+}
+
 /// The spot that stands at this place of the window of a whole frame.
 pub fn spot_of(place: u64, columns: u64, planes: u64) -> Call {
     let (pixel, plane) = (place / planes, place % planes);
@@ -43,10 +56,12 @@ pub fn questions(card: &Card, turn: u64) -> Vec<Call> {
     if card.number != 0 {
         return of_refused();
     }
+    let of_chains = chains(card, turn as usize);
     let turn = (turn % OUTSIDE_TURNS as u64) as usize;
     let (rows, columns) = (card.rows, card.columns);
     let mut calls = windows(window, rows, columns, card.samples, turn);
     calls.extend(spots(card, turn));
+    calls.extend(of_chains);
     if card.samples == 3 {
         calls.extend(windows(colour_window, rows, columns, 3, turn));
         calls.extend(either_window(half_window));
@@ -62,7 +77,8 @@ pub fn questions(card: &Card, turn: u64) -> Vec<Call> {
 fn of_refused() -> Vec<Call> {
     let spots = [0, MAX].map(|n| Call::Spot { row: n, column: n, plane: n });
     let windows = [window as Kind, colour_window, half_window].into_iter().flat_map(either_window);
-    windows.chain(spots).collect()
+    let chains = [chain([0; 3]), chain_with([MAX; 3], 0, 0)];
+    windows.chain(spots).chain(chains).collect()
 }
 
 /// A window of one pixel or block, one that is empty, and one as far away as can be.
@@ -149,6 +165,18 @@ fn fitting([_, _, height, width]: Rectangle, values: u64) -> usize {
 }
 
 fn spots(card: &Card, turn: usize) -> Vec<Call> {
+    let outside = spots_outside(card).into_iter().skip(turn).step_by(OUTSIDE_TURNS);
+    let places = spots_inside(card).into_iter().chain(outside);
+    places.map(|[row, column, plane]| Call::Spot { row, column, plane }).collect()
+}
+
+fn spots_inside(card: &Card) -> [[u64; 3]; 3] {
+    let &Card { rows, columns, samples, .. } = card;
+    [[0; 3], [rows - 1, columns - 1, samples - 1], [rows / 2, columns / 2, samples / 2]]
+}
+
+/// Each of them is refused by 13.
+fn spots_outside(card: &Card) -> Vec<[u64; 3]> {
     let &Card { rows, columns, samples, .. } = card;
     let last = [rows - 1, columns - 1, samples - 1];
     let mut outside = vec![[rows, columns, samples]];
@@ -159,7 +187,24 @@ fn spots(card: &Card, turn: usize) -> Vec<Call> {
             outside.push(place);
         }
     }
-    let inside = [[0; 3], last, [rows / 2, columns / 2, samples / 2]];
-    let places = inside.into_iter().chain(outside.into_iter().skip(turn).step_by(OUTSIDE_TURNS));
-    places.map(|[row, column, plane]| Call::Spot { row, column, plane }).collect()
+    outside
+}
+
+/// Three spots inside, of which one has a longer slice; the same with one that is too
+/// short; one outside, with slices that will do and with one that will not. At the
+/// next turn it is the next slice and the next spot outside.
+fn chains(card: &Card, turn: usize) -> Vec<Call> {
+    let [first, last, middle] = spots_inside(card);
+    let outside = spots_outside(card);
+    let outside = outside[turn % outside.len()];
+    let slice = turn % SLICES;
+    let [long, short] = [[33, 40, 100], [31, 0, 1]].map(|lengths| lengths[turn / SLICES % 3]);
+    vec![
+        chain(first),
+        chain(last),
+        chain_with(middle, slice, long),
+        chain_with(middle, slice, short),
+        chain(outside),
+        chain_with(outside, slice, short),
+    ]
 }

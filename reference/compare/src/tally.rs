@@ -10,14 +10,15 @@ use crate::asking::{ask_core, Outcome, Shown, REFERENCE};
 /// A number and a detail.
 pub type Stated = (u32, u32);
 
-const CALLS: usize = 5;
-pub const NAMES: [&str; CALLS] = ["card", "window", "spot", "colour window", "half window"];
+const CALLS: usize = 6;
+pub const NAMES: [&str; CALLS] = ["card", "window", "spot", "colour window", "half window", "chain"];
 pub const CARD: usize = 0;
 pub const COLOUR_WINDOW: usize = 3;
 pub const HALF_WINDOW: usize = 4;
+pub const CHAIN: usize = 5;
 
 /// The greatest number that each call can answer.
-const GREATEST_NUMBER: [u32; CALLS] = [12, 14, 13, 15, 15];
+const GREATEST_NUMBER: [u32; CALLS] = [12, 14, 13, 15, 15, 14];
 
 /// So many differences are printed; the rest are counted.
 pub const PRINTED: u64 = 30;
@@ -61,6 +62,7 @@ fn index(call: &Call) -> usize {
         Call::Spot { .. } => 2,
         Call::ColourWindow { .. } => COLOUR_WINDOW,
         Call::HalfWindow { .. } => HALF_WINDOW,
+        Call::Chain { .. } => CHAIN,
     }
 }
 

@@ -15,7 +15,8 @@ const USAGE: &str = "usage:
                                  window TOP LEFT HEIGHT WIDTH SLICE
                                  spot ROW COLUMN PLANE
                                  colour_window TOP LEFT HEIGHT WIDTH SLICE
-                                 half_window TOP LEFT HEIGHT WIDTH SLICE, in blocks";
+                                 half_window TOP LEFT HEIGHT WIDTH SLICE, in blocks
+                                 chain ROW COLUMN PLANE PLACES IDS BEFORE AFTER SKIPPED";
 
 fn main() -> io::Result<()> {
     let words: Vec<String> = env::args().skip(1).collect();

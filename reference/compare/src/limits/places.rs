@@ -1,12 +1,12 @@
-//! 13 and 14: windows, colour windows, half windows and spots at every edge of
-//! the active area, and as far away as 64 bits reach.
+//! 13 and 14: windows, colour windows, half windows, spots and chains at every edge
+//! of the active area, and as far away as 64 bits reach.
 
 use reference::builder::{Opcode, Tag};
 use reference::cases::Call;
 
 use super::lists::{good, whole};
 use super::{each_way, framed, LINEAR, MOSAIC};
-use crate::questions::{colour_window, half_window, window};
+use crate::questions::{chain, colour_window, half_window, window};
 use crate::tally::Tally;
 
 const ROWS: u64 = super::ROWS as u64;
@@ -91,7 +91,9 @@ fn spots(samples: u64, ask: &mut impl FnMut(Call, u32)) {
         .flat_map(|(row, column)| places(samples).map(move |plane| (row, column, plane)));
     for (row, column, plane) in all {
         let inside = row < ROWS && column < COLUMNS && plane < samples;
-        ask(Call::Spot { row, column, plane }, if inside { 0 } else { 13 });
+        let number = if inside { 0 } else { 13 };
+        ask(Call::Spot { row, column, plane }, number);
+        ask(chain([row, column, plane]), number);
     }
 }
 
