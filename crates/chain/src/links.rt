@@ -167,8 +167,8 @@ fn next_link(
             value: x,
         },
         Touch::On(link) => {
-            let count = n + 1;
             let value = link.after;
+            let count = n + 1;
             write_link(n, i, link, places, ids, before, after);
             Reached {
                 index,

@@ -44,8 +44,18 @@ returns c =
     let down : SFits w64 (n .«row_delta») = search needs in
     let black : SFits w64 (n .black) = search needs in
     let greatest : SFits w64 (n .«greatest_black») = search needs in
-    rw (toZ-pos w64 stored, toZ-pos w64 value, toZ-pos w64 level, toZ-pos w64 covering, toZ-pos w64 skipped, toZ-ofZ cell, toZ-ofZ across,
-    toZ-ofZ down, toZ-ofZ black, toZ-ofZ greatest) refl
+    rw (
+      toZ-pos w64 stored,
+      toZ-pos w64 value,
+      toZ-pos w64 level,
+      toZ-pos w64 covering,
+      toZ-pos w64 skipped,
+      toZ-ofZ cell,
+      toZ-ofZ across,
+      toZ-ofZ down,
+      toZ-ofZ black,
+      toZ-ofZ greatest,
+    ) refl
 
 pub chain-numbers-spec : {M : Type 1} → statement M
 chain-numbers-spec = tie.close (tie.spec cast-t3 cast-t4 cast-t5 cast-t6 cast-t7 returns)
