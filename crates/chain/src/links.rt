@@ -89,18 +89,9 @@ fn link_at(file: &[u8], size: Size, at: usize, header: Header, spot: Spot, x: f6
     let column = spot.column;
     match list::classify(header) {
         Class::Carried => {
+            let after = opcode::opcode_at(file, size, at + 16, header, row, column, spot.plane, x);
             let g = grid::grid_at(file, at + 16);
             if grid::on(g, row, column, spot.plane) {
-                let after = opcode::opcode_at(
-                    file,
-                    size,
-                    at + 16,
-                    header,
-                    row,
-                    column,
-                    spot.plane,
-                    x,
-                );
                 let link = Link {
                     id: header.id,
                     before: x,

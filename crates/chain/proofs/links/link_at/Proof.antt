@@ -27,36 +27,38 @@ classify-requires c κs = search needs
 enum-told : tie.Need-enum-told
 enum-told c = search needs
 
-add-grid-at : tie.Need-add-grid-at
-add-grid-at c = search needs
-
-grid-at-requires : tie.Need-grid-at-requires
-grid-at-requires c κs =
-    let a = c .before .before .before .before .before .before .args in
-    omega (arith, kept-long (now (a .file)) (a .size) (a .at + 16) (a .header) (kept c), kept c .inside)
-
-on-requires : tie.Need-on-requires
-on-requires c κs =
-    let a = c .before .before .before .before .before .before .before .args in
-    let g = c .grid-at in
-    let q = kept-fits (now (a .file)) (a .size) (a .at + 16) (a .header) (kept (c .before)) (g .result) (g .ensures .0) in
-    (q .row-pitch, q .column-pitch, g .ensures .1 .0, g .ensures .1 .1)
-
 add-opcode-at : tie.Need-add-opcode-at
 add-opcode-at c = search needs
 
 opcode-at-requires : tie.Need-opcode-at-requires
 opcode-at-requires c κs =
-    let s = c .before .before .before .before .before .before .before .before .before in
-    ((kept (c .before .before .before), s .pre .0 .1), s .pre .1)
+    let s = c .before .before .before .before .before .before in
+    ((kept c, s .pre .0 .1), s .pre .1)
+
+add-grid-at : tie.Need-add-grid-at
+add-grid-at c = search needs
+
+grid-at-requires : tie.Need-grid-at-requires
+grid-at-requires c κs =
+    let k = c .before in
+    let a = k .before .before .before .before .before .before .args in
+    omega (arith, kept-long (now (a .file)) (a .size) (a .at + 16) (a .header) (kept k), kept k .inside)
+
+on-requires : tie.Need-on-requires
+on-requires c κs =
+    let k = c .before .before in
+    let a = k .before .before .before .before .before .before .args in
+    let g = c .grid-at in
+    let q = kept-fits (now (a .file)) (a .size) (a .at + 16) (a .header) (kept k) (g .result) (g .ensures .0) in
+    (q .row-pitch, q .column-pitch, g .ensures .1 .0, g .ensures .1 .1)
 
 returns : tie.Need-returns
 returns c =
-    let a = c .before .before .before .before .before .before .before .before .before .before .args in
     let k = c .before .before .before .before in
-    let g = c .before .before .before .grid-at in
+    let a = k .before .before .before .before .before .before .args in
+    let g = c .before .before .grid-at in
     λ i o e. link-on (now (a .file)) (a .size) (a .at) (a .header) i o e (a .spot .row .0) (a .spot .column .0) (a .spot .plane) (a .x)
-    (carried k) (kept k) (g .result) (g .ensures .0) (sym (c .before .before .on .ensures) ∙ c .before .if1 .taken) _ (c .opcode-at .ensures)
+    (carried k) (kept k) (g .result) (g .ensures .0) (sym (c .before .on .ensures) ∙ c .if1 .taken) _ (c .before .before .before .opcode-at .ensures)
 
 enum-told-2 : tie.Need-enum-told-2
 enum-told-2 c = search needs
@@ -66,8 +68,8 @@ enum-told-3 c = search needs
 
 returns-2 : tie.Need-returns-2
 returns-2 c =
-    let a = c .before .before .before .before .before .before .before .before .before .args in
-    let k = c .before .before .before in
+    let k = c .before .before .before .before in
+    let a = k .before .before .before .before .before .before .args in
     let g = c .before .before .grid-at in
     λ i o e. link-off (now (a .file)) (a .size) (a .at) (a .header) i o e (a .spot .row .0) (a .spot .column .0) (a .spot .plane) (a .x)
     (carried k) (kept k) (g .result) (g .ensures .0) (sym (c .before .on .ensures) ∙ c .if1 .left)
@@ -86,5 +88,5 @@ returns-4 c =
 
 pub link-at-spec : {M : Type 1} → statement M
 link-at-spec =
-    tie.close (tie.spec classify-requires enum-told add-grid-at grid-at-requires on-requires add-opcode-at opcode-at-requires returns
+    tie.close (tie.spec classify-requires enum-told add-opcode-at opcode-at-requires add-grid-at grid-at-requires on-requires returns
     enum-told-2 enum-told-3 returns-2 returns-3 returns-4)
