@@ -7,20 +7,7 @@
 #include <stdlib.h>
 
 #include "dng.h"
-
-static uint8_t *read_file(const char *name, size_t *len)
-{
-    FILE *in = fopen(name, "rb");
-    if (in == NULL || fseek(in, 0, SEEK_END) != 0)
-        return NULL;
-    long size = ftell(in);
-    uint8_t *bytes = size < 0 ? NULL : malloc((size_t)size + 1);
-    if (bytes == NULL)
-        return NULL;
-    rewind(in);
-    *len = fread(bytes, 1, (size_t)size, in);
-    return fclose(in) == 0 && *len == (size_t)size ? bytes : NULL;
-}
+#include "read_file.h"
 
 int main(int count, char **names)
 {

@@ -11,7 +11,7 @@ extern "C" {
 
 /* A caller need test no file and no number before a call: any bytes and any arguments are answered. No call reads outside its
    file or writes outside what it is lent. A pointer is good for its length, aligned as its elements and not NULL, also where
-   the length is 0, and what is written does not overlap the file. The floating-point modes are those that a program starts with:
+   the length is 0, and what is written overlaps neither the file nor anything else that is written. The floating-point modes are those that a program starts with:
    rounding to nearest, denormals kept (-ffast-math may change that where the program is linked). */
 
 /* The places of a card's numbers: number and detail, active rows, active columns, samples per pixel, opcodes kept, opcodes
@@ -41,6 +41,36 @@ void dng_card(const uint8_t *file, size_t file_len, uint64_t numbers[DNG_CARD_NU
 
 /* The value is written: +0.0 of a refused spot. */
 uint64_t dng_spot(const uint8_t *file, size_t file_len, size_t row, size_t column, size_t plane, double *value);
+
+/* Why a spot's value is what it is. The places of the numbers: the stored sample, its value through the LinearizationTable, the
+   BlackLevel cell, the column's and the row's delta, B (their sum), M (the plane's greatest B) and L, all blacks in 256ths with
+   their sign; then how many opcodes of OpcodeList2 cover the spot, and how many of the list are skipped. */
+enum {
+    DNG_CHAIN_STORED,
+    DNG_CHAIN_TABLE_VALUE,
+    DNG_CHAIN_CELL,
+    DNG_CHAIN_COLUMN_DELTA,
+    DNG_CHAIN_ROW_DELTA,
+    DNG_CHAIN_B,
+    DNG_CHAIN_M,
+    DNG_CHAIN_L,
+    DNG_CHAIN_COVERING,
+    DNG_CHAIN_SKIPPED,
+    DNG_CHAIN_NUMBERS /* how many they are: 10 */
+};
+
+/* The places that each of the five slices must have; more are fine. */
+enum { DNG_CHAIN_PLACES = 32 };
+
+/* All numbers and the value are written: zeros and +0.0 of a refused spot. The first numbers[DNG_CHAIN_COVERING] places of four
+   slices take, for each covering opcode in list order, its place in the whole list (from 0), its id (7 to 13), the value before it
+   and the value after it: the first value before is L / 65535.0, each other one the value after of the opcode before, and the last
+   value after is the spot's. The first numbers[DNG_CHAIN_SKIPPED] places of the fifth take the places of the skipped opcodes. All
+   other places stay as they were, and where the call refuses, all of them. It refuses as dng_spot does, then by 14 where one of
+   the five slices has fewer than DNG_CHAIN_PLACES places. */
+uint64_t dng_chain(const uint8_t *file, size_t file_len, size_t row, size_t column, size_t plane,
+                   int64_t numbers[DNG_CHAIN_NUMBERS], double *value, uint64_t *places, size_t places_len, uint64_t *ids, size_t ids_len,
+                   double *before, size_t before_len, double *after, size_t after_len, uint64_t *skipped, size_t skipped_len);
 
 /* A refused window of any kind leaves its slice as it was. */
 uint64_t dng_window(const uint8_t *file, size_t file_len, size_t top, size_t left, size_t height, size_t width,
