@@ -34,7 +34,7 @@ use Rattle.opcodes.specs.declared.grid.Size.{Size}
 use Rattle.opcodes.proofs.OpcodeLists.{and-true}
 use Rattle.opcodes.proofs.Listing.{headAt, list-length, value-none, value-inverse}
 use Rattle.rows.specs.Facts.Part.{Sized-in}
-use Rattle.develop.specs.Calls.{Opened, opened, sizeOf, opcodesOf, tagsOf, scaledIn, developedIn, aloneIn, within, spotOf, spotCall}
+use Rattle.develop.specs.Calls.{Opened, opened, sizeOf, tagsOf, scaledIn, developedIn, within, spotOf, spotCall}
 use Rattle.develop.specs.Facts.View.{Viewed}
 use Rattle.develop.specs.declared.View.{View}
 use Rattle.develop.proofs.Views.{open-inverse}
@@ -44,7 +44,6 @@ use Rattle.chain.specs.Links.{opcodeId, isSkipped}
 use Rattle.chain.specs.Chain.{chainOf, Slices, slices, Chained, chainedWith, roomFor, roomIn, refusedChain, idOf, afterOf, shownOf, chainIn, chainCall}
 use Rattle.chain.specs.Explained.{Explains, Explained}
 use Rattle.chain.specs.Facts.Links.{Opcodes-in, Opcodes-of, Covered, coveredOf, Marked, skippedOf}
-use Rattle.chain.specs.declared.links.Link.{Link}
 use Rattle.chain.specs.declared.links.Opcodes.{Opcodes}
 use Rattle.chain.proofs.LinkLaws.{where-few, links-length}
 use Rattle.chain.proofs.PlaceLaws.{where-names, link-of, links-first, links-next, links-last, list-id}

@@ -23,7 +23,7 @@ use Rattle.directory.specs.declared.tag.Values.{Values}
 use Rattle.levels.specs.Clip.{clipOf}
 use Rattle.opcodes.specs.Grid.{onOf, gridOf}
 use Rattle.opcodes.specs.Facts.Grid.{Fits-in}
-use Rattle.opcodes.specs.Opcode.{Opcode, skipped, opcodeAt}
+use Rattle.opcodes.specs.Opcode.{Opcode, opcodeAt}
 use Rattle.opcodes.specs.OpcodeList.{listedId, classOf, opcodeKind, opcodeReading, listFrom}
 use Rattle.opcodes.specs.Frame.{touches, alone}
 use Rattle.opcodes.specs.declared.grid.Size.{Size}

@@ -3,7 +3,7 @@
 use mathlib.Core.Path.{_≡_, refl, sym, ap, _∙_, subst}
 use mathlib.Core.Bool.{Bool, true, true≢false}
 use mathlib.Core.List.{List, [], _∷_}
-use Prim.Native.Nat.{ℕ, zero, suc, _+_, _-_, _≤_, _<_}
+use Prim.Native.Nat.{ℕ, zero, suc, _+_, _-_, _<_}
 use native.Mathlib.Nat.{add-zero}
 use native.Mathlib.Omega.{arith}
 use lib.Ieee.{Float}
@@ -21,7 +21,6 @@ use Rattle.opcodes.specs.declared.list.Class.{Class}
 use Rattle.opcodes.specs.declared.list.Class.the-variants as class
 use Rattle.opcodes.proofs.Frames.{at-off}
 use Rattle.opcodes.proofs.Listing.{headAt, wholeAt, list-inverse, none-inverse}
-use Rattle.rows.specs.Facts.Part.{keptOf}
 use Rattle.rows.proofs.Walks.{listed-id, carried-is, optional-is, compulsory-not}
 use Rattle.chain.specs.Links.{opcodeId, linkOf, linksOf, placesWhere}
 use Rattle.chain.specs.Explained.{Among, Names, lastOf}
@@ -132,7 +131,8 @@ module _ (r c p : ℕ) where
       (λ e.
       let w = where-yes covers i o os e in
       let l = links-yes o os r c p x e in
-      rw (w, l) (first-linked o os i x (placesWhere covers (i + 1) os) (linksOf os r c p (opcodeAt o r c p x)) d e (λ j q. links-at os (i + 1) (opcodeAt o r c p x) d j q) j
+      let y = opcodeAt o r c p x in
+      rw (w, l) (first-linked o os i x (placesWhere covers (i + 1) os) (linksOf os r c p y) d e (λ j q. links-at os (i + 1) y d j q) j
       (subst (λ (ls : List Link). j < length ls) l h)))
       (λ e.
       let w = where-no covers i o os e in

@@ -2,7 +2,7 @@
 -- Assumes nothing.
 use mathlib.Core.Path.{_≡_, refl, sym, ap, _∙_, subst}
 use mathlib.Core.Bool.{Bool, true, false}
-use mathlib.Core.List.{List, [], _∷_, map}
+use mathlib.Core.List.{List, [], _∷_}
 use Prim.Native.Nat.{ℕ, zero, suc, _+_, _<_}
 use native.Mathlib.Omega.{arith}
 use lib.Dec.{eqb}
@@ -24,14 +24,12 @@ use Rattle.rawtags.specs.declared.Tags.{Tags}
 use Rattle.opcodes.specs.Opcode.{Opcode, skipped, opcodeAt}
 use Rattle.opcodes.specs.Frame.{touches, Apart}
 use Rattle.opcodes.specs.Swap.{swapAt}
-use Rattle.opcodes.specs.declared.grid.Size.{Size}
-use Rattle.develop.specs.Calls.{Opened, opened, sizeOf, tagsOf, developedIn, aloneIn, within}
+use Rattle.develop.specs.Calls.{Opened, opened, sizeOf, developedIn, aloneIn, within}
 use Rattle.develop.proofs.Answers.{developed-alone, within-active}
-use Rattle.chain.specs.Links.{linkOf, linksOf, isSkipped, placesWhere}
+use Rattle.chain.specs.Links.{linkOf, linksOf, placesWhere}
 use Rattle.chain.specs.Chain.{Chain, chainOf, Slices, Chained, roomIn, refusedChain, shownOf, chainIn, chainCall}
-use Rattle.chain.specs.Explained.{Among, Names}
 use Rattle.chain.specs.declared.links.Link.{Link}
-use Rattle.chain.proofs.LinkLaws.{where-none, where-yes, where-no, links-none, links-yes, links-no}
+use Rattle.chain.proofs.LinkLaws.{where-yes, where-no, links-yes, links-no}
 use Rattle.chain.proofs.PlaceLaws.{where-names}
 use Rattle.chain.proofs.ChainLaws.{numbersIn}
 use Rattle.demand.specs.Demand.{exchanged, Exchanged, Same-but-places}

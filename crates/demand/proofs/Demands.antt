@@ -12,9 +12,9 @@ use borrow.Author.Tests.{eqb-true, eqb-false}
 use Rattle.reading.specs.Bytes.{part, replaced}
 use Rattle.reading.specs.Reading.{Reading, Reading.answer, Reading.ask, Stretch, run, trace, covers, reads, runWhole, traceWhole}
 use Rattle.reading.proofs.Bytes.{length-replaced}
-use Rattle.reading.proofs.Reading.{run-answer, run-ask, run-andThen, trace-answer, trace-ask, trace-andThen, reads-append, unread}
+use Rattle.reading.proofs.Reading.{run-answer, run-ask, trace-answer, trace-ask, trace-andThen, reads-append, unread}
 use Rattle.directory.specs.Out.{Out, Out.refused, Out.is}
-use Rattle.directory.proofs.Outs.{bind-trace, bind-inverse, same-value}
+use Rattle.directory.proofs.Outs.{bind-trace, same-value}
 use Rattle.raw.specs.Front.{frontReading}
 use Rattle.raw.specs.Stored.{Stored, storedReading}
 use Rattle.raw.specs.Sample.{placeOf, cellOf, ActiveIn}

@@ -1,4 +1,4 @@
-use mathlib.Core.Path.{_≡_, ap, subst, _∙_}
+use mathlib.Core.Path.{ap, subst, _∙_}
 use denote.Ref.{now}
 use Rattle.develop.specs.Facts.View.{OpeningIs}
 use Rattle.chain.specs.Chain.{slices, chainedWith, chainIn}

@@ -7,7 +7,6 @@ use mir.Val.{SFits}
 use mir.Facts.{toZ-pos, toZ-ofZ}
 use borrow.Author.Needs.{needs}
 use Rattle.reading.proofs.Magnitude.{natAbs-sub, sfits64}
-use Rattle.levels.specs.Level.{differenceOf}
 use Rattle.levels.proofs.greatest_black.Statement.{statement}
 use Rattle.levels.proofs.greatest_black.Tie as tie
 

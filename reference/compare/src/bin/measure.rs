@@ -1,6 +1,6 @@
 //! `measure [NAME]`: how long the core takes for whole frames, as ratios to plain
 //! loops and to the same in Rust with one 64-bit division for each level, timed in
-//! the same run; then spots and small windows. With a NAME, only the frames that have
+//! the same run; then spots, their chains and small windows. With a NAME, only the frames that have
 //! it in theirs. Run by hand, in a release build.
 
 use std::hint::black_box;
@@ -15,6 +15,7 @@ use compare::mosaic::{
 use compare::times::{print_ratio, Times};
 use reference::builder::{Area, Dng, Opcode, Tag};
 use reference::bytes::ByteOrder;
+use reference::chain::LEAST_PLACES;
 use reference::random::Random;
 use reference::Answer;
 
@@ -249,7 +250,8 @@ fn linearized(samples: &[u8], run: Run) {
 fn print_small(name: &str, file: &[u8], rows: usize) {
     let mut random = Random::new(2);
     let mut out = vec![0.0; SMALL * SMALL];
-    let (mut spots, mut windows) = (Times::default(), Times::default());
+    let (mut whole, mut reals) = ([[0; LEAST_PLACES]; 3], [[0.0; LEAST_PLACES]; 2]);
+    let (mut spots, mut chains, mut windows) = (Times::default(), Times::default(), Times::default());
     for _ in 0..REPETITIONS {
         let mut places = |count: usize, side: usize| -> Vec<(u64, u64)> {
             let mut place = |whole: usize| random.index(whole - side + 1) as u64;
@@ -257,8 +259,15 @@ fn print_small(name: &str, file: &[u8], rows: usize) {
         };
         let (of_spots, of_windows) = (places(SPOTS, 1), places(SMALL_WINDOWS, SMALL));
         spots.run(|| {
-            for (row, column) in of_spots {
+            for (row, column) in of_spots.iter().copied() {
                 assert_eq!(core::spot(file, row, column, 0).0, Answer::DONE);
+            }
+        });
+        chains.run(|| {
+            for (row, column) in of_spots {
+                let ([places, ids, skipped], [before, after]) = (&mut whole, &mut reals);
+                let chain = core::chain(file, row, column, 0, places, ids, before, after, skipped);
+                assert_eq!(chain.answer(), Answer::DONE);
             }
         });
         windows.run(|| {
@@ -270,9 +279,12 @@ fn print_small(name: &str, file: &[u8], rows: usize) {
     }
     let each = |seconds: f64, calls: usize| 1e6 * seconds / calls as f64;
     println!(
-        "{name:<28}{rows:>5} rows: spot best {:7.1}, median {:7.1}; {SMALL} x {SMALL} window best {:7.1}, median {:7.1}",
+        "{name:<28}{rows:>5} rows: spot best {:7.1}, median {:7.1}; chain best {:7.1}, median {:7.1}; \
+         {SMALL} x {SMALL} window best {:7.1}, median {:7.1}",
         each(spots.best(), SPOTS),
         each(spots.median(), SPOTS),
+        each(chains.best(), SPOTS),
+        each(chains.median(), SPOTS),
         each(windows.best(), SMALL_WINDOWS),
         each(windows.median(), SMALL_WINDOWS)
     );

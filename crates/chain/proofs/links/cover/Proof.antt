@@ -1,6 +1,5 @@
 use Prim.Native.Nat.{_-_}
 use native.Mathlib.Omega.{arith}
-use denote.Ref.{now}
 use Rattle.chain.specs.Facts.Links.{reachedWith}
 use Rattle.chain.proofs.LinkLaws.{Gone, gone-start, gone-read, gone-index, gone-on, gone-end}
 use borrow.Author.Needs.{needs}
