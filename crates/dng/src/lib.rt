@@ -146,7 +146,7 @@ pub extern "C" fn dng_chain(
     ensures { λ r. ⌜ (now (numbers .exit) ≡ chainNumbersOf (chainCall (now (file .entry)) row column plane (slices (now (places .entry)) (now (ids .entry)) (now (before .entry)) (now (after .entry)) (now (skipped .entry))) .answer)) × (now (value .exit) ≡ chainCall (now (file .entry)) row column plane (slices (now (places .entry)) (now (ids .entry)) (now (before .entry)) (now (after .entry)) (now (skipped .entry))) .answer .value) ⌝ }
     ensures { λ r. ⌜ slices (now (places .exit)) (now (ids .exit)) (now (before .exit)) (now (after .exit)) (now (skipped .exit)) ≡ chainCall (now (file .entry)) row column plane (slices (now (places .entry)) (now (ids .entry)) (now (before .entry)) (now (after .entry)) (now (skipped .entry))) .lent ⌝ }
 {
-    let answer = chain::chain(
+    let found = chain::chain(
         file,
         row,
         column,
@@ -157,7 +157,7 @@ pub extern "C" fn dng_chain(
         after,
         skipped,
     );
-    *numbers = chain_numbers(answer);
-    *value = answer.value;
-    packed(answer.number, answer.detail)
+    *numbers = chain_numbers(found);
+    *value = found.value;
+    packed(found.number, found.detail)
 }
