@@ -60,8 +60,8 @@ kind-id z id ps h =
     let high : id ≤ 13 = leb-true id 13 (a .1) in
     go (eqb id 7) (eqb id 8) (eqb id 9) (eqb id 10) (eqb id 11) (eqb id 12) refl refl refl refl refl refl low high
   where
-    go : (b7 b8 b9 b10 b11 b12 : Bool) → eqb id 7 ≡ b7 → eqb id 8 ≡ b8 → eqb id 9 ≡ b9 → eqb id 10 ≡ b10 → eqb id 11 ≡ b11 → eqb id 12 ≡ b12 →
-        7 ≤ id → id ≤ 13 → kindId (opcodeKind z id ps) ≡ id
+    go : (b7 b8 b9 b10 b11 b12 : Bool) → eqb id 7 ≡ b7 → eqb id 8 ≡ b8 → eqb id 9 ≡ b9 → eqb id 10 ≡ b10 → eqb id 11 ≡ b11 →
+        eqb id 12 ≡ b12 → 7 ≤ id → id ≤ 13 → kindId (opcodeKind z id ps) ≡ id
     go true b8 b9 b10 b11 b12 e7 e8 e9 e10 e11 e12 l u = simp (e7, pick-yes) (sym (eqb-true id 7 e7))
     go false true b9 b10 b11 b12 e7 e8 e9 e10 e11 e12 l u = simp (e7, e8, pick-yes, pick-no) (sym (eqb-true id 8 e8))
     go false false true b10 b11 b12 e7 e8 e9 e10 e11 e12 l u = simp (e7, e8, e9, pick-yes, pick-no) (sym (eqb-true id 9 e9))
@@ -363,8 +363,8 @@ module _ (r c p : ℕ) where
 
   -- in the end
   pub loop-covered :
-      (os : List Opcode) (x : Float) (ps ns : List ℕ) (xs ys : List Float) → length os ≤ 32 → 32 ≤ length ps → 32 ≤ length ns → 32 ≤ length xs →
-      32 ≤ length ys →
+      (os : List Opcode) (x : Float) (ps ns : List ℕ) (xs ys : List Float) → length os ≤ 32 →
+      32 ≤ length ps → 32 ≤ length ns → 32 ≤ length xs → 32 ≤ length ys →
       folded (linkInto r c p) os (startOf x ps ns xs ys) ≡ coveredOf os r c p x ps ns xs ys
   unfolding coveredOf
   loop-covered os x ps ns xs ys few hp hn hx hy =
@@ -400,7 +400,8 @@ module _ (r c p : ℕ) where
           gone-read = step-read (linkInto r c p) f (q .size) (q .count) (q .at) (q .bytes) _ (s .index) at s _ refl next (h .read .inside)
 
           module _ (s′ : Covered) (at′ : ℕ)
-              (e : (i : ℕ) (o : Opcode) → is o ≡ run f (opcodeReading (classOf (headAt f at)) (q .size) i at (headAt f at)) → s′ ≡ linkInto r c p o s)
+              (e : (i : ℕ) (o : Opcode) → is o ≡ run f (opcodeReading (classOf (headAt f at)) (q .size) i at (headAt f at)) →
+              s′ ≡ linkInto r c p o s)
               (d : at′ ≡ at + (16 + headAt f at .length)) where
             abbrev done : s′ ≡ linkInto r c p (next .first) s
             done = e (s .index) (next .first) (next .read)

@@ -54,7 +54,8 @@ module _ (k j : ℕ) where
   exchanged-other n m = simp (ne-eqb j k n, ne-eqb j (suc k) m, pick-no)
 
   -- the three of them
-  exchanged-cases : (P : ℕ → Type 0) → (j ≡ k → P (suc k)) → (j ≡ suc k → P k) → ((j ≡ k → ⊥) → (j ≡ suc k → ⊥) → P j) → P (exchanged k j)
+  exchanged-cases : (P : ℕ → Type 0) → (j ≡ k → P (suc k)) → (j ≡ suc k → P k) →
+      ((j ≡ k → ⊥) → (j ≡ suc k → ⊥) → P j) → P (exchanged k j)
   exchanged-cases P a b d =
       cases (eqb j k)
       (λ t. let e = eqb-true j k t in subst P (sym (exchanged-first e)) (a e))
