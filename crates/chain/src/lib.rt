@@ -1,5 +1,7 @@
 // The chain behind a spot: the numbers behind its level, the opcodes that cover it with the values before and after each, and the
 // skipped opcodes.
+#![tactic(auto)]
+
 ghost use Rattle.std.specs.Prelude.{◌≡◌, true, length};
 ghost use Rattle.raw.specs.Sample.{ActiveIn};
 ghost use Rattle.develop.specs.Facts.View.{Viewed};
@@ -15,7 +17,7 @@ use raw::sample;
 pub mod links;
 
 // Number, detail, the spot's value and the numbers behind its level; how many opcodes cover the spot, and how many are skipped.
-#[derive(Drop)]
+#[derive(Clone, Copy)]
 pub struct ChainAnswer {
     pub number: usize,
     pub detail: usize,

@@ -18,7 +18,7 @@ use opcodes::{grid, list};
 use rows::opcode;
 
 // A row, a column and a plane of the active area.
-#[derive(Drop)]
+#[derive(Clone, Copy)]
 pub struct Spot {
     pub row: ActiveRow,
     pub column: ActiveColumn,
@@ -26,7 +26,7 @@ pub struct Spot {
 }
 
 // The opcodes of an accepted list: so many, in the bytes from a place on, for a frame of a size.
-#[derive(Drop)]
+#[derive(Clone, Copy)]
 pub struct Opcodes {
     pub size: Size,
     pub count: usize,
@@ -35,21 +35,21 @@ pub struct Opcodes {
 }
 
 // An opcode that covers the spot: its id, and the value before and after it.
-#[derive(Drop)]
+#[derive(Clone, Copy)]
 pub struct Link {
     pub id: usize,
     pub before: f64,
     pub after: f64,
 }
 
-#[derive(Drop)]
+#[derive(Clone, Copy)]
 pub enum Touch {
     Off,
     On(Link),
 }
 
 // How far the list is gone through: the next opcode's index and place, how many cover the spot, and the last value.
-#[derive(Drop)]
+#[derive(Clone, Copy)]
 pub struct Reached {
     pub index: usize,
     pub at: usize,

@@ -13,14 +13,14 @@ use directory::tag::{Kinds, Rule, ValuesTest};
 use directory::{Ifd, Number, entry, names, tag};
 use reading::fraction::FractionKind;
 
-#[derive(Drop)]
+#[derive(Clone, Copy)]
 pub struct Matrix {
     pub x: Triple,
     pub y: Triple,
     pub z: Triple,
 }
 
-#[derive(Drop)]
+#[derive(Clone, Copy)]
 pub enum MatrixTest {
     Refused { number: usize, detail: usize },
     Is(Matrix),

@@ -8,7 +8,7 @@ use develop::Opening;
 use rawtags::crop::Crop;
 
 // Document 01's number, detail and five values, and document 02's crop.
-#[derive(Drop)]
+#[derive(Clone, Copy)]
 pub struct CardAnswer {
     pub number: usize,
     pub detail: usize,

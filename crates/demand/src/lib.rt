@@ -1,2 +1,4 @@
 // The card, with demand 3.
+#![tactic(auto)]
+
 pub mod card;

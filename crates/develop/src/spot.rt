@@ -9,7 +9,7 @@ use levels::active::{ActiveColumn, ActiveRow};
 use opcodes::grid::Size;
 use raw::sample;
 
-#[derive(Drop)]
+#[derive(Clone, Copy)]
 pub struct SpotAnswer {
     pub number: usize,
     pub detail: usize,

@@ -10,7 +10,7 @@ use reading::number;
 use reading::number::Order;
 
 // The type of an entry's values.
-#[derive(Drop)]
+#[derive(Clone, Copy)]
 pub enum Kind {
     Unknown,
     Byte,
@@ -32,7 +32,7 @@ pub enum Kind {
 }
 
 // An entry's tag, type and count.
-#[derive(Drop)]
+#[derive(Clone, Copy)]
 pub struct Entry {
     pub tag: usize,
     pub kind: Kind,

@@ -16,14 +16,14 @@ use reading::number;
 use reading::number::Order;
 
 // A tag's entry and the place of its value or offset.
-#[derive(Drop)]
+#[derive(Clone, Copy)]
 pub enum Found {
     At { place: usize, entry: Entry },
     Absent,
 }
 
 // The types that a tag may have.
-#[derive(Drop)]
+#[derive(Clone, Copy)]
 pub enum Kinds {
     Byte,
     Short,
@@ -37,7 +37,7 @@ pub enum Kinds {
 }
 
 // What is asked of a tag before its values are looked at.
-#[derive(Drop)]
+#[derive(Clone, Copy)]
 pub struct Rule {
     pub tag: usize,
     pub kinds: Kinds,
@@ -47,7 +47,7 @@ pub struct Rule {
 }
 
 // Where the values of a tag stand, their type, the bytes of one, and how many there are; none where the tag is absent.
-#[derive(Drop)]
+#[derive(Clone, Copy)]
 pub struct Values {
     pub place: usize,
     pub kind: Kind,
@@ -55,14 +55,14 @@ pub struct Values {
     pub count: usize,
 }
 
-#[derive(Drop)]
+#[derive(Clone, Copy)]
 pub enum ValuesTest {
     Refused { number: usize, detail: usize },
     Is(Values),
 }
 
 // What a number must be: at least legal, else 4; from one number to another, else 8.
-#[derive(Drop)]
+#[derive(Clone, Copy)]
 pub struct Range {
     pub legal: usize,
     pub from: usize,

@@ -17,7 +17,7 @@ use reading::number;
 use reading::number::Order;
 
 // What a directory is: the raw one, or one with so many children, whose offsets start at a place and have so many bytes.
-#[derive(Drop)]
+#[derive(Clone, Copy)]
 pub enum Look {
     Raw,
     Refused {
@@ -32,7 +32,7 @@ pub enum Look {
 }
 
 // What a walk finds: the raw directory, or none and so many visits left.
-#[derive(Drop)]
+#[derive(Clone, Copy)]
 pub enum Walk {
     Raw(Ifd),
     Refused { number: usize, detail: usize },
@@ -40,13 +40,13 @@ pub enum Walk {
 }
 
 // IFD 0 and the raw directory.
-#[derive(Drop)]
+#[derive(Clone, Copy)]
 pub struct Roots {
     pub first: Ifd,
     pub raw: Ifd,
 }
 
-#[derive(Drop)]
+#[derive(Clone, Copy)]
 pub enum Tree {
     Refused { number: usize, detail: usize },
     Is(Roots),

@@ -1,5 +1,7 @@
 // The C interface: each function dng_NAME makes the call of its name and hands over its whole answer; `packed` puts number and
 // detail in one.
+#![tactic(auto)]
+
 ghost use Rattle.std.specs.Prelude.{◌≡◌, ◌≤◌, ◌<◌};
 ghost use Rattle.develop.specs.Calls.{spot_call, window_call, colour_window_call};
 ghost use Rattle.chain.specs.Chain.{slices, chain_call};

@@ -27,13 +27,13 @@ use reading::number;
 use samples::along;
 
 // What a block's colour needs besides its four samples.
-#[derive(Drop)]
+#[derive(Clone, Copy)]
 pub struct Half {
     pub colour: Colour,
     pub pattern: Pattern,
 }
 
-#[derive(Drop)]
+#[derive(Clone, Copy)]
 pub enum Halved {
     Refused { number: usize, detail: usize },
     Is(Half),
@@ -139,7 +139,7 @@ fn block_part(
 }
 
 // Some blocks of each row of blocks.
-#[derive(Drop)]
+#[derive(Clone, Copy)]
 pub struct Stretch {
     pub from: usize,
     pub count: usize,

@@ -1,2 +1,4 @@
 // Half-size colour from mosaics.
+#![tactic(auto)]
+
 pub mod half_window;

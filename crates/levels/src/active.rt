@@ -1,7 +1,7 @@
 // Rows and columns of the active area, counted from its corner.
 
-#[derive(Drop)]
+#[derive(Clone, Copy)]
 pub struct ActiveRow(pub usize);
 
-#[derive(Drop)]
+#[derive(Clone, Copy)]
 pub struct ActiveColumn(pub usize);

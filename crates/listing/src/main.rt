@@ -4,6 +4,8 @@
 // `write_piece` alone writes, and its `requires` says which bytes it is handed: those that `listing_of` of the file has behind the
 // bytes counted so far, and counts them where the write went well. Nothing else writes, and nothing else counts. `list` promises
 // that the count does not pass the listing's end, and is at its end where no write has failed.
+#![tactic(auto)]
+
 ghost use Rattle.std.specs.Prelude.{◌≡◌, not, cond, ◌∷◌, ◌++◌, ◌+◌, ◌*◌, ◌≤◌, ◌<◌, T, length, take};
 ghost use Rattle.std.specs.Float.Ieee.{is_nan};
 ghost use Rattle.rows.specs.Facts.Part.{AllInUnit, SizedIn};
@@ -104,7 +106,7 @@ fn put_size(text: &mut [u8], size: Size) -> usize
 }
 
 // A text's length, and the file as it was opened.
-#[derive(Drop)]
+#[derive(Clone, Copy)]
 struct First {
     length: usize,
     opening: Opening,

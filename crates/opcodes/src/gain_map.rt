@@ -13,7 +13,7 @@ use reading::number::Order;
 use reading::{number, real};
 
 // The points of one direction.
-#[derive(Drop)]
+#[derive(Clone, Copy)]
 pub struct Axis {
     pub points: usize,
     pub spacing: f64,
@@ -21,14 +21,14 @@ pub struct Axis {
 }
 
 // At a point, or between a point and the next one, with the part of the way.
-#[derive(Drop)]
+#[derive(Clone, Copy)]
 pub enum Bracket {
     At(usize),
     Between(usize, f64),
 }
 
 // The gains at a point and the next one across, of a map row and the next one down; the two points as places.
-#[derive(Drop)]
+#[derive(Clone, Copy)]
 pub struct Corners {
     pub point: usize,
     pub from: f64,

@@ -8,14 +8,14 @@ use reading::number;
 use reading::number::Order;
 
 // The active frame's size.
-#[derive(Drop)]
+#[derive(Clone, Copy)]
 pub struct Size {
     pub rows: usize,
     pub columns: usize,
     pub samples: usize,
 }
 
-#[derive(Drop)]
+#[derive(Clone, Copy)]
 pub struct Grid {
     pub top: usize,
     pub left: usize,

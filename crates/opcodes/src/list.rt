@@ -11,7 +11,7 @@ use reading::real;
 use reading::real::Real;
 
 // An opcode's header; `length` is that of its parameters, in bytes.
-#[derive(Drop)]
+#[derive(Clone, Copy)]
 pub struct Header {
     pub id: usize,
     pub version: usize,
@@ -20,7 +20,7 @@ pub struct Header {
 }
 
 // Carried; if not, skipped (Optional) or refused by 11 (Compulsory).
-#[derive(Drop)]
+#[derive(Clone, Copy)]
 pub enum Class {
     Carried,
     Optional,
@@ -29,7 +29,7 @@ pub enum Class {
 
 // What stands behind a grid and its LONG: whether the LONG is legal, how many bytes, and how many of
 // them are FLOATs or DOUBLEs.
-#[derive(Drop)]
+#[derive(Clone, Copy)]
 pub struct Form {
     pub legal: bool,
     pub bytes: usize,
@@ -38,13 +38,13 @@ pub struct Form {
 }
 
 // Opcodes kept, and opcodes skipped.
-#[derive(Drop)]
+#[derive(Clone, Copy)]
 pub struct Counts {
     pub kept: usize,
     pub skipped: usize,
 }
 
-#[derive(Drop)]
+#[derive(Clone, Copy)]
 pub enum ListTest {
     Refused { number: usize, detail: usize },
     Is(Counts),

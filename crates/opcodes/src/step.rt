@@ -14,7 +14,7 @@ use reading::{number, real};
 
 // An added number, a factor, nine coefficients with the constant first, or the place of a table: its
 // size and then its entries.
-#[derive(Drop)]
+#[derive(Clone, Copy)]
 pub enum Step {
     Add(f64),
     Scale(f64),

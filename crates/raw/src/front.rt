@@ -13,20 +13,20 @@ use rawtags::{Tags, TagsTest};
 use reading::number::Order;
 
 // The raw directory's tags, and S of each plane.
-#[derive(Drop)]
+#[derive(Clone, Copy)]
 pub struct Raw {
     pub tags: Tags,
     pub spans: Spans,
 }
 
-#[derive(Drop)]
+#[derive(Clone, Copy)]
 pub enum RawTest {
     Refused { number: usize, detail: usize },
     Is(Raw),
 }
 
 // IFD 0, the raw directory, the byte order, and what the raw directory says.
-#[derive(Drop)]
+#[derive(Clone, Copy)]
 pub struct Picture {
     pub first: Ifd,
     pub directory: Ifd,
@@ -34,7 +34,7 @@ pub struct Picture {
     pub raw: Raw,
 }
 
-#[derive(Drop)]
+#[derive(Clone, Copy)]
 pub enum Front {
     Refused { number: usize, detail: usize },
     Is(Picture),

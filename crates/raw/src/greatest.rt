@@ -19,7 +19,7 @@ use reading::number;
 use reading::number::Order;
 
 // The greatest deltas of the columns and of the rows, by residue: by the column and the row of the repeat that they meet.
-#[derive(Drop)]
+#[derive(Clone, Copy)]
 pub struct GreatestDeltas {
     pub columns: [i64; 8],
     pub rows: [i64; 8],

@@ -12,14 +12,14 @@ use directory::{Ifd, names, tag};
 use levels::active::{ActiveColumn, ActiveRow};
 use reading::number;
 
-#[derive(Drop)]
+#[derive(Clone, Copy)]
 pub struct StoredRow(pub usize);
 
-#[derive(Drop)]
+#[derive(Clone, Copy)]
 pub struct StoredColumn(pub usize);
 
 // In stored rows and columns; bottom and right are past the area.
-#[derive(Drop)]
+#[derive(Clone, Copy)]
 pub struct Area {
     pub top: usize,
     pub left: usize,
@@ -27,7 +27,7 @@ pub struct Area {
     pub right: usize,
 }
 
-#[derive(Drop)]
+#[derive(Clone, Copy)]
 pub enum AreaTest {
     Refused { number: usize, detail: usize },
     Is(Area),

@@ -11,7 +11,7 @@ use directory::{Ifd, names};
 use reading::number;
 
 // In active rows and columns.
-#[derive(Drop)]
+#[derive(Clone, Copy)]
 pub struct Crop {
     pub left: usize,
     pub top: usize,
@@ -19,7 +19,7 @@ pub struct Crop {
     pub rows: usize,
 }
 
-#[derive(Drop)]
+#[derive(Clone, Copy)]
 pub enum CropTest {
     Refused { number: usize, detail: usize },
     Is(Crop),

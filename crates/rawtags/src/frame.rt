@@ -11,14 +11,14 @@ use directory::tag::{Kinds, Range, Rule};
 use directory::{Ifd, Number, names, tag};
 
 // Columns and rows as stored, and samples per pixel.
-#[derive(Drop)]
+#[derive(Clone, Copy)]
 pub struct Dimensions {
     pub width: usize,
     pub length: usize,
     pub samples: usize,
 }
 
-#[derive(Drop)]
+#[derive(Clone, Copy)]
 pub enum DimensionsTest {
     Refused { number: usize, detail: usize },
     Is(Dimensions),

@@ -14,13 +14,13 @@ use directory::{Ifd, Number, names, tag};
 use reading::number;
 
 // Bytes per sample, and rows per strip.
-#[derive(Drop)]
+#[derive(Clone, Copy)]
 pub struct Layout {
     pub bytes: usize,
     pub rows: usize,
 }
 
-#[derive(Drop)]
+#[derive(Clone, Copy)]
 pub enum LayoutTest {
     Refused { number: usize, detail: usize },
     Is(Layout),

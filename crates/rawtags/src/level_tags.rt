@@ -10,7 +10,7 @@ use crate::{black, repeat, white};
 use directory::tag::{Values, ValuesTest};
 use directory::{Ifd, names};
 
-#[derive(Drop)]
+#[derive(Clone, Copy)]
 pub struct LevelTags {
     pub table: Values,
     pub repeat: Repeat,
@@ -20,7 +20,7 @@ pub struct LevelTags {
     pub white: Values,
 }
 
-#[derive(Drop)]
+#[derive(Clone, Copy)]
 pub enum LevelTagsTest {
     Refused { number: usize, detail: usize },
     Is(LevelTags),

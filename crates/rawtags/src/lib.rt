@@ -1,4 +1,6 @@
 // The tags of the raw directory, in order of test.
+#![tactic(auto)]
+
 ghost use Rattle.std.specs.Prelude.{◌≡◌, length};
 ghost use Rattle.reading.specs.Reading.{run};
 ghost use Rattle.directory.specs.Facts.Shape.{Tested};
@@ -27,7 +29,7 @@ pub mod white;
 pub mod whole;
 
 // What the tags say, and where their values stand.
-#[derive(Drop)]
+#[derive(Clone, Copy)]
 pub struct Tags {
     pub frame: Dimensions,
     pub layout: Layout,
@@ -38,7 +40,7 @@ pub struct Tags {
     pub list: Values,
 }
 
-#[derive(Drop)]
+#[derive(Clone, Copy)]
 pub enum TagsTest {
     Refused { number: usize, detail: usize },
     Is(Tags),

@@ -12,7 +12,7 @@ use directory::{Ifd, Number, names, tag};
 use reading::number;
 
 // The places of a block's red, its two greens and its blue: 0 to 3, row by row.
-#[derive(Drop)]
+#[derive(Clone, Copy)]
 pub struct Pattern {
     pub red: usize,
     pub green1: usize,
@@ -20,7 +20,7 @@ pub struct Pattern {
     pub blue: usize,
 }
 
-#[derive(Drop)]
+#[derive(Clone, Copy)]
 pub enum PatternTest {
     Refused { number: usize, detail: usize },
     Is(Pattern),

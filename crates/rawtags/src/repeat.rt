@@ -9,13 +9,13 @@ use directory::tag::{Kinds, Range, Rule, ValuesTest};
 use directory::{Ifd, Number, names, tag};
 use reading::number;
 
-#[derive(Drop)]
+#[derive(Clone, Copy)]
 pub struct Repeat {
     pub rows: usize,
     pub columns: usize,
 }
 
-#[derive(Drop)]
+#[derive(Clone, Copy)]
 pub enum RepeatTest {
     Refused { number: usize, detail: usize },
     Is(Repeat),

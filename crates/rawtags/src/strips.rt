@@ -18,7 +18,7 @@ use reading::number;
 use reading::number::Order;
 
 // Where the numbers of one tag stand and how wide they are.
-#[derive(Drop)]
+#[derive(Clone, Copy)]
 pub struct Run {
     pub place: usize,
     pub size: usize,

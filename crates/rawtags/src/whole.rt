@@ -14,13 +14,13 @@ use reading::number;
 use reading::number::Order;
 
 // In columns and in rows.
-#[derive(Drop)]
+#[derive(Clone, Copy)]
 pub struct Lengths {
     pub horizontal: usize,
     pub vertical: usize,
 }
 
-#[derive(Drop)]
+#[derive(Clone, Copy)]
 pub enum LengthsTest {
     Refused { number: usize, detail: usize },
     Is(Lengths),

@@ -18,7 +18,7 @@ use opcodes::step::Step;
 use opcodes::{gain_map, grid, step};
 
 // A grid's columns, from number `skip` on, in a part of a row: at first, first + step, .. below end.
-#[derive(Drop)]
+#[derive(Clone, Copy)]
 pub struct Columns {
     pub left: usize,
     pub pitch: usize,

@@ -11,7 +11,7 @@ use reading::number;
 use reading::number::Order;
 
 // How the samples are read, the first at a place, the table's place and count, and the row's delta.
-#[derive(Drop)]
+#[derive(Clone, Copy)]
 pub struct Line {
     pub order: Order,
     pub bytes: usize,

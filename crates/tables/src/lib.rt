@@ -1,5 +1,7 @@
 // 8-bit mosaics without deltas: tables of the scaled values of all 256 bytes, one for each cell of the black level, and rows of samples
 // looked up in them.
+#![tactic(auto)]
+
 ghost use Rattle.std.specs.Prelude.{◌≡◌};
 ghost use Rattle.tables.specs.Tables.{tabled};
 

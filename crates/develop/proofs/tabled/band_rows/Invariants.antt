@@ -1,0 +1,24 @@
+use mathlib.Core.Path.{◌≡◌, refl, sym, ap, ◌∙◌}
+use Prim.Native.Nat.{ℕ, ◌+◌, ◌-◌, ◌*◌, ◌≤◌, ◌<◌}
+use native.Mathlib.Nat.{zero-mul, add-mul, mul-le-mul_right}
+use native.Mathlib.Omega.{arith}
+use borrow.Author.Rules.{rules}
+use lib.ListN.{length, take, drop}
+use mathlib.Core.List.{List}
+use lib.Ieee.{Float}
+use Rattle.develop.specs.Calls.{alone_in}
+use Rattle.develop.specs.Facts.Fill.{number_of}
+use Rattle.develop.specs.Facts.Tabled.{rows_met, RowsUpto}
+use Rattle.develop.specs.Facts.View.{Viewed}
+use Rattle.develop.proofs.Bands.{Banded, banded_start, banded_next, banded_end}
+use Rattle.develop.proofs.Windows.{part_length, viewed_sized}
+use Rattle.develop.proofs.tabled.band_rows.Given as goal
+
+abbrev pub invariant-loop-i : goal.invariant-loop-i
+invariant-loop-i l =
+    (length l.out ≡ length l.initial.out) × (l.i ≤ l.height) × (l.a ≡ l.i * l.width)
+    × ((q : Viewed l.file l.view) → let x = number_of (alone_in l.file q.file) l.window l.view.size.samples in
+    RowsUpto x (rows_met l.view l.window) l.height l.width l.from l.initial.out → Banded x (rows_met l.view l.window) l.height l.width l.from l.count l.i l.out)
+
+abbrev pub decreases-loop-i : goal.decreases-loop-i
+decreases-loop-i l = l.height - l.i

@@ -1,0 +1,22 @@
+use mathlib.Core.Path.{◌≡◌, refl, sym, ap, subst, ◌∙◌}
+use Prim.Native.Nat.{◌+◌, ◌-◌, ◌*◌, ◌≤◌}
+use native.Mathlib.Omega.{arith}
+use lib.ListN.{length}
+use Rattle.reading.specs.Reading.{run}
+use Rattle.directory.specs.Out.{Out.is}
+use Rattle.directory.specs.Facts.Out.{number_out}
+use Rattle.directory.specs.Widths.{entry_width}
+use Rattle.directory.specs.Shape.{entry_reading, shape_from}
+use Rattle.directory.specs.Facts.Shape.{TagIn}
+use Rattle.directory.proofs.Entries.{entry_most, OneMore, one_more}
+use Rattle.directory.proofs.Shapes.{shape_none, shape_refused, shape_order, shape_next}
+use borrow.Author.Rules.{rules}
+use Rattle.directory.proofs.shape.check_entries.Given as goal
+
+abbrev pub invariant-loop-left : goal.invariant-loop-left
+invariant-loop-left l =
+    (run l.file (shape_from l.widths (length l.file) l.order l.count l.at 0) ≡ run l.file (shape_from l.widths (length l.file) l.order l.left l.p l.low))
+    × (l.p + entry_width l.widths * l.left ≤ length l.file)
+
+abbrev pub decreases-loop-left : goal.decreases-loop-left
+decreases-loop-left l = l.left

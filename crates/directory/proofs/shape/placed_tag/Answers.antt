@@ -1,0 +1,87 @@
+use mathlib.Core.Path.{◌≡◌, ap}
+use Prim.Native.Nat.{ℕ, ◌+◌, ◌*◌}
+use native.Mathlib.Omega.{arith}
+use Rattle.reading.specs.Bytes.{part}
+use Rattle.directory.specs.Widths.{head_width}
+use Rattle.directory.specs.Entry.{kind_of, entry_of}
+use Rattle.directory.specs.declared.entry.Entry.{Entry}
+use Rattle.directory.proofs.Entries.{wide_most, fit, unfit, header_at}
+use Rattle.directory.proofs.Shapes.{entry_within, entry_inside, entry_outside}
+use borrow.Author.Rules.{rules}
+use Rattle.directory.proofs.shape.placed_tag.Goals as goal
+use Rattle.directory.proofs.shape.placed_tag.Goals.{After-value-count}
+
+pub short-tag-requires : goal.short-tag-requires
+short-tag-requires c =
+    omega arith
+
+pub short-requires : goal.short-requires
+short-requires c =
+    omega arith
+
+pub size_of-size-requires : goal.size_of-size-requires
+size_of-size-requires c =
+    c.requires.2.types
+
+pub value-count-requires : goal.value-count-requires
+value-count-requires c =
+    let pre = c.requires in
+    (omega arith, pre.2.word)
+
+pub fits-requires : goal.fits-requires
+fits-requires c =
+    let pre = c.requires in
+    let w = wide_most _ pre.2.word in (omega arith, omega arith)
+
+-- the entry whose fields were read
+abbrev entry : After-value-count → Entry
+entry c =
+    record {
+      tag = c.short-tag.result;
+      kind = kind_of c.args.widths.types c.short.result;
+      count = c.value-count.result;
+    }
+
+head : (c : After-value-count) → let a = c.args in
+    entry c ≡ entry_of a.widths a.order (part a.file.now a.at (head_width a.widths))
+head c =
+    let a = c.args in
+    let k = ap (kind_of a.widths.types) c.short.ensures in
+    header_at a.widths a.file.now a.order a.at _ _ _ c.short-tag.ensures k c.value-count.ensures
+
+pub returns-then-fits : goal.returns-then-fits
+returns-then-fits c =
+    let h = (goal.at.returns-then-fits c).After-value-count in
+    let a = h.args in
+    let b = fit (λ (m : ℕ). m * h.value-count.result) (entry (goal.at.returns-then-fits c).After-value-count).kind _ _ _ h.type_size.ensures.0 c.fits.ensures
+    c.if-fits.true in record { result_value = entry_within a.widths a.file.now _ _ _ (entry (goal.at.returns-then-fits c).After-value-count) (head (goal.at.returns-then-fits c).After-value-count) b; tag_in = omega arith }
+
+pub value-place-requires : goal.value-place-requires
+value-place-requires c =
+    let pre = c.requires in
+    (omega arith, pre.2.word)
+
+pub many_inside-requires : goal.many_inside-requires
+many_inside-requires c =
+    let pre = c.requires in
+    (omega arith, pre.1)
+
+pub returns-then-many_inside : goal.returns-then-many_inside
+returns-then-many_inside c =
+    let v = (goal.at.returns-then-many_inside c).After-value-place in
+    let h = (goal.at.returns-then-many_inside c).After-value-count in
+    let a = h.args in
+    let s = h.type_size.ensures.0 in
+    let b = unfit (λ (m : ℕ). m * h.value-count.result) (entry (goal.at.returns-then-many_inside c).After-value-count).kind _ _ _ s v.fits.ensures v.if-fits.false in
+    let r = fit (λ (m : ℕ). v.value-place.result + m * h.value-count.result) (entry (goal.at.returns-then-many_inside c).After-value-count).kind _ _ _ s c.many_inside.ensures
+    c.if-many_inside.true in record { result_value = entry_inside a.widths a.file.now _ _ _ (entry (goal.at.returns-then-many_inside c).After-value-count) (head (goal.at.returns-then-many_inside c).After-value-count) b _ v.value-place.ensures r; tag_in = omega arith }
+
+pub returns-else-many_inside : goal.returns-else-many_inside
+returns-else-many_inside c =
+    let v = (goal.at.returns-else-many_inside c).After-value-place in
+    let h = (goal.at.returns-else-many_inside c).After-value-count in
+    let a = h.args in
+    let s = h.type_size.ensures.0 in
+    let b = unfit (λ (m : ℕ). m * h.value-count.result) (entry (goal.at.returns-else-many_inside c).After-value-count).kind _ _ _ s v.fits.ensures v.if-fits.false in
+    let r = unfit (λ (m : ℕ). v.value-place.result + m * h.value-count.result) (entry (goal.at.returns-else-many_inside c).After-value-count).kind _ _ _ s c.many_inside.ensures
+    c.if-many_inside.false in record { result_value = entry_outside a.widths a.file.now _ _ _ (entry (goal.at.returns-else-many_inside c).After-value-count) (head (goal.at.returns-else-many_inside c).After-value-count) b _ v.value-place.ensures r; tag_in = tt }

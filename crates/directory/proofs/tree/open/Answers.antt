@@ -1,0 +1,123 @@
+use mathlib.Core.Path.{◌≡◌, refl, sym, ◌∙◌}
+use mathlib.Core.Bool.{false}
+use Prim.Native.Nat.{◌≤◌}
+use native.Mathlib.Omega.{arith}
+use lib.ListN.{length, take}
+use Rattle.reading.specs.declared.number.Order.TheVariants.{Little, Big}
+use Rattle.directory.specs.Tree.{same_bytes, classic_mark, big_tiff_mark}
+use Rattle.directory.proofs.Trees.{classic_laid, tree_small, tree_large, tree_classic_little, tree_classic_big, tree_big_tiff_little}
+use Rattle.directory.proofs.Trees.{tree_big_tiff_big, tree_other}
+use Rattle.directory.proofs.tree.open.Goals as goal
+use Rattle.directory.proofs.tree.open.Goals.{After-starts_with, After-starts_with-2, After-starts_with-3, After-starts_with-4}
+
+pub returns-then-file-lt8 : goal.returns-then-file-lt8
+returns-then-file-lt8 c =
+    (tree_small _ _ c.if-file-lt8.true, tt)
+
+pub returns-then-file-gt67108864 : goal.returns-then-file-gt67108864
+returns-then-file-gt67108864 c =
+    (tree_large _ _ c.if-file-lt8.false c.if-file-gt67108864.true, tt)
+
+-- the file's length
+least : (c : After-starts_with) → 8 ≤ length c.args.file.now
+least c = c.if-file-lt8.false
+
+most : (c : After-starts_with) → length c.args.file.now ≤ 67108864
+most c = c.if-file-gt67108864.false
+
+-- the marks that it does not start with
+not_little : (c : After-starts_with-2) → let a = c.args in
+    same_bytes (take 4 a.file.now) (classic_mark Little) ≡ false
+not_little c = sym c.starts_with.ensures ∙ c.if-starts_with.false
+
+not_big : (c : After-starts_with-3) →
+    let a = c.args in
+    same_bytes (take 4 a.file.now) (classic_mark Big) ≡ false
+not_big c = sym c.starts_with-2.ensures ∙ c.if-starts_with-2.false
+
+not_big_tiff_little : (c : After-starts_with-4) →
+    let a = c.args in
+    same_bytes (take 4 a.file.now) (big_tiff_mark Little) ≡ false
+not_big_tiff_little c = sym c.starts_with-3.ensures ∙ c.if-starts_with-3.false
+
+pub starts_with-requires : goal.starts_with-requires
+starts_with-requires c =
+    (omega arith, refl)
+
+pub root_from-requires : goal.root_from-requires
+root_from-requires c = let k =
+    (goal.at.root_from-requires c).After-starts_with in (most k, classic_laid _ refl refl (omega arith), omega (arith, least k))
+
+pub returns-then-starts_with : goal.returns-then-starts_with
+returns-then-starts_with c =
+    let k = (goal.at.returns-then-starts_with c).After-starts_with in (
+      c.root_from.ensures.0
+          ∙ sym (tree_classic_little _ _ (least (goal.at.returns-then-starts_with c).After-starts_with) (most (goal.at.returns-then-starts_with c).After-starts_with) (sym k.starts_with.ensures ∙ c.if-starts_with.true)),
+      c.root_from.ensures.1,
+    )
+
+pub starts_with-requires-2 : goal.starts_with-requires-2
+starts_with-requires-2 c =
+    (omega arith, refl)
+
+pub root_from-requires-then-starts_with-2 : goal.root_from-requires-then-starts_with-2
+root_from-requires-then-starts_with-2 c =
+    let k = (goal.at.root_from-requires-then-starts_with-2 c).After-starts_with in
+    (most (goal.at.root_from-requires-then-starts_with-2 c).After-starts_with, classic_laid _ refl refl (omega arith), omega (arith, least (goal.at.root_from-requires-then-starts_with-2 c).After-starts_with))
+
+pub returns-then-starts_with-2 : goal.returns-then-starts_with-2
+returns-then-starts_with-2 c =
+    let m = (goal.at.returns-then-starts_with-2 c).After-starts_with-2 in
+    let k = (goal.at.returns-then-starts_with-2 c).After-starts_with in (
+      c.root_from-then-starts_with-2.ensures.0
+          ∙ sym (tree_classic_big _ _ (least (goal.at.returns-then-starts_with-2 c).After-starts_with) (most (goal.at.returns-then-starts_with-2 c).After-starts_with) (not_little (goal.at.returns-then-starts_with-2 c).After-starts_with-2) (sym m.starts_with-2.ensures ∙ c.if-starts_with-2.true)),
+      c.root_from-then-starts_with-2.ensures.1,
+    )
+
+pub starts_with-requires-3 : goal.starts_with-requires-3
+starts_with-requires-3 c =
+    (omega arith, refl)
+
+pub big_tiff_root-requires : goal.big_tiff_root-requires
+big_tiff_root-requires c = let k =
+    (goal.at.big_tiff_root-requires c).After-starts_with in most k
+
+pub returns-then-starts_with-3 : goal.returns-then-starts_with-3
+returns-then-starts_with-3 c =
+    let o = (goal.at.returns-then-starts_with-3 c).After-starts_with-3 in
+    let m = (goal.at.returns-then-starts_with-3 c).After-starts_with-2 in
+    let k = (goal.at.returns-then-starts_with-3 c).After-starts_with in (
+      c.big_tiff_root.ensures.0
+          ∙ sym (tree_big_tiff_little _ _ (least (goal.at.returns-then-starts_with-3 c).After-starts_with) (most (goal.at.returns-then-starts_with-3 c).After-starts_with) (not_little (goal.at.returns-then-starts_with-3 c).After-starts_with-2) (not_big (goal.at.returns-then-starts_with-3 c).After-starts_with-3)
+          (sym o.starts_with-3.ensures ∙ c.if-starts_with-3.true)),
+      c.big_tiff_root.ensures.1,
+    )
+
+pub starts_with-requires-4 : goal.starts_with-requires-4
+starts_with-requires-4 c =
+    (omega arith, refl)
+
+pub big_tiff_root-requires-then-starts_with-4 : goal.big_tiff_root-requires-then-starts_with-4
+big_tiff_root-requires-then-starts_with-4 c = let k =
+    (goal.at.big_tiff_root-requires-then-starts_with-4 c).After-starts_with in most k
+
+pub returns-then-starts_with-4 : goal.returns-then-starts_with-4
+returns-then-starts_with-4 c =
+    let q = (goal.at.returns-then-starts_with-4 c).After-starts_with-4 in
+    let o = (goal.at.returns-then-starts_with-4 c).After-starts_with-3 in
+    let m = (goal.at.returns-then-starts_with-4 c).After-starts_with-2 in
+    let k = (goal.at.returns-then-starts_with-4 c).After-starts_with in
+    let e = sym q.starts_with-4.ensures ∙ c.if-starts_with-4.true in (
+      c.big_tiff_root-then-starts_with-4.ensures.0 ∙ sym (tree_big_tiff_big _ _ (least (goal.at.returns-then-starts_with-4 c).After-starts_with) (most (goal.at.returns-then-starts_with-4 c).After-starts_with) (not_little (goal.at.returns-then-starts_with-4 c).After-starts_with-2) (not_big (goal.at.returns-then-starts_with-4 c).After-starts_with-3) (not_big_tiff_little (goal.at.returns-then-starts_with-4 c).After-starts_with-4) e),
+      c.big_tiff_root-then-starts_with-4.ensures.1,
+    )
+
+pub returns : goal.returns
+returns c =
+    let q = (goal.at.returns c).After-starts_with-4 in
+    let o = (goal.at.returns c).After-starts_with-3 in
+    let m = (goal.at.returns c).After-starts_with-2 in
+    let k = (goal.at.returns c).After-starts_with in (
+      tree_other _ _ (least (goal.at.returns c).After-starts_with) (most (goal.at.returns c).After-starts_with) (not_little (goal.at.returns c).After-starts_with-2) (not_big (goal.at.returns c).After-starts_with-3) (not_big_tiff_little (goal.at.returns c).After-starts_with-4) (sym q.starts_with-4.ensures ∙ c.if-starts_with-4.false),
+      tt,
+    )

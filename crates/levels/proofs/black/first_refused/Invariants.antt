@@ -1,0 +1,20 @@
+use mathlib.Core.Path.{◌≡◌, sym, ap, ◌∙◌}
+use Prim.Native.Nat.{ℕ, ◌<◌, ◌+◌, ◌-◌, ◌*◌}
+use native.Mathlib.Nat.{mul-suc, mul-zero}
+use native.Mathlib.Numerals.{add-one}
+use native.Mathlib.Omega.{arith}
+use borrow.Author.Rules.{rules}
+use Rattle.levels.specs.Run.{run_of}
+use Rattle.levels.specs.Black.{black_at, or_next, first_refused}
+use Rattle.levels.specs.declared.black.Black.{Black}
+use Rattle.levels.proofs.Runs.{refused_next, refused_over}
+use Rattle.levels.proofs.black.first_refused.Given as goal
+
+-- The invariant: the first refused of all is the first refused of what is left of the run.
+abbrev pub invariant-loop-i : goal.invariant-loop-i
+invariant-loop-i l =
+    (l.p ≡ l.at + l.step * l.i)
+    × (first_refused (run_of (black_at l.kind l.order l.s) l.step l.p (l.count - l.i)) ≡ first_refused (run_of (black_at l.kind l.order l.s) l.step l.at l.count))
+
+abbrev pub decreases-loop-i : goal.decreases-loop-i
+decreases-loop-i l = l.count - l.i

@@ -1,0 +1,8 @@
+use mathlib.Core.Path.{refl}
+use lib.Ieee.{of_bits}
+use Rattle.levels.proofs.reciprocal.whole.Goals as goal
+
+pub returns : goal.returns
+unfolding of_bits
+returns c =
+    refl

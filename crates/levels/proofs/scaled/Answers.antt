@@ -1,0 +1,9 @@
+use mathlib.Core.Path.{refl}
+use borrow.Author.Rules.{rules}
+use lib.Ieee.{of_bits}
+use Rattle.levels.proofs.scaled.Goals as goal
+
+pub returns : goal.returns
+unfolding of_bits
+returns c =
+    refl

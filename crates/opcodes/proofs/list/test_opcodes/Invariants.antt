@@ -1,0 +1,17 @@
+use Rattle.std.proofs.Common.{◌≡◌, ℕ, ◌+◌, ◌-◌, ◌<◌, ◌≤◌, length, sym, refl, ap, ◌∙◌, arith, rules}
+use native.Mathlib.Nat.{sub-zero}
+use Rattle.reading.specs.Bytes.{part}
+use Rattle.reading.specs.Reading.{run}
+use Rattle.directory.specs.Out.{Out.is}
+use Rattle.opcodes.specs.OpcodeList.{header_of, class_of, opcode_reading, list_from}
+use Rattle.opcodes.specs.Facts.OpcodeList.{none, counted_one, counted_on, list_out}
+use Rattle.opcodes.proofs.Listing.{list_short, list_over, list_refused, list_next, list_end, list_left, counted_bound}
+use Rattle.opcodes.proofs.list.test_opcodes.Given as goal
+
+abbrev pub invariant-loop-i : goal.invariant-loop-i
+invariant-loop-i l =
+    (counted_on none (run l.file (list_from l.size l.count 0 l.at l.bytes)) ≡ counted_on l.counts (run l.file (list_from l.size (l.count - l.i) l.i l.p l.rest)))
+    × (l.p + l.rest ≤ length l.file) × (l.i ≤ l.count) × (l.counts.kept ≤ l.i) × (l.counts.skipped ≤ l.i)
+
+abbrev pub decreases-loop-i : goal.decreases-loop-i
+decreases-loop-i l = l.count - l.i

@@ -1,0 +1,38 @@
+use Rattle.std.proofs.Common.{ap, ◌∙◌, subst, arith, rules}
+use Rattle.levels.specs.Clip.{clip_of}
+use Rattle.opcodes.specs.Step.{horner_of, result_of, applied_of}
+use Rattle.opcodes.specs.Facts.Step.{TableIn, StepIn}
+use Rattle.opcodes.proofs.step.apply.Goals as goal
+
+pub field-requires : goal.field-requires
+field-requires c =
+    let a = c.args in
+    let pre = c.requires in
+    let t : TableIn a.file.now _ = subst (StepIn a.file.now) c.in-Table.is pre in omega (arith, t.inside)
+
+pub mapped-requires : goal.mapped-requires
+mapped-requires c =
+    let a = c.args in
+    let pre = c.requires in
+    (subst (StepIn a.file.now) c.in-Table.is pre, c.field.ensures.0)
+
+pub returns-in-Add : goal.returns-in-Add
+unfolding applied_of result_of horner_of
+returns-in-Add c =
+    rw c.in-Add.is c.clip.ensures
+
+pub returns-in-Scale : goal.returns-in-Scale
+unfolding applied_of result_of horner_of
+returns-in-Scale c =
+    rw c.in-Scale.is c.clip-in-Scale.ensures
+
+pub returns-in-Polynomial : goal.returns-in-Polynomial
+unfolding applied_of result_of horner_of
+returns-in-Polynomial c =
+    rw c.in-Polynomial.is c.clip-in-Polynomial.ensures
+
+pub returns-in-Table : goal.returns-in-Table
+unfolding applied_of result_of horner_of
+returns-in-Table c =
+    let step4 = c.step-in-Table-1 in
+    rw step4.given.1 (c.clip-in-Table.ensures ∙ ap clip_of c.mapped.ensures)

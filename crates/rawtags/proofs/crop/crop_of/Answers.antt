@@ -1,0 +1,32 @@
+use mathlib.Core.Path.{sym, ap, ◌∙◌}
+use Rattle.reading.proofs.Reading.{run_answer}
+use Rattle.directory.proofs.Outs.{bind_refused, bind_is}
+use Rattle.rawtags.specs.Crop.{crop_reading}
+use Rattle.rawtags.specs.Facts.Whole.{lengths_out}
+use borrow.Author.Rules.{rules}
+use Rattle.rawtags.proofs.crop.crop_of.Goals as goal
+
+pub returns-in-Refused : goal.returns-in-Refused
+unfolding crop_reading
+returns-in-Refused c =
+    (bind_refused _ _ _ _ _ (ap lengths_out (sym c.in-Refused.is) ∙ c.lengths_of.ensures), tt)
+
+pub returns-in-Refused-lengths_of : goal.returns-in-Refused-lengths_of
+unfolding crop_reading
+returns-in-Refused-lengths_of c =
+    let s = (goal.at.returns-in-Refused-lengths_of c).After-lengths_of-2 in (
+      bind_refused _ _ _ _ _ (ap lengths_out (sym c.in-Refused-lengths_of.is) ∙ s.lengths_of-2.ensures)
+          ∙ sym (bind_is _ _ _ _ (ap lengths_out (sym s.in-Is.is) ∙ s.lengths_of.ensures)),
+      tt,
+    )
+
+pub returns : goal.returns
+unfolding crop_reading
+returns c =
+    let w = (goal.at.returns c).In-Is-lengths_of-2 in
+    let s = (goal.at.returns c).After-lengths_of-2 in (
+      c.tested_crop.ensures.0
+          ∙ sym (bind_is _ _ _ _ (ap lengths_out (sym s.in-Is.is) ∙ s.lengths_of.ensures)
+          ∙ bind_is _ _ _ _ (ap lengths_out (sym w.in-Is-lengths_of.is) ∙ s.lengths_of-2.ensures) ∙ run_answer _ _),
+      c.tested_crop.ensures.1,
+    )

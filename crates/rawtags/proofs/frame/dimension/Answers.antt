@@ -1,0 +1,8 @@
+use Rattle.rawtags.specs.Frame.{dimension_reading}
+use borrow.Author.Rules.{rules}
+use Rattle.rawtags.proofs.frame.dimension.Goals as goal
+
+pub returns : goal.returns
+unfolding dimension_reading
+returns c =
+    c.one.ensures

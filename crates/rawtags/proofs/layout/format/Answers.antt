@@ -1,0 +1,8 @@
+use Rattle.rawtags.specs.Layout.{format_reading}
+use borrow.Author.Rules.{rules}
+use Rattle.rawtags.proofs.layout.format.Goals as goal
+
+pub returns : goal.returns
+unfolding format_reading
+returns c =
+    c.all.ensures.0

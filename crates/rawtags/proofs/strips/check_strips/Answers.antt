@@ -1,0 +1,95 @@
+use mathlib.Core.Path.{◌≡◌, refl, sym, ◌∙◌}
+use Prim.Native.Nat.{◌+◌, ◌-◌, ◌*◌, ◌≤◌}
+use native.Mathlib.Omega.{arith}
+use native.Mathlib.Nat.{min-le_right}
+use lib.ListN.{length}
+use borrow.Author.Tests.{leb-true, leb-false, not-true, not-false}
+use borrow.Author.Rules.{rules}
+use Rattle.reading.specs.Reading.{run}
+use Rattle.directory.proofs.Entries.{OneMore, one_more}
+use Rattle.rawtags.specs.Strips.{strip_from}
+use Rattle.rawtags.proofs.Strip.{strip_bytes_fit, strip_none, strip_bytes_law, strip_outside, strip_next}
+use Rattle.rawtags.proofs.strips.check_strips.Goals as goal
+use Rattle.rawtags.proofs.strips.check_strips.Goals.{In-loop-left}
+
+pub loop-left-init : goal.loop-left-init
+loop-left-init c =
+    (refl, c.requires.count_in_bounds.0, c.requires.count_in_bounds_2.0.0, omega arith)
+
+-- one more offset lies in the file, and so do the others after it
+offsets : (c : In-loop-left) → let l = c.loop-left in let a = c.args in
+    OneMore l.p a.offsets.size l.left (length a.file.now)
+offsets c = one_more _ _ _ _ c.loop-left-test.true c.loop-left.invariant.1
+
+-- and so with the byte counts
+counts : (c : In-loop-left) → let l = c.loop-left in let a = c.args in
+    OneMore l.q a.counts.size l.left (length a.file.now)
+counts c = one_more _ _ _ _ c.loop-left-test.true c.loop-left.invariant.2
+
+pub value-bytes-requires : goal.value-bytes-requires
+value-bytes-requires c =
+    let pre = c.requires in
+    ((counts (goal.at.value-bytes-requires c).In-loop-left).0, pre.count_in_bounds_2.0.1)
+
+pub overflow_mul-here : goal.overflow_mul-here
+overflow_mul-here c =
+    let s = (goal.at.overflow_mul-here c).After-smaller-here in
+    let m = min-le_right s.args.rows s.loop-left.rest in
+    let e = s.smaller-here.ensures in
+    omega (arith, strip_bytes_fit s.smaller-here.result s.args.row (omega arith) s.requires.count_in_bounds_2.1.1)
+
+pub returns-then-bytes-here : goal.returns-then-bytes-here
+returns-then-bytes-here c =
+    let l = c.loop-left in
+    let f = c.args.file.now in
+    strip_bytes_law f _ _ _ _ _ _ _ _ _ l.left (l.left - 1) (omega arith) _ c.smaller-here.ensures _ c.value-bytes.ensures
+    c.if-bytes-here.true
+    ∙ sym l.invariant.0
+
+pub value-place-requires : goal.value-place-requires
+value-place-requires c = let i =
+    (goal.at.value-place-requires c).In-loop-left in ((offsets i).0, i.before.before.before.requires.0.1)
+
+pub returns-then-not-inside : goal.returns-then-not-inside
+returns-then-not-inside c =
+    let v = (goal.at.returns-then-not-inside c).After-value-place in
+    let l = v.loop-left in
+    let f = v.args.file.now in
+    let o = leb-false _ _ (sym c.inside.ensures ∙ not-true _ c.if-not-inside.true) in
+    strip_outside f _ _ _ _ _ _ _ _ _ l.left (l.left - 1) (omega arith)
+    _ v.smaller-here.ensures _ v.value-bytes.ensures v.if-bytes-here.false _ v.value-place.ensures o
+    ∙ sym l.invariant.0
+
+pub overflow_add-p : goal.overflow_add-p
+overflow_add-p c =
+    omega (arith, (offsets (goal.at.overflow_add-p c).In-loop-left).0)
+
+pub overflow_add-q : goal.overflow_add-q
+overflow_add-q c =
+    omega (arith, (counts (goal.at.overflow_add-q c).In-loop-left).0)
+
+pub overflow_sub-rest : goal.overflow_sub-rest
+overflow_sub-rest c =
+    omega (arith, min-le_right c.args.rows c.loop-left.rest, c.smaller-here.ensures)
+
+pub loop-left-preserved : goal.loop-left-preserved
+loop-left-preserved c =
+    let v = (goal.at.loop-left-preserved c).After-value-place in
+    let s = (goal.at.loop-left-preserved c).After-smaller-here in
+    let l = s.loop-left in
+    let f = s.args.file.now in
+    let i = leb-true _ _ (sym c.inside.ensures ∙ not-false _ c.if-not-inside.false) in (
+      l.invariant.0
+          ∙ strip_next f _ _ _ _ _ _ _ _ _ l.left (l.left - 1) (omega arith)
+          _ s.smaller-here.ensures _ v.value-bytes.ensures v.if-bytes-here.false _ v.value-place.ensures i,
+      (offsets (goal.at.loop-left-preserved c).In-loop-left).1,
+      (counts (goal.at.loop-left-preserved c).In-loop-left).1,
+      omega arith,
+    )
+
+pub returns : goal.returns
+returns c =
+    let a = c.args in
+    let l = c.loop-left in
+    let z : l.left ≡ 0 = omega arith in
+    strip_none a.file.now _ _ _ _ _ _ _ _ _ ∙ sym (rw z at l.invariant.0)

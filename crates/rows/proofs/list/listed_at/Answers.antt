@@ -1,0 +1,44 @@
+use mathlib.Core.Path.{sym, ap, ◌∙◌}
+use native.Mathlib.Omega.{arith}
+use Rattle.opcodes.specs.Opcode.{Opcode, opcode_at}
+use Rattle.rows.proofs.Walks.{carried_in, carried_is, optional_is, compulsory_not}
+use borrow.Author.Rules.{rules}
+use Rattle.rows.proofs.list.listed_at.Goals as goal
+
+pub overflow_add-at : goal.overflow_add-at
+overflow_add-at c =
+    let pre = c.requires in
+    omega (arith, pre.opcode_read.0.inside)
+
+pub opcode_at-requires : goal.opcode_at-requires
+opcode_at-requires c =
+    let a = c.args in
+    let pre = c.requires in record {
+      kept_in = (
+        carried_in a.file.now a.size a.at a.header (sym c.in-Carried.is ∙ c.classify.ensures)
+            pre.opcode_read.0,
+        pre.opcode_read.1,
+      );
+      x_value = pre.x_value;
+    }
+
+pub returns-in-Carried : goal.returns-in-Carried
+returns-in-Carried c =
+    let a = c.args in
+    let classify = c.classify in
+    λ i o e. c.opcode_at.ensures
+    ∙ ap (λ (k : Opcode). opcode_at k a.row.0 a.column.0 a.plane a.x)
+    (sym (carried_is a.file.now a.size a.at a.header (sym c.in-Carried.is ∙ classify.ensures) i o e))
+
+pub returns-in-Optional : goal.returns-in-Optional
+returns-in-Optional c =
+    let a = c.args in
+    λ i o e. ap (λ (k : Opcode). opcode_at k a.row.0 a.column.0 a.plane a.x)
+    (sym (optional_is a.file.now a.size a.at a.header
+    (sym c.in-Optional.is ∙ c.classify.ensures) i o e))
+
+pub returns-in-Compulsory : goal.returns-in-Compulsory
+returns-in-Compulsory c =
+    let a = c.args in
+    λ i o e. absurd (compulsory_not a.file.now a.size a.at a.header
+    (sym c.in-Compulsory.is ∙ c.classify.ensures) i o e)

@@ -1,0 +1,130 @@
+use mathlib.Core.Path.{◌≡◌, refl, sym, ◌∙◌, subst}
+use Prim.Native.Nat.{ℕ, ◌+◌, ◌-◌, ◌*◌, ◌≤◌, ◌<◌}
+use native.Mathlib.Omega.{arith}
+use lib.ListN.{length}
+use lib.Ieee.{Float}
+use native.Mathlib.Nat.{mul-le-mul_left, mul-pos}
+use Rattle.opcodes.specs.Step.{applied_of}
+use Rattle.opcodes.specs.Facts.StepAt.{step_of}
+use Rattle.rows.specs.Facts.Sweep.{planes_of}
+use Rattle.rows.proofs.GridColumns.{planes_start, planes_next, planes_dense, end_short, hits}
+use Rattle.rows.proofs.Parts.{part_few, swept_units, applied_row}
+use Rattle.rows.specs.Facts.Part.{AllInUnit}
+use borrow.Author.Rules.{rules}
+use Rattle.rows.proofs.opcode.planes_row.Goals as goal
+use Rattle.rows.proofs.opcode.planes_row.Goals.{Start}
+
+wide : (c : Start) → c.args.grid.column_pitch * c.args.n < 0x10_0000_0000
+wide c = omega (arith, mul-le-mul_left c.args.grid.column_pitch c.requires.column_pitch_nonzero.5, c.requires.column_pitch_nonzero)
+
+pub overflow_add-stop : goal.overflow_add-stop
+overflow_add-stop c =
+    omega (arith, c.requires.column_pitch_nonzero)
+
+pub skipped-skip-requires : goal.skipped-skip-requires
+skipped-skip-requires c = let s =
+    (goal.at.skipped-skip-requires c).Start in (s.requires.0.0, s.requires.0.1, s.requires.0.2)
+
+pub first_at-first-requires : goal.first_at-first-requires
+first_at-first-requires c =
+    (c.requires.column_pitch_nonzero.0, c.requires.column_pitch_nonzero.1, c.requires.column_pitch_nonzero.2, c.requires.column_pitch_nonzero.3, c.requires.column_pitch_nonzero.5)
+
+pub end_at-end-requires : goal.end_at-end-requires
+end_at-end-requires c = let s =
+    (goal.at.end_at-end-requires c).Start in (s.requires.0.4, s.requires.0.5)
+
+pub dense-requires : goal.dense-requires
+dense-requires c = let s =
+    (goal.at.dense-requires c).Start in (omega arith, s.requires.0.7)
+
+-- ---- one pass
+pub sweep_row-requires : goal.sweep_row-requires
+sweep_row-requires c =
+    let end-at = c.end_at-end in
+    let a = c.args in
+    let d = c.dense.ensures c.if-dense.true in
+    let e = end-at.ensures in record { pitch_nonzero = (omega arith, omega arith, omega (arith, e, end_short a.grid.right a.column.0 a.n (length a.out.now)), c.requires.part_in.1); part_in = (part_few _ _ _ _ c.requires.part_in.0, c.requires.part_in.2); fact = (d.0, d.1) }
+
+pub returns-then-dense : goal.returns-then-dense
+returns-then-dense c =
+    let b = (goal.at.returns-then-dense c).Then-dense in
+    let a = b.args in
+    let f = a.file.now in
+    let d = b.dense.ensures b.if-dense.true in
+    planes_dense _ _ a.grid.left a.grid.right a.grid.column_pitch a.column.0 a.n a.grid.plane
+    (a.grid.plane + a.grid.planes) _ _ a.out.now _ b.requires.column_pitch_nonzero.6
+    (λ p j x. applied_row f a.at a.id a.i b.requires.part_in.1 d.0 d.1 j x)
+    d.2 d.3 d.4 b.first_at-first.ensures.0 b.end_at-end.ensures
+    c.sweep_row.ensures
+
+-- ---- plane after plane
+pub loop-p-init : goal.loop-p-init
+loop-p-init c =
+    (omega arith, omega arith, refl, planes_start _ _ _ _ _ _ _ c.requires.column_pitch_nonzero.0 _, c.requires.part_in.2)
+
+pub overflow_add-first : goal.overflow_add-first
+overflow_add-first c =
+    omega (arith, c.first_at-first.ensures.1, c.loop-p.invariant, c.requires.column_pitch_nonzero)
+
+pub overflow_mul-pitch : goal.overflow_mul-pitch
+overflow_mul-pitch c =
+    omega (arith, wide (goal.at.overflow_mul-pitch c).Start)
+
+pub sweep_opcode-requires : goal.sweep_opcode-requires
+sweep_opcode-requires c =
+    let v = c.loop-p in
+    let d = (goal.at.sweep_opcode-requires c).After-end_at-end in
+    let s = (goal.at.sweep_opcode-requires c).Start in
+    let a = s.args in
+    let e = d.end_at-end.ensures in
+    let q : v.p < a.n = omega (arith, s.requires.column_pitch_nonzero, c.loop-p-test.true) in
+    let w = end_short a.grid.right a.column.0 a.n (length a.out.now) in record {
+      pitch_nonzero = (mul-pos s.requires.column_pitch_nonzero.0 s.requires.column_pitch_nonzero.6, omega (arith, wide (goal.at.sweep_opcode-requires c).Start), omega (arith, e, w, v.invariant.2), s.requires.part_in.1);
+      part_in = (part_few _ _ _ _ s.requires.part_in.0, v.invariant.4);
+      float_in = λ h k t.
+          s.requires.part_in.0.column h _
+          (hits a.grid.left a.grid.right a.grid.column_pitch a.column.0 a.n v.p _ k s.requires.column_pitch_nonzero.0 q _ _ _
+          d.skipped-skip.ensures.0 d.first_at-first.ensures.0 e t);
+    }
+
+pub overflow_add-p : goal.overflow_add-p
+overflow_add-p c =
+    let loop-test = c.loop-p-test in
+    let v = (goal.at.overflow_add-p c).At-loop-p in
+    omega (arith, v.loop-p.invariant, v.requires.column_pitch_nonzero, loop-test.true)
+
+pub loop-p-smaller : goal.loop-p-smaller
+loop-p-smaller c =
+    let loop-test = c.loop-p-test in
+    omega (arith, loop-test.true)
+
+pub loop-p-preserved : goal.loop-p-preserved
+loop-p-preserved c =
+    let w = c.sweep_opcode in
+    let t = c.loop-p-test.true in
+    let v = c.loop-p in
+    let d = (goal.at.loop-p-preserved c).After-end_at-end in
+    let a = d.args in (
+      omega (arith, v.invariant.0),
+      omega (arith, t),
+      w.auto.1.1.1.1.1.0 ∙ v.invariant.2,
+      planes_next _ _ _ _ _ _ _ d.requires.column_pitch_nonzero.0 v.p _ _ _ _ a.out.now v.out _
+          d.skipped-skip.ensures.0 d.first_at-first.ensures.0 d.end_at-end.ensures
+          v.invariant.0 (omega (arith, d.requires.column_pitch_nonzero, t)) refl v.invariant.3 w.ensures,
+      subst AllInUnit (sym w.ensures) (swept_units a.file.now _ _ _ _ v.out v.invariant.4),
+    )
+
+pub shape_of-out : goal.shape_of-out
+shape_of-out c =
+    c.loop-p.invariant.2
+
+pub returns : goal.returns
+returns c =
+    let loop = c.loop-p in
+    let a = c.args in
+    let e : loop.p ≡ a.grid.plane + a.grid.planes = omega (arith, loop.invariant.1, c.loop-p-test.false) in
+    let f = a.file.now in
+    let R : ℕ → ℕ → Float → Float = λ _ j x. applied_of (step_of f a.at a.id a.i j) f x in
+    let v = loop in
+    subst (λ (q : ℕ). v.out ≡ planes_of R a.grid.left a.grid.right a.grid.column_pitch a.column.0 a.n a.grid.plane
+    q a.out.now) e v.invariant.3

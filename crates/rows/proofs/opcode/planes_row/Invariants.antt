@@ -1,0 +1,22 @@
+use mathlib.Core.Path.{◌≡◌, refl, sym, ◌∙◌, subst}
+use Prim.Native.Nat.{ℕ, ◌+◌, ◌-◌, ◌*◌, ◌≤◌, ◌<◌}
+use native.Mathlib.Omega.{arith}
+use lib.ListN.{length}
+use lib.Ieee.{Float}
+use native.Mathlib.Nat.{mul-le-mul_left, mul-pos}
+use Rattle.opcodes.specs.Step.{applied_of}
+use Rattle.opcodes.specs.Facts.StepAt.{step_of}
+use Rattle.rows.specs.Facts.Sweep.{planes_of}
+use Rattle.rows.proofs.GridColumns.{planes_start, planes_next, planes_dense, end_short, hits}
+use Rattle.rows.proofs.Parts.{part_few, swept_units, applied_row}
+use Rattle.rows.specs.Facts.Part.{AllInUnit}
+use borrow.Author.Rules.{rules}
+use Rattle.rows.proofs.opcode.planes_row.Given as goal
+
+abbrev pub invariant-loop-p : goal.invariant-loop-p
+invariant-loop-p l =
+    (l.plane ≤ l.p) × (l.p ≤ l.stop) × (length l.out ≡ length l.initial.out)
+    × (l.out ≡ planes_of (λ (_ j : ℕ) (x : Float). applied_of (step_of l.file l.at l.id l.i j) l.file x) l.left l.right l.pitch l.l l.n l.plane l.p l.initial.out) × AllInUnit l.out
+
+abbrev pub decreases-loop-p : goal.decreases-loop-p
+decreases-loop-p l = l.stop - l.p

@@ -1,0 +1,22 @@
+use mathlib.Core.Path.{◌≡◌, refl}
+use Prim.Native.Nat.{ℕ, ◌+◌, ◌-◌, ◌*◌, ◌≤◌, ◌<◌}
+use native.Mathlib.Nat.{mul-le-mul_right, add-mul}
+use native.Mathlib.Omega.{arith}
+use borrow.Author.Rules.{rules}
+use lib.Ieee.{nan}
+use lib.ListN.{length, get_or, drop, length-take}
+use Rattle.levels.specs.Facts.Reciprocal.{of_parts}
+use Rattle.reading.specs.Reading.{run}
+use Rattle.raw.specs.Stored.{levels_reading}
+use Rattle.samples.specs.Facts.Along.{cell_along}
+use Rattle.samples.proofs.Lines.{rows_more}
+use Rattle.samples.proofs.along.fill_cells.Given as goal
+
+abbrev pub invariant-loop-r : goal.invariant-loop-r
+invariant-loop-r l =
+    (length l.out ≡ length l.initial.out) × (l.r ≤ l.rows) × (l.a ≡ l.r * l.q)
+    × ((s k : ℕ) → s < l.r → k < l.q → get_or l.out (s * l.q + k) nan ≡ of_parts
+    (cell_along (run l.file (levels_reading l.order l.tags)) l.tags.frame.samples s l.column.0 k))
+
+abbrev pub decreases-loop-r : goal.decreases-loop-r
+decreases-loop-r l = l.rows - l.r

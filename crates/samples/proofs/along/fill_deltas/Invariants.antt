@@ -1,0 +1,21 @@
+use mathlib.Core.Path.{sym, ap, ◌∙◌}
+use Prim.Native.Nat.{ℕ, ◌+◌, ◌-◌, ◌/◌, ◌≤◌}
+use native.Mathlib.Nat.{div-le_self}
+use native.Mathlib.Omega.{arith}
+use borrow.Author.Rules.{rules}
+use lib.IntN.{pos}
+use lib.ListN.{length, get_or}
+use Rattle.reading.specs.Reading.{run}
+use Rattle.levels.proofs.Fills.{Filled, fill_start, fill_step, fill_end}
+use Rattle.levels.specs.declared.black.BlackKind.TheVariants as kind
+use Rattle.raw.specs.Stored.{blacks_reading}
+use Rattle.raw.proofs.StoredLaws.{column_deltas_are}
+use Rattle.samples.proofs.Lines.{sfits32, held_short}
+use Rattle.samples.proofs.along.fill_deltas.Given as goal
+
+abbrev pub invariant-loop-i : goal.invariant-loop-i
+invariant-loop-i l =
+    Filled (λ (k : ℕ). get_or (run l.file (blacks_reading l.order kind.SignedRational l.deltas)) (l.l + k / l.samples) (pos 0)) l.i l.initial.out l.out
+
+abbrev pub decreases-loop-i : goal.decreases-loop-i
+decreases-loop-i l = length l.initial.out - l.i

@@ -1,0 +1,24 @@
+use mathlib.Core.Path.{◌≡◌, refl, sym, ap, ◌∙◌}
+use Prim.Native.Nat.{ℕ, ◌-◌, ◌≤◌, ◌<◌}
+use native.Mathlib.Nat.{mod-eq_of_lt}
+use native.Mathlib.Omega.{arith}
+use borrow.Author.Rules.{rules}
+use lib.Ieee.{nan}
+use lib.IntN.{nat_abs}
+use lib.ListN.{length}
+use Rattle.reading.specs.Reading.{run}
+use Rattle.levels.specs.Levels.{span_of}
+use Rattle.levels.specs.Facts.Reciprocal.{inverse_of}
+use Rattle.raw.specs.Facts.Spans.{span_at}
+use Rattle.raw.specs.Stored.{levels_reading}
+use Rattle.raw.proofs.TagFacts.{span_in}
+use Rattle.samples.specs.Facts.Line.{Filled}
+use Rattle.samples.proofs.Lines.{back, filled_more}
+use Rattle.samples.proofs.along.first_inverses.Given as goal
+
+abbrev pub invariant-loop-i : goal.invariant-loop-i
+invariant-loop-i l =
+    (length l.out ≡ length l.initial.out) × (l.i ≤ length l.initial.out) × Filled nan (λ (k : ℕ). inverse_of (span_at l.spans k)) l.i l.out
+
+abbrev pub decreases-loop-i : goal.decreases-loop-i
+decreases-loop-i l = length l.initial.out - l.i

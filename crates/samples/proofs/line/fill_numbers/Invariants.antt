@@ -1,0 +1,19 @@
+use mathlib.Core.Path.{◌≡◌, refl, ap, ◌∙◌, subst}
+use Prim.Native.Nat.{ℕ, ◌-◌, ◌≤◌}
+use native.Mathlib.Omega.{arith}
+use borrow.Author.Rules.{rules}
+use lib.Ieee.{Float}
+use lib.ListN.{length}
+use Rattle.levels.specs.Table.{table_of, through_of}
+use Rattle.samples.specs.Facts.Line.{Filled, number_at}
+use Rattle.samples.proofs.Lines.{filled_more}
+use Rattle.samples.proofs.line.fill_numbers.Given as goal
+
+abbrev pub invariant-loop-i : goal.invariant-loop-i
+invariant-loop-i l =
+    (length l.out ≡ length l.initial.out) × (l.i ≤ length l.initial.out)
+    × ((down : Float) → Filled 0 (number_at l.file
+    (record { l.order = l.order; l.bytes = l.bytes; l.place = l.place; l.table = l.table; l.count = l.count; down = down })) l.i l.out)
+
+abbrev pub decreases-loop-i : goal.decreases-loop-i
+decreases-loop-i l = length l.initial.out - l.i

@@ -1,0 +1,20 @@
+use mathlib.Core.Path.{◌≡◌, refl}
+use Prim.Native.Nat.{ℕ, ◌-◌, ◌≤◌, ◌<◌}
+use native.Mathlib.Omega.{arith}
+use borrow.Author.Rules.{rules}
+use lib.IntN.{ℤ}
+use lib.Ieee.{nan}
+use lib.ListN.{length, get_or}
+use Rattle.levels.specs.Level.{difference_of, level_of, scaled_of}
+use Rattle.samples.specs.Facts.Line.{Filled, Levelled}
+use Rattle.samples.proofs.Lines.{filled_more}
+use Rattle.samples.proofs.line.scaled_numbers.Given as goal
+
+abbrev pub invariant-loop-i : goal.invariant-loop-i
+invariant-loop-i l =
+    (length l.out ≡ length l.initial.out) × (l.i ≤ length l.initial.out)
+    × ((black span : ℕ → ℤ) → Levelled black span l.blacks l.inverses l.down (length l.initial.out)
+    → Filled nan (λ (k : ℕ). scaled_of (level_of (difference_of (get_or l.numbers k 0) (black k)) (span k))) l.i l.out)
+
+abbrev pub decreases-loop-i : goal.decreases-loop-i
+decreases-loop-i l = length l.initial.out - l.i

@@ -1,0 +1,19 @@
+use mathlib.Core.Path.{◌≡◌, refl, ◌∙◌}
+use Prim.Native.Nat.{ℕ, ◌+◌, ◌-◌, ◌*◌, ◌≤◌, ◌<◌}
+use native.Mathlib.Omega.{arith}
+use borrow.Author.Rules.{rules}
+use lib.IntN.{ℤ}
+use lib.Ieee.{nan}
+use lib.ListN.{length}
+use Rattle.samples.specs.Facts.Line.{Filled, Levelled}
+use Rattle.samples.proofs.Lines.{filled_more, plain_value, plain_is, plain_inside, plain_value_law}
+use Rattle.samples.proofs.line.scaled_shorts.Given as goal
+
+abbrev pub invariant-loop-i : goal.invariant-loop-i
+invariant-loop-i l =
+    (length l.out ≡ length l.initial.out) × (l.i ≤ length l.initial.out)
+    × ((black span : ℕ → ℤ) → Levelled black span l.blacks l.inverses l.down (length l.initial.out) →
+    Filled nan (plain_value l.file l.order 2 l.place black span) l.i l.out)
+
+abbrev pub decreases-loop-i : goal.decreases-loop-i
+decreases-loop-i l = length l.initial.out - l.i

@@ -1,0 +1,21 @@
+use mathlib.Core.Path.{◌≡◌, refl, sym, ap, ◌∙◌}
+use Prim.Native.Nat.{ℕ, ◌+◌, ◌-◌, ◌≤◌, ◌<◌}
+use native.Mathlib.Omega.{arith}
+use borrow.Author.Rules.{rules}
+use lib.IntN.{ℤ, pos, ◌+ℤ◌}
+use lib.Ieee.{nan}
+use lib.ListN.{length, get_or, take, drop, length-take, length-drop}
+use Rattle.samples.specs.Facts.Line.{Filled, line_value, Celled, Repeating}
+use Rattle.samples.proofs.Lines.{filled_part, line_from, value_from, Same, same_start, same_next}
+use Rattle.samples.proofs.scaled.scaled_pieces.Given as goal
+
+abbrev pub invariant-loop-i : goal.invariant-loop-i
+invariant-loop-i l =
+    (length l.out ≡ length l.initial.out) × (length l.sums ≡ length l.initial.sums) × (l.i ≤ length l.initial.out)
+    × ((cell span : ℕ → ℤ) (d : ℤ) → Celled cell span d l.cells l.inverses l.down (length l.cells) → (r : Repeating cell span (length l.cells) (length l.initial.out))
+    → Same cell span (length l.cells) (length l.initial.out) r l.i
+    × Filled nan (line_value l.file (record { l.order = l.order; l.bytes = l.bytes; l.place = l.place; l.table = l.table; l.count = l.count; l.down = l.down })
+    (λ k. cell k +ℤ get_or l.deltas k (pos 0) +ℤ d) span) l.i l.out)
+
+abbrev pub decreases-loop-i : goal.decreases-loop-i
+decreases-loop-i l = length l.initial.out - l.i

@@ -1,0 +1,21 @@
+use mathlib.Core.Path.{◌≡◌, refl}
+use mathlib.Core.List.{List, []}
+use Prim.Native.Nat.{ℕ, ◌+◌, ◌-◌, ◌/◌, ◌%◌, ◌≤◌, ◌<◌}
+use native.Mathlib.Nat.{div-le_self, mod-le}
+use native.Mathlib.Omega.{arith}
+use borrow.Author.Rules.{rules}
+use lib.Ieee.{Float}
+use lib.ListN.{length, get_or}
+use Rattle.reading.specs.Reading.{run}
+use Rattle.raw.specs.Stored.{levels_reading}
+use Rattle.tables.specs.Tables.{CellTable}
+use Rattle.tables.proofs.TableLaws.{tables_more}
+use Rattle.tables.proofs.fill.fill_tables.Given as goal
+
+abbrev pub invariant-loop-i : goal.invariant-loop-i
+invariant-loop-i l =
+    (length l.tables ≡ length l.initial.tables) × (l.i ≤ l.count)
+    × ((k : ℕ) → k < l.i → CellTable (run l.file (levels_reading l.order l.raw.tags)) (l.r + k / l.columns) (l.c + k % l.columns) (get_or l.tables k []))
+
+abbrev pub decreases-loop-i : goal.decreases-loop-i
+decreases-loop-i l = l.count - l.i

@@ -1,0 +1,21 @@
+use mathlib.Core.Path.{◌≡◌, refl, sym, ◌∙◌, subst}
+use mathlib.Core.List.{[]}
+use Prim.Native.Nat.{ℕ, ◌+◌, ◌-◌, ◌≤◌, ◌<◌}
+use native.Mathlib.Nat.{add-zero}
+use native.Mathlib.Omega.{arith}
+use borrow.Author.Rules.{rules}
+use lib.Ieee.{Float, nan}
+use lib.ListN.{length, get_or, set}
+use Rattle.samples.specs.Facts.Line.{Filled}
+use Rattle.samples.proofs.Lines.{filled_more}
+use Rattle.tables.specs.Facts.RowTables.{found}
+use Rattle.tables.proofs.row.look_up_group.Given as goal
+
+abbrev pub invariant-loop-c : goal.invariant-loop-c
+invariant-loop-c l =
+    (length l.out ≡ length l.initial.out) × (l.c ≤ l.count)
+    × ((x : ℕ → Float) → ((k : ℕ) → k < l.count → found (get_or l.tables (l.first + k) []) l.bytes (l.at + k) ≡ x (l.at + k)) → Filled nan x l.at l.initial.out
+    → Filled nan x (l.at + l.c) l.out)
+
+abbrev pub decreases-loop-c : goal.decreases-loop-c
+decreases-loop-c l = l.count - l.c

@@ -1,0 +1,19 @@
+use mathlib.Core.Path.{◌≡◌, refl, sym, ap, subst}
+use mathlib.Core.List.{[]}
+use Prim.Native.Nat.{ℕ, ◌+◌, ◌-◌, ◌%◌, ◌≤◌, ◌<◌}
+use native.Mathlib.Omega.{arith}
+use borrow.Author.Rules.{rules}
+use lib.Ieee.{nan}
+use lib.ListN.{length, get_or}
+use Rattle.samples.specs.Facts.Line.{Filled}
+use Rattle.tables.specs.Facts.RowTables.{found, found_along}
+use Rattle.tables.proofs.FoundLaws.{column_of, columns_behind}
+use Rattle.tables.proofs.row.look_up_groups.Given as goal
+
+abbrev pub invariant-loop-at : goal.invariant-loop-at
+invariant-loop-at l =
+    (length l.out ≡ length l.initial.out) × (l.at ≤ length l.initial.out) × (l.at < length l.initial.out → l.at % l.columns ≡ 0)
+    × (Filled nan (found_along l.tables l.first l.columns l.bytes) l.from l.initial.out → Filled nan (found_along l.tables l.first l.columns l.bytes) l.at l.out)
+
+abbrev pub decreases-loop-at : goal.decreases-loop-at
+decreases-loop-at l = length l.initial.out - l.at
