@@ -5,6 +5,7 @@ use Rattle.chain.specs.declared.ChainAnswer.{ChainAnswer}
 use Rattle.chain.proofs.ChainLaws.{explained}
 use borrow.Author.Rules.{rules}
 use Rattle.chain.proofs.chain.Goals as goal
+use Rattle.chain.proofs.chain.Goals.{After-chain_in, After-open, In-Is-2}
 
 pub chain_in-requires : goal.chain_in-requires
 chain_in-requires c =
@@ -20,5 +21,4 @@ returns-in-Refused c =
 
 pub returns-in-Is : goal.returns-in-Is
 returns-in-Is c =
-    let k = (goal.at.returns-in-Is c).After-chain_in in
-    let a = k.args in record { skipped_after = k.chain_in.ensures; explained = explained a.file.now a.row a.column a.plane }
+    let a = c.args in record { skipped_after = c.chain_in.ensures; explained = explained a.file.now a.row a.column a.plane }

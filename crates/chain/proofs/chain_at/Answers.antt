@@ -12,7 +12,7 @@ use Rattle.chain.specs.Facts.Links.{OpcodesIn, covered_of}
 use Rattle.chain.proofs.ChainLaws.{numbers_unit, room_told, opcodes_in, viewed_numbers, chain_is}
 use borrow.Author.Rules.{rules}
 use Rattle.chain.proofs.chain_at.Goals as goal
-use Rattle.chain.proofs.chain_at.Goals.{After-opcodes_of-opcodes, Start}
+use Rattle.chain.proofs.chain_at.Goals.{After-cover-covering, After-opcodes_of-opcodes, After-shared_slice_known-1, Start}
 
 lengths : (s : Start) → let a = s.args in
     (32 ≤ length a.places.now) × (32 ≤ length a.ids.now) × (32 ≤ length a.«before».now) × (32 ≤ length a.after.now)
@@ -53,22 +53,20 @@ skip-count-requires c =
 
 pub returns : goal.returns
 returns c =
-    let w = (goal.at.returns c).After-cover-covering in
-    let k = (goal.at.returns c).After-opcodes_of-opcodes in
-    let n = k.numbers_at-numbers in
-    let a = k.args in
+    let n = c.numbers_at-numbers in
+    let a = c.args in
     let f = a.file.now in
     let r = a.spot.row.0 in
     let l = a.spot.column.0 in
     let p = a.spot.plane in
     λ q.
     let os = q.file.opcodes in
-    let e = k.opcodes_of-opcodes.ensures.read os (viewed_read f a.view q) in
+    let e = c.opcodes_of-opcodes.ensures.read os (viewed_read f a.view q) in
     let m = n.ensures ∙ viewed_numbers f a.view q r l p in
-    let x = k.scaled-x.ensures ∙ ap (λ (z : LevelNumbers). scaled_of z.level) m in
-    let t = subst (λ (u : Picture). ActiveIn u.raw.tags r l p) (sym q.picture) k.requires.viewed.1 in
+    let x = c.scaled-x.ensures ∙ ap (λ (z : LevelNumbers). scaled_of z.level) m in
+    let t = subst (λ (u : Picture). ActiveIn u.raw.tags r l p) (sym q.picture) c.requires.viewed.1 in
     let old = slices a.places.now a.ids.now a.«before».now a.after.now a.skipped.now in
     rw m (chain_is f q.file r l p t _ _ old
-    (w.cover-covering.ensures os e
+    (c.cover-covering.ensures os e
     ∙ ap (λ (y : Float). covered_of os r l p y a.places.now a.ids.now a.«before».now a.after.now) x)
     (c.skip-count.ensures os e))

@@ -5,39 +5,33 @@ use Rattle.chain.specs.declared.ChainAnswer.{ChainAnswer}
 use Rattle.chain.proofs.ChainLaws.{chain_outside, chain_short, chain_shown}
 use borrow.Author.Rules.{rules}
 use Rattle.chain.proofs.chain_in.Goals as goal
+use Rattle.chain.proofs.chain_in.Goals.{After-chain_at, After-shared_slice_known-1, After-within, Then-room}
 
 pub chain_at-requires : goal.chain_at-requires
 chain_at-requires c =
-    let t = (goal.at.chain_at-requires c).Then-room in
-    let w = (goal.at.chain_at-requires c).After-within in
-    let a = w.args in
-    let i = sym w.within.ensures ∙ t.if-within.true in record { viewed = (w.requires, viewed_active a.file.now a.view w.requires a.spot.row.0 a.spot.column.0 a.spot.plane i); skipped_value = sym t.room.ensures ∙ t.if-room.true }
+    let a = c.args in
+    let i = sym c.within.ensures ∙ c.if-within.true in record { viewed = (c.requires, viewed_active a.file.now a.view c.requires a.spot.row.0 a.spot.column.0 a.spot.plane i); skipped_value = sym c.room.ensures ∙ c.if-room.true }
 
 pub returns-then-room : goal.returns-then-room
 returns-then-room c =
-    let k = (goal.at.returns-then-room c).After-chain_at in
-    let t = (goal.at.returns-then-room c).Then-room in
-    let w = (goal.at.returns-then-room c).After-within in
-    let a = w.args in
+    let a = c.args in
     let old = slices a.places.now a.ids.now a.«before».now a.after.now a.skipped.now in
-    k.chain_at.ensures w.requires
-    ∙ chain_shown a.file.now a.view w.requires a.spot.row.0 a.spot.column.0 a.spot.plane old
-    (sym w.within.ensures ∙ t.if-within.true) (sym t.room.ensures ∙ t.if-room.true)
+    c.chain_at.ensures c.requires
+    ∙ chain_shown a.file.now a.view c.requires a.spot.row.0 a.spot.column.0 a.spot.plane old
+    (sym c.within.ensures ∙ c.if-within.true) (sym c.room.ensures ∙ c.if-room.true)
 
 pub returns-then-within : goal.returns-then-within
 returns-then-within c =
-    let w = (goal.at.returns-then-within c).After-within in
-    let a = w.args in
+    let a = c.args in
     let old = slices a.places.now a.ids.now a.«before».now a.after.now a.skipped.now in
     ap (λ (x : ChainAnswer). chained_with x old) c.refused.ensures
-    ∙ chain_short a.file.now a.view w.requires a.spot.row.0 a.spot.column.0 a.spot.plane old
-    (sym w.within.ensures ∙ c.if-within.true) (sym c.room.ensures ∙ c.if-room.false)
+    ∙ chain_short a.file.now a.view c.requires a.spot.row.0 a.spot.column.0 a.spot.plane old
+    (sym c.within.ensures ∙ c.if-within.true) (sym c.room.ensures ∙ c.if-room.false)
 
 pub returns : goal.returns
 returns c =
-    let w = (goal.at.returns c).After-within in
-    let a = w.args in
+    let a = c.args in
     let old = slices a.places.now a.ids.now a.«before».now a.after.now a.skipped.now in
     ap (λ (x : ChainAnswer). chained_with x old) c.refused-2.ensures
-    ∙ chain_outside a.file.now a.view w.requires a.spot.row.0 a.spot.column.0 a.spot.plane old
-    (sym w.within.ensures ∙ c.if-within.false)
+    ∙ chain_outside a.file.now a.view c.requires a.spot.row.0 a.spot.column.0 a.spot.plane old
+    (sym c.within.ensures ∙ c.if-within.false)

@@ -5,6 +5,7 @@ use Rattle.opcodes.specs.Facts.OpcodeList.{list_out}
 use Rattle.develop.proofs.Views.{front_refused, list_refused, list_viewed}
 use borrow.Author.Rules.{rules}
 use Rattle.develop.proofs.open.Goals as goal
+use Rattle.develop.proofs.open.Goals.{After-open}
 
 pub returns-in-Refused : goal.returns-in-Refused
 returns-in-Refused c =

@@ -6,6 +6,7 @@ use lib.Signed.{le_z}
 use mir.Facts.{to_z-of_z}
 use Rattle.levels.specs.Levels.{greater_of}
 use Rattle.levels.proofs.greater.Goals as goal
+use Rattle.levels.proofs.greater.Goals.{Start}
 
 by_test : (a b : ℤ) (t : Bool) → le_z a b ≡ t → cond t b a ≡ greater_of a b
 by_test a b t e = sym (ap (λ (u : Bool). cond u b a) e)

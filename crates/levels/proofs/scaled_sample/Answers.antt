@@ -4,6 +4,7 @@ use borrow.Author.Rules.{rules}
 use mir.Facts.{to_z-of_z}
 use Rattle.levels.specs.Facts.Reciprocal.{of_parts, inverse_of}
 use Rattle.levels.proofs.scaled_sample.Goals as goal
+use Rattle.levels.proofs.scaled_sample.Goals.{Start}
 
 pub number_of-requires : goal.number_of-requires
 number_of-requires c =

@@ -29,7 +29,7 @@ use Rattle.rawtags.proofs.TagsLaws.{frame_refused, layout_refused, strips_refuse
 use Rattle.rawtags.proofs.TagsLaws.{crop_refused, list_tag_refused, tags_are}
 use borrow.Author.Rules.{rules}
 use Rattle.rawtags.proofs.tags_of.Goals as goal
-use Rattle.rawtags.proofs.tags_of.Goals.{In-Is-2, In-Is-area_of-2, In-Is-crop_of-2, In-Is-layout_of-2, In-Is-level_tags_of-2, In-Is-strips_of-2}
+use Rattle.rawtags.proofs.tags_of.Goals.{After-area_of, After-crop_of, After-layout_of, After-level_tags_of, After-list_of, After-strips_of, In-Is-2, In-Is-area_of-2, In-Is-crop_of-2, In-Is-layout_of-2, In-Is-level_tags_of-2, In-Is-strips_of-2}
 
 -- ---- what each step gave: frame, layout, strips, area, levels, crop
 abbrev file : In-Is-2 → List ℕ
@@ -103,9 +103,8 @@ layout_of-requires c =
 
 pub returns-in-Refused-layout_of : goal.returns-in-Refused-layout_of
 returns-in-Refused-layout_of c =
-    let step = (goal.at.returns-in-Refused-layout_of c).After-layout_of in
     let o = (goal.at.returns-in-Refused-layout_of c).In-Is-2 in
-    let e = ap layout_out (sym c.in-Refused-layout_of.is) ∙ step.layout_of.ensures.0 in
+    let e = ap layout_out (sym c.in-Refused-layout_of.is) ∙ c.layout_of.ensures.0 in
     (layout_refused _ _ _ _ (is_frame (goal.at.returns-in-Refused-layout_of c).In-Is-2) _ _ e, tt)
 
 pub strips_of-requires : goal.strips_of-requires
@@ -115,9 +114,8 @@ strips_of-requires c =
 
 pub returns-in-Refused-strips_of : goal.returns-in-Refused-strips_of
 returns-in-Refused-strips_of c =
-    let step = (goal.at.returns-in-Refused-strips_of c).After-strips_of in
     let l = (goal.at.returns-in-Refused-strips_of c).In-Is-layout_of-2 in
-    let e = ap values_out (sym c.in-Refused-strips_of.is) ∙ step.strips_of.ensures.result_value in
+    let e = ap values_out (sym c.in-Refused-strips_of.is) ∙ c.strips_of.ensures.result_value in
     (strips_refused _ _ _ _ (is_frame (framed (goal.at.returns-in-Refused-strips_of c).In-Is-layout_of-2)) _ (is_layout (goal.at.returns-in-Refused-strips_of c).In-Is-layout_of-2) _ _ e, tt)
 
 pub area_of-requires : goal.area_of-requires
@@ -126,10 +124,9 @@ area_of-requires c = let o =
 
 pub returns-in-Refused-area_of : goal.returns-in-Refused-area_of
 returns-in-Refused-area_of c =
-    let step = (goal.at.returns-in-Refused-area_of c).After-area_of in
     let s = (goal.at.returns-in-Refused-area_of c).In-Is-strips_of-2 in
     let l = laid (goal.at.returns-in-Refused-area_of c).In-Is-strips_of-2 in
-    let e = ap area_out (sym c.in-Refused-area_of.is) ∙ step.area_of.ensures.0 in
+    let e = ap area_out (sym c.in-Refused-area_of.is) ∙ c.area_of.ensures.0 in
     (area_refused _ _ _ _ (is_frame (framed l)) _ (is_layout l) _ (is_strips (goal.at.returns-in-Refused-area_of c).In-Is-strips_of-2) _ _ e, tt)
 
 pub overflow_sub-rows : goal.overflow_sub-rows
@@ -146,11 +143,10 @@ level_tags_of-requires c =
 
 pub returns-in-Refused-level_tags_of : goal.returns-in-Refused-level_tags_of
 returns-in-Refused-level_tags_of c =
-    let step = (goal.at.returns-in-Refused-level_tags_of c).After-level_tags_of in
     let a = (goal.at.returns-in-Refused-level_tags_of c).In-Is-area_of-2 in
     let s = striped (goal.at.returns-in-Refused-level_tags_of c).In-Is-area_of-2 in
     let l = laid s in
-    let e = ap level_tags_out (sym c.in-Refused-level_tags_of.is) ∙ step.level_tags_of.ensures.result_value in
+    let e = ap level_tags_out (sym c.in-Refused-level_tags_of.is) ∙ c.level_tags_of.ensures.result_value in
     (level_tags_refused _ _ _ _ (is_frame (framed l)) _ (is_layout l) _ (is_strips s) _ (is_area (goal.at.returns-in-Refused-level_tags_of c).In-Is-area_of-2) _ _ e, tt)
 
 pub crop_of-requires : goal.crop_of-requires
@@ -159,12 +155,11 @@ crop_of-requires c =
 
 pub returns-in-Refused-crop_of : goal.returns-in-Refused-crop_of
 returns-in-Refused-crop_of c =
-    let step = (goal.at.returns-in-Refused-crop_of c).After-crop_of in
     let x = (goal.at.returns-in-Refused-crop_of c).In-Is-level_tags_of-2 in
     let a = active (goal.at.returns-in-Refused-crop_of c).In-Is-level_tags_of-2 in
     let s = striped a in
     let l = laid s in
-    let e = ap crop_out (sym c.in-Refused-crop_of.is) ∙ step.crop_of.ensures.0 in
+    let e = ap crop_out (sym c.in-Refused-crop_of.is) ∙ c.crop_of.ensures.0 in
     (crop_refused _ _ _ _ (is_frame (framed l)) _ (is_layout l) _ (is_strips s) _ (is_area a) _ (is_levels (goal.at.returns-in-Refused-crop_of c).In-Is-level_tags_of-2) _ _ e, tt)
 
 pub list_of-requires : goal.list_of-requires
@@ -173,18 +168,16 @@ list_of-requires c =
 
 pub returns-in-Refused-list_of : goal.returns-in-Refused-list_of
 returns-in-Refused-list_of c =
-    let step = (goal.at.returns-in-Refused-list_of c).After-list_of in
     let w = (goal.at.returns-in-Refused-list_of c).In-Is-crop_of-2 in
     let x = leveled (goal.at.returns-in-Refused-list_of c).In-Is-crop_of-2 in
     let a = active x in
     let s = striped a in
     let l = laid s in
-    let e = ap values_out (sym c.in-Refused-list_of.is) ∙ step.list_of.ensures.0 in
+    let e = ap values_out (sym c.in-Refused-list_of.is) ∙ c.list_of.ensures.0 in
     (list_tag_refused _ _ _ _ (is_frame (framed l)) _ (is_layout l) _ (is_strips s) _ (is_area a) _ (is_levels x) _ (is_crop (goal.at.returns-in-Refused-list_of c).In-Is-crop_of-2) _ _ e, tt)
 
 pub returns : goal.returns
 returns c =
-    let last = (goal.at.returns c).After-list_of in
     let w = (goal.at.returns c).In-Is-crop_of-2 in
     let x = leveled (goal.at.returns c).In-Is-crop_of-2 in
     let a = active x in
@@ -192,7 +185,7 @@ returns c =
     let l = laid s in
     let o = framed l in
     let v7 = c.v-in-Is-list_of-1.given in
-    let e = ap values_out (sym v7.1) ∙ last.list_of.ensures.0 in
+    let e = ap values_out (sym v7.1) ∙ c.list_of.ensures.0 in
     let order = (ifd o).order in
     let rows = active_rows (area a) in
     let columns = active_columns (area a) in (
@@ -204,6 +197,6 @@ returns c =
         area = area_in a;
         levels = subst (LevelTagsIn (file o) order (frame o).samples rows columns) x.v5.given.1 x.before.before.level-tags-of.ensures.1;
         crop = subst (CropIn rows columns) w.in-Is-crop_of.is w.crop_of.ensures.1;
-        list = subst (ValuesIn (length (file o)) list_rule) v7.1 last.list_of.ensures.1;
+        list = subst (ValuesIn (length (file o)) list_rule) v7.1 c.list_of.ensures.1;
       },
     )

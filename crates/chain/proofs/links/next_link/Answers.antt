@@ -6,6 +6,7 @@ use Rattle.chain.specs.Facts.Links.{reached_with}
 use Rattle.chain.proofs.LinkLaws.{into_off, into_on, read_as}
 use borrow.Author.Rules.{rules}
 use Rattle.chain.proofs.links.next_link.Goals as goal
+use Rattle.chain.proofs.links.next_link.Goals.{After-link_at, After-write_link, Start}
 
 pub link_at-requires : goal.link_at-requires
 link_at-requires c =

@@ -9,6 +9,7 @@ use Rattle.colour.specs.Tags.{matrix_reading}
 use Rattle.colour.proofs.TagFacts.{room}
 use borrow.Author.Rules.{rules}
 use Rattle.colour.proofs.tags.matrix_of.Goals as goal
+use Rattle.colour.proofs.tags.matrix_of.Goals.{After-look_up, In-Is-2}
 
 pub returns-in-Refused : goal.returns-in-Refused
 unfolding matrix_reading
@@ -66,8 +67,7 @@ returns-in-Refused-triple_at-2 c =
 
 pub overflow_add-place-2 : goal.overflow_add-place-2
 overflow_add-place-2 c =
-    let s = (goal.at.overflow_add-place-2 c).In-Is-2 in
-    let l = room s.args.file.now s.look_up.result s.in-Is.v s.in-Is.is s.look_up.ensures.1 in
+    let l = room c.args.file.now c.look_up.result c.in-Is.v c.in-Is.is c.look_up.ensures.1 in
     omega arith
 
 pub triple_at-requires-3 : goal.triple_at-requires-3

@@ -3,6 +3,7 @@ use mathlib.Core.Bool.{Bool, not}
 use Rattle.colour.specs.Value.{legal_of}
 use Rattle.colour.proofs.Legality.{zero_bits, bits_zero, zero_test, legal_zero, legal_matrix, legal_neutral}
 use Rattle.colour.proofs.value.legal.Goals as goal
+use Rattle.colour.proofs.value.legal.Goals.{Start}
 
 pub returns-then-den-eq0 : goal.returns-then-den-eq0
 returns-then-den-eq0 c =

@@ -6,6 +6,7 @@ use mir.Val.{to_z, of_z}
 use Rattle.reading.proofs.Wholes.{casts}
 use Rattle.colour.proofs.Legality.{fits}
 use Rattle.colour.proofs.value.quotient.Goals as goal
+use Rattle.colour.proofs.value.quotient.Goals.{Start}
 
 pub int_to_float-result : goal.int_to_float-result
 int_to_float-result c = let a =

@@ -6,6 +6,7 @@ use Rattle.demand.proofs.Demands.{meets_demand_3}
 use Rattle.demand.proofs.Accurate.{has_accurate_levels}
 use borrow.Author.Rules.{rules}
 use Rattle.demand.proofs.card.card.Goals as goal
+use Rattle.demand.proofs.card.card.Goals.{After-open, In-Is-2}
 
 pub returns-in-Refused : goal.returns-in-Refused
 returns-in-Refused c =
@@ -16,6 +17,5 @@ returns-in-Refused c =
 
 pub returns-in-Is : goal.returns-in-Is
 returns-in-Is c =
-    let g = (goal.at.returns-in-Is c).In-Is-2 in
-    let f = g.args.file.now in
-    let v = subst (OpeningIs f) g.in-Is.is (goal.at.returns-in-Is c).After-open.«open».ensures in record { value = card_viewed f _ v; meets_demand_3 = meets_demand_3 f; has_accurate_levels = has_accurate_levels f }
+    let f = c.args.file.now in
+    let v = subst (OpeningIs f) c.in-Is.is (goal.at.returns-in-Is c).After-open.«open».ensures in record { value = card_viewed f _ v; meets_demand_3 = meets_demand_3 f; has_accurate_levels = has_accurate_levels f }

@@ -3,6 +3,7 @@ use Rattle.develop.specs.Calls.{colour_window_of}
 use Rattle.develop.specs.Facts.View.{OpeningIs}
 use borrow.Author.Rules.{rules}
 use Rattle.develop.proofs.colour_window.colour_window.Goals as goal
+use Rattle.develop.proofs.colour_window.colour_window.Goals.{After-open}
 
 pub colour_window_in-requires : goal.colour_window_in-requires
 colour_window_in-requires c =

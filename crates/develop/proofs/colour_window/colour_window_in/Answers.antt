@@ -3,6 +3,7 @@ use Rattle.colour.specs.Facts.Tags.{colour_out}
 use Rattle.develop.proofs.Called.{colour_tags, colour_mosaic}
 use borrow.Author.Rules.{rules}
 use Rattle.develop.proofs.colour_window.colour_window_in.Goals as goal
+use Rattle.develop.proofs.colour_window.colour_window_in.Goals.{In-Is-2, Start, Then-size-eq3}
 
 pub colour_of-requires : goal.colour_of-requires
 colour_of-requires c =
@@ -16,19 +17,16 @@ coloured_in-requires c =
 pub returns-in-Refused : goal.returns-in-Refused
 returns-in-Refused c =
     let colour-of = c.colour_of in
-    let k = (goal.at.returns-in-Refused c).Then-size-eq3 in
-    let a = k.args in
-    colour_tags a.file.now a.view k.requires a.top a.left a.height a.width a.out.now k.if-size-eq3.true _
+    let a = c.args in
+    colour_tags a.file.now a.view c.requires a.top a.left a.height a.width a.out.now c.if-size-eq3.true _
     (ap colour_out (sym c.in-Refused.is) ∙ colour-of.ensures.0)
 
 pub returns-in-Is : goal.returns-in-Is
 returns-in-Is c =
-    let g = (goal.at.returns-in-Is c).In-Is-2 in
-    let k = (goal.at.returns-in-Is c).Then-size-eq3 in
-    let a = k.args in
-    c.coloured_in.ensures k.requires
-    ∙ colour_tags a.file.now a.view k.requires a.top a.left a.height a.width a.out.now k.if-size-eq3.true _
-    (ap colour_out (sym g.in-Is.is) ∙ g.colour_of.ensures.0)
+    let a = c.args in
+    c.coloured_in.ensures c.requires
+    ∙ colour_tags a.file.now a.view c.requires a.top a.left a.height a.width a.out.now c.if-size-eq3.true _
+    (ap colour_out (sym c.in-Is.is) ∙ c.colour_of.ensures.0)
 
 pub returns : goal.returns
 returns c =

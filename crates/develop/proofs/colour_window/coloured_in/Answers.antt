@@ -4,6 +4,7 @@ use Rattle.develop.proofs.Windows.{viewed_sized}
 use Rattle.develop.proofs.Called.{fill_in, coloured_none, coloured_fault}
 use borrow.Author.Rules.{rules}
 use Rattle.develop.proofs.colour_window.coloured_in.Goals as goal
+use Rattle.develop.proofs.colour_window.coloured_in.Goals.{Start, Then-number-eq0}
 
 pub window_fault-number-requires : goal.window_fault-number-requires
 window_fault-number-requires c =
@@ -19,14 +20,13 @@ pub returns-then-number-eq0 : goal.returns-then-number-eq0
 unfolding fill_in
 returns-then-number-eq0 c =
     let fill-window = c.fill_window in
-    let k = (goal.at.returns-then-number-eq0 c).Then-number-eq0 in
-    let a = k.args in
+    let a = c.args in
     let f = a.file.now in
-    let e = sym k.if-number-eq0.true ∙ k.window_fault-number.ensures in
+    let e = sym c.if-number-eq0.true ∙ c.window_fault-number.ensures in
     λ q.
-    let i = fill_in f a.view q a.top a.left a.height a.width a.out.now 3 (sym k.requires.1) e in
-    rw k.if-number-eq0.true
-    (coloured_none f a.view q a.top a.left a.height a.width a.out.now a.colour k.requires.1 _ _ e
+    let i = fill_in f a.view q a.top a.left a.height a.width a.out.now 3 (sym c.requires.1) e in
+    rw c.if-number-eq0.true
+    (coloured_none f a.view q a.top a.left a.height a.width a.out.now a.colour c.requires.1 _ _ e
     (fill-window.ensures i) c.colour_pass.ensures)
 
 pub returns-else-number-eq0 : goal.returns-else-number-eq0

@@ -2,6 +2,7 @@ use native.Mathlib.Nat.{le-div_iff_mul-le, div-mul-le_self}
 use native.Mathlib.Omega.{arith}
 use borrow.Author.Rules.{rules}
 use Rattle.develop.proofs.fill.columns_at_once.Goals as goal
+use Rattle.develop.proofs.fill.columns_at_once.Goals.{Start}
 
 pub returns-then-deltas-eq0 : goal.returns-then-deltas-eq0
 returns-then-deltas-eq0 c =

@@ -5,6 +5,7 @@ use Rattle.rawtags.specs.Raw.{active_rows, active_columns}
 use Rattle.opcodes.specs.declared.grid.Size.{Size}
 use Rattle.develop.proofs.Windows.{viewed_sized, viewed_list, viewed_read, viewed_part, samples_is}
 use Rattle.develop.proofs.fill.developed_part.Goals as goal
+use Rattle.develop.proofs.fill.developed_part.Goals.{Start}
 
 pub developed_row-requires : goal.developed_row-requires
 developed_row-requires c =

@@ -6,7 +6,7 @@ use borrow.Author.Rules.{rules}
 use lib.ListN.{length}
 use Rattle.develop.proofs.Windows.{viewed_sized, viewed_plain, copies_length, array_length, along_part}
 use Rattle.develop.proofs.fill.fill_part.Goals as goal
-use Rattle.develop.proofs.fill.fill_part.Goals.{After-space-2-1, Start}
+use Rattle.develop.proofs.fill.fill_part.Goals.{After-fill_along, After-shared_slice_known-1, After-space-1, After-space-2-1, Start}
 
 fits : (n m k : ℕ) → k ≡ m → n ≤ m → n ≤ k
 fits n m k e h = omega arith

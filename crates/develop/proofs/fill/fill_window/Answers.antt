@@ -8,6 +8,7 @@ use Rattle.develop.specs.Calls.{alone_in}
 use Rattle.develop.specs.Facts.Fill.{FillIn, number_of, Upto}
 use Rattle.develop.proofs.Windows.{upto_values, viewed_sized, fill_same}
 use Rattle.develop.proofs.fill.fill_window.Goals as goal
+use Rattle.develop.proofs.fill.fill_window.Goals.{Start}
 
 pub columns_at_once-most-requires : goal.columns_at_once-most-requires
 columns_at_once-most-requires c =

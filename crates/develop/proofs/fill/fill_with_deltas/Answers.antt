@@ -6,6 +6,7 @@ use lib.IntN.{pos}
 use Rattle.samples.proofs.Lines.{zeros_part}
 use Rattle.develop.proofs.Windows.{viewed_sized, viewed_wide, copies_length, array_length, deltas_part}
 use Rattle.develop.proofs.fill.fill_with_deltas.Goals as goal
+use Rattle.develop.proofs.fill.fill_with_deltas.Goals.{Start}
 
 fits : (n m k : ℕ) → k ≡ m → n ≤ m → n ≤ k
 fits n m k e h = omega arith

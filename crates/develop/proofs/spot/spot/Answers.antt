@@ -4,6 +4,7 @@ use Rattle.develop.specs.Calls.{spot_of}
 use Rattle.develop.specs.Facts.View.{OpeningIs}
 use borrow.Author.Rules.{rules}
 use Rattle.develop.proofs.spot.spot.Goals as goal
+use Rattle.develop.proofs.spot.spot.Goals.{After-open}
 
 pub spot_in-requires : goal.spot_in-requires
 spot_in-requires c =

@@ -6,6 +6,7 @@ use Rattle.develop.proofs.Called.{viewed_active, spot_viewed, spot_outside}
 use lib.Ieee.{of_bits}
 use borrow.Author.Rules.{rules}
 use Rattle.develop.proofs.spot.spot_in.Goals as goal
+use Rattle.develop.proofs.spot.spot_in.Goals.{After-shared_slice_known-1, After-within-arg-1}
 
 pub scaled_at-x-requires : goal.scaled_at-x-requires
 scaled_at-x-requires c =

@@ -3,6 +3,7 @@ use Rattle.develop.specs.Calls.{window_of}
 use Rattle.develop.specs.Facts.View.{OpeningIs}
 use borrow.Author.Rules.{rules}
 use Rattle.develop.proofs.table_window.table_window.Goals as goal
+use Rattle.develop.proofs.table_window.table_window.Goals.{After-open}
 
 pub table_window_in-requires : goal.table_window_in-requires
 table_window_in-requires c =

@@ -3,6 +3,7 @@ use Rattle.develop.proofs.Windows.{viewed_sized}
 use Rattle.develop.proofs.Called.{fill_in, window_none, window_fault_law}
 use borrow.Author.Rules.{rules}
 use Rattle.develop.proofs.table_window.table_window_in.Goals as goal
+use Rattle.develop.proofs.table_window.table_window_in.Goals.{Start, Then-fault-eq0}
 
 pub window_fault-fault-requires : goal.window_fault-fault-requires
 window_fault-fault-requires c =
@@ -17,12 +18,11 @@ fill_tabled-requires c =
 
 pub returns-then-fault-eq0 : goal.returns-then-fault-eq0
 returns-then-fault-eq0 c =
-    let k = (goal.at.returns-then-fault-eq0 c).Then-fault-eq0 in
-    let a = k.args in
+    let a = c.args in
     let f = a.file.now in
-    let e = sym k.if-fault-eq0.true ∙ k.window_fault-fault.ensures in
-    let i = fill_in f a.view k.requires a.top a.left a.height a.width a.out.now a.view.size.samples refl e in
-    rw k.if-fault-eq0.true
+    let e = sym c.if-fault-eq0.true ∙ c.window_fault-fault.ensures in
+    let i = fill_in f a.view c.requires a.top a.left a.height a.width a.out.now a.view.size.samples refl e in
+    rw c.if-fault-eq0.true
     (window_none f a.view i.file a.top a.left a.height a.width a.out.now _ e
     (c.fill_tabled.ensures i))
 

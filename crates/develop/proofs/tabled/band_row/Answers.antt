@@ -9,7 +9,7 @@ use Rattle.develop.specs.Facts.Tabled.{levels_of, rows_met, columns_met}
 use Rattle.develop.proofs.Bands.{one_sample, some_met, row_tables}
 use Rattle.develop.proofs.Windows.{viewed_sized, viewed_wide}
 use Rattle.develop.proofs.tabled.band_row.Goals as goal
-use Rattle.develop.proofs.tabled.band_row.Goals.{After-rows_met}
+use Rattle.develop.proofs.tabled.band_row.Goals.{After-rows_met, Start}
 
 -- the row's place among the rows met
 place : (c : After-rows_met) → let a = c.args in

@@ -7,7 +7,7 @@ use lib.ListN.{length}
 use Rattle.develop.proofs.Bands.{some_met, band_tables}
 use Rattle.develop.proofs.Windows.{viewed_sized}
 use Rattle.develop.proofs.tabled.fill_band.Goals as goal
-use Rattle.develop.proofs.tabled.fill_band.Goals.{After-columns_met-columns}
+use Rattle.develop.proofs.tabled.fill_band.Goals.{After-columns_met-columns, After-raw-1, Start}
 
 -- at most 64 tables
 few : (c : After-columns_met-columns) → let s = (FIXME c).Start in

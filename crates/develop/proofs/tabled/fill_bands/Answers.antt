@@ -10,7 +10,7 @@ use Rattle.develop.specs.Facts.Tabled.{rows_met, columns_met, RowsUpto}
 use Rattle.develop.specs.Facts.View.{Viewed}
 use Rattle.develop.proofs.Bands.{some_met, one_sample, rows_values}
 use Rattle.develop.proofs.tabled.fill_bands.Goals as goal
-use Rattle.develop.proofs.tabled.fill_bands.Goals.{After-columns_met-columns}
+use Rattle.develop.proofs.tabled.fill_bands.Goals.{After-columns_met-columns, Start}
 
 -- a row of cells at least has room for its tables, and so many have
 some_room : (c : After-columns_met-columns) → let n = c.columns_met-columns.result in (1 ≤ n) × (1 ≤ 16 / n) × (16 / n * n ≤ 16)
@@ -47,14 +47,13 @@ fill_band-requires c =
 
 pub overflow_add-from : goal.overflow_add-from
 overflow_add-from c =
-    let met = (goal.at.overflow_add-from c).After-columns_met-columns in
-    let a = met.args in
-    let m = some_met a.file.now a.view a.window met.requires.0 in
+    let a = c.args in
+    let m = some_met a.file.now a.view a.window c.requires.0 in
     omega (
       arith,
       c.smaller-count.ensures,
       c.loop-from.invariant.2,
-      met.rows_met-rows.ensures,
+      c.rows_met-rows.ensures,
       m.1,
     )
 

@@ -3,6 +3,7 @@ use native.Mathlib.Nat.{div-le_self, mul-le-mul}
 use native.Mathlib.Omega.{arith}
 use borrow.Author.Rules.{rules}
 use Rattle.develop.proofs.tabled.pays.Goals as goal
+use Rattle.develop.proofs.tabled.pays.Goals.{Start}
 
 pub overflow_mul-result : goal.overflow_mul-result
 overflow_mul-result c =

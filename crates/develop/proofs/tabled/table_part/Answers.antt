@@ -7,6 +7,7 @@ use Rattle.rows.specs.Facts.Part.{AllInUnit}
 use Rattle.rows.proofs.Through.{part_units, part_developed}
 use Rattle.develop.proofs.Windows.{viewed_sized, viewed_list, viewed_read, viewed_part, samples_is}
 use Rattle.develop.proofs.tabled.table_part.Goals as goal
+use Rattle.develop.proofs.tabled.table_part.Goals.{Start}
 
 pub table_row-requires : goal.table_row-requires
 table_row-requires c =

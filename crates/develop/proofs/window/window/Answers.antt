@@ -3,6 +3,7 @@ use Rattle.develop.specs.Calls.{window_of}
 use Rattle.develop.specs.Facts.View.{OpeningIs}
 use borrow.Author.Rules.{rules}
 use Rattle.develop.proofs.window.window.Goals as goal
+use Rattle.develop.proofs.window.window.Goals.{After-open}
 
 pub opened_window-requires : goal.opened_window-requires
 opened_window-requires c =

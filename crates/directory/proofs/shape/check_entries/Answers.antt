@@ -12,7 +12,7 @@ use Rattle.directory.proofs.Entries.{entry_most, OneMore, one_more}
 use Rattle.directory.proofs.Shapes.{shape_none, shape_refused, shape_order, shape_next}
 use borrow.Author.Rules.{rules}
 use Rattle.directory.proofs.shape.check_entries.Goals as goal
-use Rattle.directory.proofs.shape.check_entries.Goals.{In-Is, In-loop-left}
+use Rattle.directory.proofs.shape.check_entries.Goals.{At-loop-left, In-Is, In-loop-left, Start}
 
 pub overflow_add-step : goal.overflow_add-step
 overflow_add-step c =

@@ -9,7 +9,7 @@ use Rattle.directory.proofs.Entries.{wide_most, entry_most}
 use Rattle.directory.proofs.Shapes.{ifd_outside, ifd_empty, ifd_cut, ifd_refused, ifd_is}
 use borrow.Author.Rules.{rules}
 use Rattle.directory.proofs.shape.ifd_at.Goals as goal
-use Rattle.directory.proofs.shape.ifd_at.Goals.{Then-inside, Then-many_inside}
+use Rattle.directory.proofs.shape.ifd_at.Goals.{After-check_entries, After-value-count, Start, Then-inside, Then-many_inside}
 
 -- the count lies in the file
 counted : (c : Then-inside) → let a = c.args in a.at + a.widths.entries ≤ length a.file.now
@@ -58,11 +58,10 @@ check_entries-requires c =
 
 pub returns-in-Refused : goal.returns-in-Refused
 returns-in-Refused c =
-    let k = (goal.at.returns-in-Refused c).After-check_entries in
     let i = (goal.at.returns-in-Refused c).Then-many_inside in
     let v = (goal.at.returns-in-Refused c).After-value-count in
     let a = v.args in
-    let e = ap number_out (sym c.in-Refused.is) ∙ k.check_entries.ensures in (
+    let e = ap number_out (sym c.in-Refused.is) ∙ c.check_entries.ensures in (
       ifd_refused a.widths a.file.now _ _ _ (counted (goal.at.returns-in-Refused c).Then-inside) _ v.value-count.ensures i.if-count-gt0.true (room (goal.at.returns-in-Refused c).Then-many_inside) _ _
           e,
       tt,
@@ -70,10 +69,9 @@ returns-in-Refused c =
 
 pub returns-in-Is : goal.returns-in-Is
 returns-in-Is c =
-    let k = (goal.at.returns-in-Is c).After-check_entries in
     let i = (goal.at.returns-in-Is c).Then-many_inside in
     let v = (goal.at.returns-in-Is c).After-value-count in
-    let e = ap number_out (sym c.in-Is.is) ∙ k.check_entries.ensures in (
+    let e = ap number_out (sym c.in-Is.is) ∙ c.check_entries.ensures in (
       ifd_is v.args.widths v.args.file.now _ _ _ (counted (goal.at.returns-in-Is c).Then-inside) _ v.value-count.ensures i.if-count-gt0.true
           (room (goal.at.returns-in-Is c).Then-many_inside) _ e,
       record { laid = v.requires.1; inside = omega (arith, room (goal.at.returns-in-Is c).Then-many_inside); next = _; shape = e },

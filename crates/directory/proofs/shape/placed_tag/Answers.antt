@@ -9,7 +9,7 @@ use Rattle.directory.proofs.Entries.{wide_most, fit, unfit, header_at}
 use Rattle.directory.proofs.Shapes.{entry_within, entry_inside, entry_outside}
 use borrow.Author.Rules.{rules}
 use Rattle.directory.proofs.shape.placed_tag.Goals as goal
-use Rattle.directory.proofs.shape.placed_tag.Goals.{After-value-count}
+use Rattle.directory.proofs.shape.placed_tag.Goals.{After-value-count, After-value-place}
 
 pub short-tag-requires : goal.short-tag-requires
 short-tag-requires c =
@@ -68,20 +68,18 @@ many_inside-requires c =
 
 pub returns-then-many_inside : goal.returns-then-many_inside
 returns-then-many_inside c =
-    let v = (goal.at.returns-then-many_inside c).After-value-place in
     let h = (goal.at.returns-then-many_inside c).After-value-count in
     let a = h.args in
     let s = h.type_size.ensures.0 in
-    let b = unfit (λ (m : ℕ). m * h.value-count.result) (entry (goal.at.returns-then-many_inside c).After-value-count).kind _ _ _ s v.fits.ensures v.if-fits.false in
-    let r = fit (λ (m : ℕ). v.value-place.result + m * h.value-count.result) (entry (goal.at.returns-then-many_inside c).After-value-count).kind _ _ _ s c.many_inside.ensures
-    c.if-many_inside.true in record { result_value = entry_inside a.widths a.file.now _ _ _ (entry (goal.at.returns-then-many_inside c).After-value-count) (head (goal.at.returns-then-many_inside c).After-value-count) b _ v.value-place.ensures r; tag_in = omega arith }
+    let b = unfit (λ (m : ℕ). m * h.value-count.result) (entry (goal.at.returns-then-many_inside c).After-value-count).kind _ _ _ s c.fits.ensures c.if-fits.false in
+    let r = fit (λ (m : ℕ). c.value-place.result + m * h.value-count.result) (entry (goal.at.returns-then-many_inside c).After-value-count).kind _ _ _ s c.many_inside.ensures
+    c.if-many_inside.true in record { result_value = entry_inside a.widths a.file.now _ _ _ (entry (goal.at.returns-then-many_inside c).After-value-count) (head (goal.at.returns-then-many_inside c).After-value-count) b _ c.value-place.ensures r; tag_in = omega arith }
 
 pub returns-else-many_inside : goal.returns-else-many_inside
 returns-else-many_inside c =
-    let v = (goal.at.returns-else-many_inside c).After-value-place in
     let h = (goal.at.returns-else-many_inside c).After-value-count in
     let a = h.args in
     let s = h.type_size.ensures.0 in
-    let b = unfit (λ (m : ℕ). m * h.value-count.result) (entry (goal.at.returns-else-many_inside c).After-value-count).kind _ _ _ s v.fits.ensures v.if-fits.false in
-    let r = unfit (λ (m : ℕ). v.value-place.result + m * h.value-count.result) (entry (goal.at.returns-else-many_inside c).After-value-count).kind _ _ _ s c.many_inside.ensures
-    c.if-many_inside.false in record { result_value = entry_outside a.widths a.file.now _ _ _ (entry (goal.at.returns-else-many_inside c).After-value-count) (head (goal.at.returns-else-many_inside c).After-value-count) b _ v.value-place.ensures r; tag_in = tt }
+    let b = unfit (λ (m : ℕ). m * h.value-count.result) (entry (goal.at.returns-else-many_inside c).After-value-count).kind _ _ _ s c.fits.ensures c.if-fits.false in
+    let r = unfit (λ (m : ℕ). c.value-place.result + m * h.value-count.result) (entry (goal.at.returns-else-many_inside c).After-value-count).kind _ _ _ s c.many_inside.ensures
+    c.if-many_inside.false in record { result_value = entry_outside a.widths a.file.now _ _ _ (entry (goal.at.returns-else-many_inside c).After-value-count) (head (goal.at.returns-else-many_inside c).After-value-count) b _ c.value-place.ensures r; tag_in = tt }

@@ -10,7 +10,7 @@ use Rattle.directory.proofs.Tags.{looked_up, wide}
 use Rattle.reading.proofs.Reading.{run_answer}
 use borrow.Author.Rules.{rules}
 use Rattle.directory.proofs.tag.all.Goals as goal
-use Rattle.directory.proofs.tag.all.Goals.{In-Is}
+use Rattle.directory.proofs.tag.all.Goals.{In-Is, Start}
 
 pub returns-in-Refused : goal.returns-in-Refused
 unfolding all_reading

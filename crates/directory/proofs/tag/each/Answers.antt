@@ -10,7 +10,7 @@ use Rattle.directory.proofs.Entries.{OneMore, one_more}
 use Rattle.directory.proofs.Tags.{each_none, each_bad, each_next}
 use borrow.Author.Rules.{rules}
 use Rattle.directory.proofs.tag.each.Goals as goal
-use Rattle.directory.proofs.tag.each.Goals.{In-loop-left}
+use Rattle.directory.proofs.tag.each.Goals.{After-value, At-loop-left, In-loop-left}
 
 pub loop-left-init : goal.loop-left-init
 loop-left-init c =
@@ -28,10 +28,9 @@ value-requires c =
 pub returns-in-Refused : goal.returns-in-Refused
 returns-in-Refused c =
     let judged = c.judged in
-    let v = (goal.at.returns-in-Refused c).After-value in
-    let a = v.args in
+    let a = c.args in
     let e = ap number_out (sym c.in-Refused.is) ∙ judged.ensures.0 in
-    each_bad a.file.now _ _ _ _ _ v.loop-left.left (v.loop-left.left - 1) _ (omega arith) v.value.ensures _ _ e ∙ sym v.loop-left.invariant.0
+    each_bad a.file.now _ _ _ _ _ c.loop-left.left (c.loop-left.left - 1) _ (omega arith) c.value.ensures _ _ e ∙ sym c.loop-left.invariant.0
 
 pub overflow_add-p : goal.overflow_add-p
 overflow_add-p c =

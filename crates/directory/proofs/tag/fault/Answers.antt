@@ -6,6 +6,7 @@ use borrow.Author.Tests.{eqb-false, lt-ltb, le-ltb}
 use Rattle.reading.proofs.Reading.{pick_yes, pick_no}
 use Rattle.directory.specs.Tag.{range_fault}
 use Rattle.directory.proofs.tag.fault.Goals as goal
+use Rattle.directory.proofs.tag.fault.Goals.{Else-v-range, Else-v-range-2}
 
 -- a refusal is no 0
 refuses : {A : Type 0} (n : ℕ) → eqb n 0 ≡ false → n ≡ 0 → A
@@ -30,8 +31,7 @@ returns-then-range-v c = (
 
 pub returns-else-range-v : goal.returns-else-range-v
 unfolding range_fault
-returns-else-range-v c =
-    let s = (goal.at.returns-else-range-v c).Else-v-range-2 in (
-      rw (le-ltb _ _ s.if-v-range.false, le-ltb _ _ s.if-v-range-2.false, le-ltb _ _ c.if-range-v.false, pick_no, pick_no, pick_no),
-      λ h. record { legal = s.if-v-range.false; from = s.if-v-range-2.false; to = c.if-range-v.false },
-    )
+returns-else-range-v c = (
+  rw (le-ltb _ _ c.if-v-range.false, le-ltb _ _ c.if-v-range-2.false, le-ltb _ _ c.if-range-v.false, pick_no, pick_no, pick_no),
+  λ h. record { legal = c.if-v-range.false; from = c.if-v-range-2.false; to = c.if-range-v.false },
+)

@@ -12,7 +12,7 @@ use Rattle.directory.proofs.Tags.{find_none, find_here, find_later}
 use Rattle.directory.specs.declared.entry.Entry.{Entry}
 use borrow.Author.Rules.{rules}
 use Rattle.directory.proofs.tag.find.Goals as goal
-use Rattle.directory.proofs.tag.find.Goals.{After-short, In-loop-left}
+use Rattle.directory.proofs.tag.find.Goals.{After-short, At-loop-left, In-loop-left, Then-short-tag}
 
 pub overflow_add-head : goal.overflow_add-head
 overflow_add-head c =

@@ -6,6 +6,7 @@ use Rattle.directory.specs.declared.tag.Found.TheVariants.{At, Absent}
 use Rattle.directory.proofs.Tags.{PlacedIn, found_placed, values_found_law}
 use borrow.Author.Rules.{rules}
 use Rattle.directory.proofs.tag.look_up.Goals as goal
+use Rattle.directory.proofs.tag.look_up.Goals.{Start}
 
 pub find-found-requires : goal.find-found-requires
 find-found-requires c = let a =

@@ -11,7 +11,7 @@ use Rattle.directory.proofs.Entries.{one_more}
 use Rattle.directory.proofs.Tags.{looked_up, wide, first_default, first_is}
 use borrow.Author.Rules.{rules}
 use Rattle.directory.proofs.tag.one.Goals as goal
-use Rattle.directory.proofs.tag.one.Goals.{In-Is}
+use Rattle.directory.proofs.tag.one.Goals.{In-Is, Start}
 
 pub returns-in-Refused : goal.returns-in-Refused
 unfolding one_reading

@@ -8,7 +8,7 @@ use Rattle.directory.proofs.Entries.{wide_most, fit, unfit}
 use Rattle.directory.proofs.Tags.{kind_wrong, count_low, count_high, in_entry, elsewhere, inside_entry, inside_file}
 use borrow.Author.Rules.{rules}
 use Rattle.directory.proofs.tag.tested.Goals as goal
-use Rattle.directory.proofs.tag.tested.Goals.{Then-ok}
+use Rattle.directory.proofs.tag.tested.Goals.{Start, Then-ok}
 
 allowed : (c : Then-ok) → allows_of c.args.rule.kinds c.args.entry.kind ≡ true
 allowed c = sym c.allows-ok.ensures ∙ c.if-ok.true

@@ -3,6 +3,7 @@ use native.Mathlib.Omega.{arith}
 use Rattle.directory.proofs.Trees.{big_tiff_laid, big_tiff_small, big_tiff_not_8, big_tiff_not_0, big_tiff_offset}
 use borrow.Author.Rules.{rules}
 use Rattle.directory.proofs.tree.big_tiff_root.Goals as goal
+use Rattle.directory.proofs.tree.big_tiff_root.Goals.{After-short, After-short-2, Else-file-lt16}
 
 pub returns-then-file-lt16 : goal.returns-then-file-lt16
 returns-then-file-lt16 c =
@@ -24,10 +25,9 @@ root_from-requires c =
     (c.requires, big_tiff_laid _ refl refl (omega arith), omega (arith, c.if-file-lt16.false))
 
 pub returns : goal.returns
-returns c =
-    let t = (goal.at.returns c).After-short-2 in (
-      c.root_from.ensures.0
-          ∙ sym (big_tiff_offset _ _ _ t.if-file-lt16.false _ t.short.ensures t.if-short-ne8.false _ t.short-2.ensures
-          c.if-short-ne0.false),
-      c.root_from.ensures.1,
-    )
+returns c = (
+  c.root_from.ensures.0
+      ∙ sym (big_tiff_offset _ _ _ c.if-file-lt16.false _ c.short.ensures c.if-short-ne8.false _ c.short-2.ensures
+      c.if-short-ne0.false),
+  c.root_from.ensures.1,
+)

@@ -8,7 +8,7 @@ use Rattle.directory.specs.Tree.{version_rule, backward_rule}
 use Rattle.directory.proofs.Trees.{version_refused, backward_refused, version_above, version_is}
 use borrow.Author.Rules.{rules}
 use Rattle.directory.proofs.tree.check_version.Goals as goal
-use Rattle.directory.proofs.tree.check_version.Goals.{In-Is, In-Is-look_up}
+use Rattle.directory.proofs.tree.check_version.Goals.{After-look_up-2, In-Is, In-Is-look_up}
 
 pub returns-in-Refused : goal.returns-in-Refused
 returns-in-Refused c =
@@ -26,8 +26,7 @@ returns-in-Refused-look_up c =
 
 pub backward-n-requires : goal.backward-n-requires
 backward-n-requires c =
-    let k = (goal.at.backward-n-requires c).After-look_up-2 in
-    let n = length k.args.file.now in record { placed_values = subst (ValuesIn n version_rule) k.in-Is.is k.look_up.ensures.1; placed_values_2 = subst (ValuesIn n backward_rule) c.in-Is-look_up.is k.look_up-2.ensures.1 }
+    let n = length c.args.file.now in record { placed_values = subst (ValuesIn n version_rule) c.in-Is.is c.look_up.ensures.1; placed_values_2 = subst (ValuesIn n backward_rule) c.in-Is-look_up.is c.look_up-2.ensures.1 }
 
 backward_values : (c : In-Is-look_up) → let a = c.args in
     is c.in-Is-look_up.v ≡ run a.file.now (values_reading a.ifd backward_rule)

@@ -9,7 +9,7 @@ use Rattle.directory.specs.Tree.{children_rule, subfile_reading}
 use Rattle.directory.proofs.Trees.{look_refused, look_raw, children_refused, look_into}
 use borrow.Author.Rules.{rules}
 use Rattle.directory.proofs.tree.inspect.Goals as goal
-use Rattle.directory.proofs.tree.inspect.Goals.{In-Is}
+use Rattle.directory.proofs.tree.inspect.Goals.{After-look_up, In-Is, Start}
 
 pub returns-in-Refused : goal.returns-in-Refused
 returns-in-Refused c =

@@ -11,7 +11,7 @@ use Rattle.directory.specs.Facts.Tree.{walk_out, WalkIn}
 use Rattle.directory.proofs.Outs.{bind_refused, bind_is}
 use borrow.Author.Rules.{rules}
 use Rattle.directory.proofs.tree.root.Goals as goal
-use Rattle.directory.proofs.tree.root.Goals.{After-walk_from, In-Is}
+use Rattle.directory.proofs.tree.root.Goals.{After-check_version, After-walk_from, In-Is, Start}
 
 pub returns-in-Refused : goal.returns-in-Refused
 unfolding root_reading

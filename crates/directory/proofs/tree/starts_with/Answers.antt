@@ -3,6 +3,7 @@ use borrow.Author.Tests.{eq-eqb, ne_eqb}
 use Rattle.directory.proofs.Trees.{start_is}
 use borrow.Author.Rules.{rules}
 use Rattle.directory.proofs.tree.starts_with.Goals as goal
+use Rattle.directory.proofs.tree.starts_with.Goals.{After-shared_slice_known-1, Else-file-mark-2, Else-file-mark-3}
 
 pub returns-then-file-mark : goal.returns-then-file-mark
 returns-then-file-mark c =
@@ -21,6 +22,5 @@ returns-then-file-mark-3 c =
 
 pub returns : goal.returns
 returns c =
-    let t = (goal.at.returns c).Else-file-mark-3 in
     let e = start_is c.args.file.now c.args.mark.now c.requires.0 c.requires.1 in
-    rw (← e, eq-eqb _ _ t.if-file-mark.false, eq-eqb _ _ t.if-file-mark-2.false, eq-eqb _ _ t.if-file-mark-3.false, and-true)
+    rw (← e, eq-eqb _ _ c.if-file-mark.false, eq-eqb _ _ c.if-file-mark-2.false, eq-eqb _ _ c.if-file-mark-3.false, and-true)

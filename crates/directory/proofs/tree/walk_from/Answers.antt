@@ -6,6 +6,7 @@ use Rattle.directory.specs.Facts.Tree.{look_out, LookIn}
 use Rattle.directory.proofs.Outs.{bind_refused, bind_is}
 use borrow.Author.Rules.{rules}
 use Rattle.directory.proofs.tree.walk_from.Goals as goal
+use Rattle.directory.proofs.tree.walk_from.Goals.{After-inspect, In-Into, Start}
 
 pub inspect-requires : goal.inspect-requires
 inspect-requires c =
@@ -13,7 +14,7 @@ inspect-requires c =
 
 pub visit_children-requires : goal.visit_children-requires
 visit_children-requires c =
-    let n = (goal.at.visit_children-requires c).After-inspect in record { file_len_bound = (n.requires.0, n.requires.1.laid); count_bound = subst (LookIn (length n.args.file.now)) c.in-Into.is n.inspect.ensures.1 }
+    record { file_len_bound = (c.requires.0, c.requires.1.laid); count_bound = subst (LookIn (length c.args.file.now)) c.in-Into.is c.inspect.ensures.1 }
 
 pub returns-in-Raw : goal.returns-in-Raw
 unfolding walk_reading

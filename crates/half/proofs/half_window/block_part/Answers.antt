@@ -16,7 +16,7 @@ use Rattle.develop.proofs.Windows.{part_length, window_length, upto_values, view
 use Rattle.half.proofs.BlockLaws.{pair_blocks}
 use borrow.Author.Rules.{rules}
 use Rattle.half.proofs.half_window.block_part.Goals as goal
-use Rattle.half.proofs.half_window.block_part.Goals.{After-fill_columns, After-pair-1, Start}
+use Rattle.half.proofs.half_window.block_part.Goals.{After-fill_columns, After-fill_columns-arg-1, After-pair-1, Start}
 
 -- the blocks' rows and columns lie in the active area, of which no side is over 16,384
 rows_in : (k : Start) → (2 * k.args.part.top + 2 ≤ k.args.view.size.rows) × (k.args.view.size.rows ≤ 16384)

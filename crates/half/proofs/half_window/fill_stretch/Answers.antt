@@ -5,7 +5,7 @@ use borrow.Author.Rules.{rules}
 use lib.ListN.{length}
 use Rattle.develop.proofs.Windows.{viewed_sized, viewed_plain, copies_length, array_length, along_part}
 use Rattle.half.proofs.half_window.fill_stretch.Goals as goal
-use Rattle.half.proofs.half_window.fill_stretch.Goals.{After-space-2-1, Start}
+use Rattle.half.proofs.half_window.fill_stretch.Goals.{After-fill_along, After-shared_slice_known-1, After-space-1, After-space-2-1, Start}
 
 fits : (n m k : ℕ) → k ≡ m → n ≤ m → n ≤ k
 fits n m k e h = omega arith

@@ -7,7 +7,7 @@ use Rattle.colour.specs.Facts.Tags.{colour_out}
 use Rattle.half.proofs.BlockLaws.{half_not, half_uncoloured, half_unpatterned, half_is}
 use borrow.Author.Rules.{rules}
 use Rattle.half.proofs.half_window.half_of.Goals as goal
-use Rattle.half.proofs.half_window.half_of.Goals.{In-Is-2}
+use Rattle.half.proofs.half_window.half_of.Goals.{In-Is, In-Is-2, In-Is-pattern_of-2}
 
 -- the colour tags' answer
 colour : (k : In-Is-2) → let a = k.args in
@@ -34,7 +34,6 @@ returns-in-Refused-pattern_of c =
 
 pub returns-in-Is-pattern_of : goal.returns-in-Is-pattern_of
 returns-in-Is-pattern_of c =
-    let p = (goal.at.returns-in-Is-pattern_of c).In-Is-pattern_of-2 in
     let k = (goal.at.returns-in-Is-pattern_of c).In-Is in
-    let e = ap pattern_out (sym p.in-Is-pattern_of.is) ∙ p.pattern_of.ensures in
+    let e = ap pattern_out (sym c.in-Is-pattern_of.is) ∙ c.pattern_of.ensures in
     half_is _ _ k.if-picture-ne1.false _ (colour (goal.at.returns-in-Is-pattern_of c).In-Is) _ e

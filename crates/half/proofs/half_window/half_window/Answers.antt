@@ -3,11 +3,11 @@ use Rattle.half.specs.Half.{half_window_of}
 use Rattle.develop.specs.Facts.View.{OpeningIs}
 use borrow.Author.Rules.{rules}
 use Rattle.half.proofs.half_window.half_window.Goals as goal
+use Rattle.half.proofs.half_window.half_window.Goals.{After-open, In-Is-2, Start}
 
 pub half_window_in-requires : goal.half_window_in-requires
 half_window_in-requires c =
-    let v = (goal.at.half_window_in-requires c).In-Is-2 in
-    subst (OpeningIs v.args.file.now) v.in-Is.is (goal.at.half_window_in-requires c).After-open.«open».ensures
+    subst (OpeningIs c.args.file.now) c.in-Is.is (goal.at.half_window_in-requires c).After-open.«open».ensures
 
 pub returns-in-Refused : goal.returns-in-Refused
 returns-in-Refused c =

@@ -12,7 +12,7 @@ use borrow.Author.Rules.{rules}
 use Rattle.reading.proofs.Magnitude.{nat_abs_mul, sfits64}
 use Rattle.levels.proofs.Carried.{black_zero, black_negative, black_other, black_large, black_parts}
 use Rattle.levels.proofs.black.of_fraction.Goals as goal
-use Rattle.levels.proofs.black.of_fraction.Goals.{After-magnitude, After-magnitude-d, Else-d-ne0, Else-den-lt0, Then-magnitude-d}
+use Rattle.levels.proofs.black.of_fraction.Goals.{After-magnitude, After-magnitude-d, Else-d-ne0, Else-den-lt0, Start, Then-magnitude-d}
 
 -- what the two fields hold, and their magnitudes
 fits : (z : ℤ) → nat_abs z < 0x1_0000_0000 → to_z w64 (of_z w64 z) ≡ z

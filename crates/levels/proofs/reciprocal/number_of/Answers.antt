@@ -7,6 +7,7 @@ use mir.Facts.{to_z-of_z}
 use Rattle.reading.proofs.Wholes.{casts}
 use Rattle.levels.proofs.Values.{parts, parts_divided}
 use Rattle.levels.proofs.reciprocal.number_of.Goals as goal
+use Rattle.levels.proofs.reciprocal.number_of.Goals.{Start}
 
 pub int_to_float-result : goal.int_to_float-result
 int_to_float-result c =

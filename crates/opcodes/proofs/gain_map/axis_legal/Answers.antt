@@ -1,6 +1,7 @@
 use Rattle.std.proofs.Common.{◌∙◌, rules}
 use Rattle.opcodes.proofs.GainMaps.{axis_none, axis_many, axis_one, axis_some}
 use Rattle.opcodes.proofs.gain_map.axis_legal.Goals as goal
+use Rattle.opcodes.proofs.gain_map.axis_legal.Goals.{Else-n-lt1}
 
 pub returns-then-n-lt1 : goal.returns-then-n-lt1
 returns-then-n-lt1 c =

@@ -4,6 +4,7 @@ use Rattle.opcodes.specs.GainMap.{float_of, between_of}
 use Rattle.opcodes.proofs.Places.{float_exact, whole_below, word_below}
 use Rattle.opcodes.proofs.BracketLaws.{along_first, along_last, along_between}
 use Rattle.opcodes.proofs.gain_map.bracket_at.Goals as goal
+use Rattle.opcodes.proofs.gain_map.bracket_at.Goals.{Else-last-p, Start}
 
 pub returns-then-p : goal.returns-then-p
 unfolding of_bits
@@ -33,22 +34,20 @@ truncating_f64_to_u64-k-requires c =
 pub int_to_float-result : goal.int_to_float-result
 unfolding of_bits
 int_to_float-result c =
-    let d = (goal.at.int_to_float-result c).Else-last-p in
-    let w = whole_below d.args.p (d.args.points - 1) (omega (arith, d.requires.1)) d.requires.2 d.if-p.false
-    d.if-last-p.false in
-    float_exact _ (omega (arith, w, d.requires.1, c.truncating_f64_to_u64-k.ensures))
+    let w = whole_below c.args.p (c.args.points - 1) (omega (arith, c.requires.1)) c.requires.2 c.if-p.false
+    c.if-last-p.false in
+    float_exact _ (omega (arith, w, c.requires.1, c.truncating_f64_to_u64-k.ensures))
 
 pub returns : goal.returns
 unfolding of_bits
 returns c =
-    let d = (goal.at.returns c).Else-last-p in
-    let p = d.args.p in
-    let n = d.args.points in
-    let h = d.requires.0 in
-    let a = d.if-p.false in
+    let p = c.args.p in
+    let n = c.args.points in
+    let h = c.requires.0 in
+    let a = c.if-p.false in
     let e = c.truncating_f64_to_u64-k.ensures in
-    let w = whole_below p (n - 1) (omega (arith, d.requires.1)) d.requires.2 a d.if-last-p.false in (
+    let w = whole_below p (n - 1) (omega (arith, c.requires.1)) c.requires.2 a c.if-last-p.false in (
       λ g. ap (λ (m : ℕ). between_of (sub binary64 p (float_of m)) (g m) (g (m + 1))) e
-          ∙ along_between n p g (λ o. omega arith) a d.if-last-p.false,
+          ∙ along_between n p g (λ o. omega arith) a c.if-last-p.false,
       omega (arith, w, e),
     )

@@ -4,6 +4,7 @@ use Rattle.opcodes.specs.Facts.Bracket.{next_of}
 use Rattle.opcodes.proofs.Places.{float_exact}
 use Rattle.opcodes.proofs.BracketLaws.{point_below, corners_read}
 use Rattle.opcodes.proofs.gain_map.corners_at.Goals as goal
+use Rattle.opcodes.proofs.gain_map.corners_at.Goals.{After-next-lower, After-next-right, Start}
 
 -- the bracket's point is one of the map's rows
 pub next-lower-requires : goal.next-lower-requires
@@ -21,51 +22,43 @@ int_to_float-result c =
 
 pub int_to_float-result-2 : goal.int_to_float-result-2
 int_to_float-result-2 c =
-    let t = (goal.at.int_to_float-result-2 c).After-next-right in
-    float_exact _ (omega (arith, t.next-right.ensures.1, t.field-2.ensures.0, t.requires.0.across.most))
+    float_exact _ (omega (arith, c.next-right.ensures.1, c.field-2.ensures.0, c.requires.0.across.most))
 
 pub gain-requires : goal.gain-requires
 gain-requires c =
-    let t = (goal.at.gain-requires c).After-next-right in
-    let p = point_below _ t.args.down t.requires.1 in
-    (t.requires.0, omega (arith, p, t.point-i.ensures), t.requires.3, t.requires.2)
+    let p = point_below _ c.args.down c.requires.1 in
+    (c.requires.0, omega (arith, p, c.point-i.ensures), c.requires.3, c.requires.2)
 
 pub gain-requires-2 : goal.gain-requires-2
 gain-requires-2 c =
-    let t = (goal.at.gain-requires-2 c).After-next-right in
-    let p = point_below _ t.args.down t.requires.1 in
-    let r = t.next-right.ensures.1 in (
-      t.requires.0,
-      omega (arith, p, t.point-i.ensures),
-      omega (arith, r, t.field-2.ensures.0),
-      t.requires.2,
+    let p = point_below _ c.args.down c.requires.1 in
+    let r = c.next-right.ensures.1 in (
+      c.requires.0,
+      omega (arith, p, c.point-i.ensures),
+      omega (arith, r, c.field-2.ensures.0),
+      c.requires.2,
     )
 
 pub gain-requires-3 : goal.gain-requires-3
 gain-requires-3 c =
-    let t = (goal.at.gain-requires-3 c).After-next-lower in
-    (t.requires.0, omega (arith, t.next-lower.ensures.1, t.field.ensures.0), t.requires.3, t.requires.2)
+    (c.requires.0, omega (arith, c.next-lower.ensures.1, c.field.ensures.0), c.requires.3, c.requires.2)
 
 pub gain-requires-4 : goal.gain-requires-4
 gain-requires-4 c =
-    let u = (goal.at.gain-requires-4 c).After-next-right in
-    let t = (goal.at.gain-requires-4 c).After-next-lower in
-    let l = t.next-lower.ensures.1 in (
-      t.requires.0,
-      omega (arith, l, t.field.ensures.0),
-      omega (arith, u.next-right.ensures.1, u.field-2.ensures.0),
-      t.requires.2,
+    let l = c.next-lower.ensures.1 in (
+      c.requires.0,
+      omega (arith, l, c.field.ensures.0),
+      omega (arith, c.next-right.ensures.1, c.field-2.ensures.0),
+      c.requires.2,
     )
 
 pub returns : goal.returns
 unfolding gain_map_of
 returns c =
     let gain = c.gain in
-    let u = (goal.at.returns c).After-next-right in
-    let t = (goal.at.returns c).After-next-lower in
-    let m = gain_map_of t.args.ps.now in
-    let i = t.point-i in
-    let l = t.next-lower.ensures.0 ∙ ap (λ (n : ℕ). next_of n i.result) t.field.ensures.0 in
-    let r = u.next-right.ensures.0 ∙ ap (λ (n : ℕ). next_of n t.args.k) u.field-2.ensures.0 in
-    corners_read m t.args.down t.args.q t.args.k _ _ _ _ _ _ _ i.ensures l r
+    let m = gain_map_of c.args.ps.now in
+    let i = c.point-i in
+    let l = c.next-lower.ensures.0 ∙ ap (λ (n : ℕ). next_of n i.result) c.field.ensures.0 in
+    let r = c.next-right.ensures.0 ∙ ap (λ (n : ℕ). next_of n c.args.k) c.field-2.ensures.0 in
+    corners_read m c.args.down c.args.q c.args.k _ _ _ _ _ _ _ i.ensures l r
     gain.ensures c.gain-2.ensures c.gain-3.ensures c.gain-4.ensures

@@ -2,6 +2,7 @@ use Rattle.std.proofs.Common.{ap, ◌∙◌}
 use Rattle.opcodes.specs.GainMap.{gain_map_of}
 use Rattle.opcodes.specs.Facts.Bracket.{corners_of}
 use Rattle.opcodes.proofs.gain_map.corners_near.Goals as goal
+use Rattle.opcodes.proofs.gain_map.corners_near.Goals.{Start}
 
 pub returns-then-corners-k : goal.returns-then-corners-k
 returns-then-corners-k c =

@@ -4,6 +4,7 @@ use Rattle.opcodes.specs.Facts.Bracket.{BracketAt}
 use Rattle.opcodes.proofs.Places.{axis_number}
 use Rattle.opcodes.proofs.BracketLaws.{along_one}
 use Rattle.opcodes.proofs.gain_map.located.Goals as goal
+use Rattle.opcodes.proofs.gain_map.located.Goals.{Start}
 
 pub returns-then-points-eq1 : goal.returns-then-points-eq1
 returns-then-points-eq1 c =

@@ -4,6 +4,7 @@ use Rattle.opcodes.specs.Step.{sum_of}
 use Rattle.opcodes.proofs.IndexSum.{sum_range}
 use Rattle.opcodes.proofs.IndexBits.{index_in_bits, index_most}
 use Rattle.opcodes.proofs.step.unit_index.Goals as goal
+use Rattle.opcodes.proofs.step.unit_index.Goals.{Start}
 
 pub index_from_bits-requires : goal.index_from_bits-requires
 unfolding of_bits

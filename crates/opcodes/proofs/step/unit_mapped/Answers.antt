@@ -8,6 +8,7 @@ use Rattle.levels.proofs.UnitRange.{scaled_unit}
 use Rattle.opcodes.specs.Step.{index_of, mapped_of, table_at}
 use Rattle.opcodes.specs.Grid.{long_of}
 use Rattle.opcodes.proofs.step.unit_mapped.Goals as goal
+use Rattle.opcodes.proofs.step.unit_mapped.Goals.{Start}
 
 pub overflow_add-at : goal.overflow_add-at
 overflow_add-at c =

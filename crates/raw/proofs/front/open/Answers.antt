@@ -6,6 +6,7 @@ use Rattle.raw.specs.Front.{front_reading}
 use Rattle.raw.specs.Facts.Front.{raw_out, RawIn}
 use borrow.Author.Rules.{rules}
 use Rattle.raw.proofs.front.open.Goals as goal
+use Rattle.raw.proofs.front.open.Goals.{After-open, In-Is-2}
 
 pub returns-in-Refused : goal.returns-in-Refused
 unfolding front_reading

@@ -12,7 +12,7 @@ use Rattle.levels.proofs.Fills.{Filled, fill_start, fill_step, fill_end, zeros_s
 use Rattle.raw.specs.Stored.{blacks_reading}
 use borrow.Author.Rules.{rules}
 use Rattle.raw.proofs.greatest.by_residue.Goals as goal
-use Rattle.raw.proofs.greatest.by_residue.Goals.{In-loop-i}
+use Rattle.raw.proofs.greatest.by_residue.Goals.{In-loop-i, Start}
 
 pub loop-i-init : goal.loop-i-init
 loop-i-init c =

@@ -4,6 +4,7 @@ use Rattle.raw.proofs.StoredLaws.{column_deltas_are, row_deltas_are, rows_are, c
 use Rattle.raw.proofs.TagFacts.{deltas_of_law}
 use borrow.Author.Rules.{rules}
 use Rattle.raw.proofs.greatest.greatest_deltas.Goals as goal
+use Rattle.raw.proofs.greatest.greatest_deltas.Goals.{Start}
 
 pub by_residue-columns-requires : goal.by_residue-columns-requires
 by_residue-columns-requires c =

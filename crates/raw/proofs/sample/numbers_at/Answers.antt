@@ -8,6 +8,7 @@ use Rattle.levels.specs.Level.{level_of}
 use Rattle.raw.proofs.TagFacts.{table_inside, numbers_are, span_in}
 use borrow.Author.Rules.{rules}
 use Rattle.raw.proofs.sample.numbers_at.Goals as goal
+use Rattle.raw.proofs.sample.numbers_at.Goals.{After-black_sum-black, Start}
 
 pub through-table_value-requires : goal.through-table_value-requires
 through-table_value-requires c =
@@ -36,28 +37,27 @@ level-level-requires c =
 
 pub returns : goal.returns
 returns c =
-    let k = (goal.at.returns c).After-black_sum-black in
-    let a = k.args in
+    let a = c.args in
     let f = a.file.now in
-    let stored_at = k.stored_at-stored in
-    let through = k.through-table_value in
-    let cell_at = k.cell_at-cell in
-    let across = k.delta_at-column_delta in
-    let down = k.delta_at-row_delta in
+    let stored_at = c.stored_at-stored in
+    let through = c.through-table_value in
+    let cell_at = c.cell_at-cell in
+    let across = c.delta_at-column_delta in
+    let down = c.delta_at-row_delta in
     let greatest = c.greatest_at-greatest_black in
     let difference = c.difference in
     let span-at = c.span_at in
     let fc : SFits w64 cell_at.result = search rules in
     let fa : SFits w64 across.result = search rules in
     let fr : SFits w64 down.result = search rules in
-    let fb : SFits w64 k.black_sum-black.result = search rules in
+    let fb : SFits w64 c.black_sum-black.result = search rules in
     let fs : SFits w64 span-at.result = search rules in
     let fg : SFits w64 greatest.result = search rules in
     let fd : SFits w64 difference.result = search rules in
-    let eb = rw (to_z-of_z fc, to_z-of_z fa, to_z-of_z fr) at k.black_sum-black.ensures.value in
-    let es = span-at.ensures ∙ span_in f a.order a.raw k.requires.raw_in a.plane k.requires.active_in.plane in
+    let eb = rw (to_z-of_z fc, to_z-of_z fa, to_z-of_z fr) at c.black_sum-black.ensures.value in
+    let es = span-at.ensures ∙ span_in f a.order a.raw c.requires.raw_in a.plane c.requires.active_in.plane in
     let ed = rw (to_z-of_z fb) at difference.ensures.value in
     let el = rw (to_z-of_z fd, to_z-of_z fs) at c.level-level.ensures ∙ ap (λ (d : ℤ). level_of d span-at.result) ed in
     rw (to_z-of_z fc, to_z-of_z fa, to_z-of_z fr, to_z-of_z fb, to_z-of_z fg)
-    (numbers_are f a.order a.raw.tags a.row.0 a.column.0 a.plane k.requires.raw_in.tags _ _ _ _ _ _ _ _ span-at.result
+    (numbers_are f a.order a.raw.tags a.row.0 a.column.0 a.plane c.requires.raw_in.tags _ _ _ _ _ _ _ _ span-at.result
     stored_at.ensures through.ensures cell_at.ensures.value across.ensures.value down.ensures.value eb greatest.ensures es el)

@@ -17,7 +17,7 @@ use Rattle.raw.specs.Stored.{levels_reading}
 use Rattle.raw.proofs.StoredLaws.{samples_are}
 use Rattle.raw.proofs.SpanLaws.{first_bad, one_plane, second_bad, third_bad, three_planes, span_in_of, spans_one, spans_three}
 use Rattle.raw.proofs.spans.spans_of.Goals as goal
-use Rattle.raw.proofs.spans.spans_of.Goals.{Start}
+use Rattle.raw.proofs.spans.spans_of.Goals.{After-span-second, Start}
 
 -- a span that the code holds is the one that it was given
 held : {z x : ℤ} → (z ≡ x) × (nat_abs z ≤ 67107840) → let v = to_z w64 (of_z w64 z) in (v ≡ x) × (nat_abs v ≤ 67107840)
@@ -82,26 +82,24 @@ span-third-requires c =
 
 pub returns-then-third-le0 : goal.returns-then-third-le0
 returns-then-third-le0 c =
-    let t = (goal.at.returns-then-third-le0 c).After-span-second in
     let s = (goal.at.returns-then-third-le0 c).Start in
-    let v = held t.span-first.ensures in
-    let w = held t.span-second.ensures in
-    let a = tested v.0 t.if-first-le0.false in
+    let v = held c.span-first.ensures in
+    let w = held c.span-second.ensures in
+    let a = tested v.0 c.if-first-le0.false in
     let b = tested w.0 c.if-second-le0.false in
-    (third_bad _ a (not_one (goal.at.returns-then-third-le0 c).Start t.if-tags-eq1.false) b (tested (held c.span-third.ensures).0 c.if-third-le0.true), tt)
+    (third_bad _ a (not_one (goal.at.returns-then-third-le0 c).Start c.if-tags-eq1.false) b (tested (held c.span-third.ensures).0 c.if-third-le0.true), tt)
 
 pub returns : goal.returns
 returns c =
     let if3 = c.if-second-le0 in
-    let t = (goal.at.returns c).After-span-second in
     let s = (goal.at.returns c).Start in
-    let v = held t.span-first.ensures in
-    let w = held t.span-second.ensures in
+    let v = held c.span-first.ensures in
+    let w = held c.span-second.ensures in
     let u = held c.span-third.ensures in
-    let a = tested v.0 t.if-first-le0.false in
+    let a = tested v.0 c.if-first-le0.false in
     let b = tested w.0 if3.false in (
-      three v.0 w.0 u.0 ∙ three_planes _ a (not_one (goal.at.returns c).Start t.if-tags-eq1.false) b (tested u.0 c.if-third-le0.false),
-      rw (more (goal.at.returns c).Start t.if-tags-eq1.false) (spans_three _ (span_in_of _ t.if-first-le0.false v.1)
+      three v.0 w.0 u.0 ∙ three_planes _ a (not_one (goal.at.returns c).Start c.if-tags-eq1.false) b (tested u.0 c.if-third-le0.false),
+      rw (more (goal.at.returns c).Start c.if-tags-eq1.false) (spans_three _ (span_in_of _ c.if-first-le0.false v.1)
           (span_in_of _ if3.false w.1)
           (span_in_of _ c.if-third-le0.false u.1)),
     )

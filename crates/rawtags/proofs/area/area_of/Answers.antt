@@ -11,6 +11,7 @@ use Rattle.rawtags.specs.Area.{area_reading}
 use Rattle.rawtags.proofs.AreaLaws.{four_whole, four_is}
 use borrow.Author.Rules.{rules}
 use Rattle.rawtags.proofs.area.area_of.Goals as goal
+use Rattle.rawtags.proofs.area.area_of.Goals.{After-value-bottom, After-value-left, After-value-right, After-value-top, In-Is-2}
 
 pub returns-in-Refused : goal.returns-in-Refused
 unfolding area_reading
@@ -119,11 +120,7 @@ value-right-requires c =
 pub returns : goal.returns
 unfolding area_reading
 returns c =
-    let r = (goal.at.returns c).After-value-right in
-    let b = (goal.at.returns c).After-value-bottom in
-    let l = (goal.at.returns c).After-value-left in
-    let t = (goal.at.returns c).After-value-top in
-    let e = ap values_out (sym t.in-Is.is) ∙ t.look_up.ensures.0 in
-    let f = four_is _ _ _ _ t.if-count-eq0.false _ _ _ _ t.value-top.ensures l.value-left.ensures b.value-bottom.ensures
-    r.value-right.ensures in
+    let e = ap values_out (sym c.in-Is.is) ∙ c.look_up.ensures.0 in
+    let f = four_is _ _ _ _ c.if-count-eq0.false _ _ _ _ c.value-top.ensures c.value-left.ensures c.value-bottom.ensures
+    c.value-right.ensures in
     (c.tested_area.ensures.0 ∙ f ∙ sym (bind_is _ _ _ _ e), c.tested_area.ensures.1)

@@ -13,6 +13,7 @@ use Rattle.rawtags.specs.Black.{blacks_test, black_rule, black_reading}
 use Rattle.rawtags.proofs.BlackLaws.{width_for, pair_fits, cells_fit}
 use borrow.Author.Rules.{rules}
 use Rattle.rawtags.proofs.black.black_of.Goals as goal
+use Rattle.rawtags.proofs.black.black_of.Goals.{After-check_blacks, After-kind_for-kind, After-look_up, In-Is-2, Start}
 
 pub overflow_mul-cells : goal.overflow_mul-cells
 overflow_mul-cells c =
@@ -41,24 +42,20 @@ check_blacks-requires c =
 pub returns-in-Refused-check_blacks : goal.returns-in-Refused-check_blacks
 unfolding black_reading
 returns-in-Refused-check_blacks c =
-    let s = (goal.at.returns-in-Refused-check_blacks c).In-Is-2 in
-    let v = s.in-Is.v in
-    let g = ap values_out (sym s.in-Is.is) ∙ s.look_up.ensures.0 in
-    let o = s.args.ifd.order in
-    let e = ap (λ (k : BlackKind). run s.args.file.now (blacks_test o black_level k v.size v.count v.place))
+    let v = c.in-Is.v in
+    let g = ap values_out (sym c.in-Is.is) ∙ c.look_up.ensures.0 in
+    let o = c.args.ifd.order in
+    let e = ap (λ (k : BlackKind). run c.args.file.now (blacks_test o black_level k v.size v.count v.place))
     c.kind_for-kind.ensures in
     let k = ap number_out (sym c.in-Refused-check_blacks.is) ∙ c.check_blacks.ensures ∙ e in record { result_value = bind_refused _ _ _ _ _ k ∙ sym (bind_is _ _ _ _ g); values_in = tt }
 
 pub returns-in-Is-check_blacks : goal.returns-in-Is-check_blacks
 unfolding black_reading
 returns-in-Is-check_blacks c =
-    let s = (goal.at.returns-in-Is-check_blacks c).After-check_blacks in
-    let t = (goal.at.returns-in-Is-check_blacks c).After-kind_for-kind in
-    let u = (goal.at.returns-in-Is-check_blacks c).In-Is-2 in
-    let a = u.args in
+    let a = c.args in
     let f = a.file.now in
     let o = a.ifd.order in
-    let v = u.in-Is.v in
-    let g = looked_up f a.ifd (black_rule a.repeat a.samples) u.in-Is.is u.look_up.ensures in
-    let e = ap (λ (k : BlackKind). run f (blacks_test o black_level k v.size v.count v.place)) t.kind_for-kind.ensures in
-    let k = ap number_out (sym c.in-Is-check_blacks.is) ∙ s.check_blacks.ensures ∙ e in record { result_value = sym (bind_is _ _ _ _ g.0 ∙ bind_is _ _ _ _ k ∙ run_answer _ _); values_in = g.1 }
+    let v = c.in-Is.v in
+    let g = looked_up f a.ifd (black_rule a.repeat a.samples) c.in-Is.is c.look_up.ensures in
+    let e = ap (λ (k : BlackKind). run f (blacks_test o black_level k v.size v.count v.place)) c.kind_for-kind.ensures in
+    let k = ap number_out (sym c.in-Is-check_blacks.is) ∙ c.check_blacks.ensures ∙ e in record { result_value = sym (bind_is _ _ _ _ g.0 ∙ bind_is _ _ _ _ k ∙ run_answer _ _); values_in = g.1 }

@@ -5,6 +5,7 @@ use Rattle.rawtags.specs.Crop.{crop_reading}
 use Rattle.rawtags.specs.Facts.Whole.{lengths_out}
 use borrow.Author.Rules.{rules}
 use Rattle.rawtags.proofs.crop.crop_of.Goals as goal
+use Rattle.rawtags.proofs.crop.crop_of.Goals.{After-lengths_of-2, In-Is-2, In-Is-lengths_of-2}
 
 pub returns-in-Refused : goal.returns-in-Refused
 unfolding crop_reading
@@ -13,20 +14,17 @@ returns-in-Refused c =
 
 pub returns-in-Refused-lengths_of : goal.returns-in-Refused-lengths_of
 unfolding crop_reading
-returns-in-Refused-lengths_of c =
-    let s = (goal.at.returns-in-Refused-lengths_of c).After-lengths_of-2 in (
-      bind_refused _ _ _ _ _ (ap lengths_out (sym c.in-Refused-lengths_of.is) ∙ s.lengths_of-2.ensures)
-          ∙ sym (bind_is _ _ _ _ (ap lengths_out (sym s.in-Is.is) ∙ s.lengths_of.ensures)),
-      tt,
-    )
+returns-in-Refused-lengths_of c = (
+  bind_refused _ _ _ _ _ (ap lengths_out (sym c.in-Refused-lengths_of.is) ∙ c.lengths_of-2.ensures)
+      ∙ sym (bind_is _ _ _ _ (ap lengths_out (sym c.in-Is.is) ∙ c.lengths_of.ensures)),
+  tt,
+)
 
 pub returns : goal.returns
 unfolding crop_reading
-returns c =
-    let w = (goal.at.returns c).In-Is-lengths_of-2 in
-    let s = (goal.at.returns c).After-lengths_of-2 in (
-      c.tested_crop.ensures.0
-          ∙ sym (bind_is _ _ _ _ (ap lengths_out (sym s.in-Is.is) ∙ s.lengths_of.ensures)
-          ∙ bind_is _ _ _ _ (ap lengths_out (sym w.in-Is-lengths_of.is) ∙ s.lengths_of-2.ensures) ∙ run_answer _ _),
-      c.tested_crop.ensures.1,
-    )
+returns c = (
+  c.tested_crop.ensures.0
+      ∙ sym (bind_is _ _ _ _ (ap lengths_out (sym c.in-Is.is) ∙ c.lengths_of.ensures)
+      ∙ bind_is _ _ _ _ (ap lengths_out (sym c.in-Is-lengths_of.is) ∙ c.lengths_of-2.ensures) ∙ run_answer _ _),
+  c.tested_crop.ensures.1,
+)

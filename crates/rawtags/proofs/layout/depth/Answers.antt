@@ -15,6 +15,7 @@ use Rattle.rawtags.specs.Layout.{depth_reading}
 use Rattle.rawtags.proofs.Depth.{depth_other, depth_refused, depth_is}
 use borrow.Author.Rules.{rules}
 use Rattle.rawtags.proofs.layout.depth.Goals as goal
+use Rattle.rawtags.proofs.layout.depth.Goals.{After-bytes_per-bytes, After-value-bits, Else-bytes-eq0, In-Is-2}
 
 pub returns-in-Refused : goal.returns-in-Refused
 unfolding depth_reading
@@ -48,19 +49,14 @@ each-requires c =
 pub returns-in-Refused-each : goal.returns-in-Refused-each
 returns-in-Refused-each c =
     let each = c.each in
-    let i = (goal.at.returns-in-Refused-each c).Else-bytes-eq0 in
-    let b = (goal.at.returns-in-Refused-each c).After-bytes_per-bytes in
-    let v = (goal.at.returns-in-Refused-each c).After-value-bits in
-    let e = ap values_out (sym v.in-Is.is) ∙ v.look_up.ensures.0 in
+    let e = ap values_out (sym c.in-Is.is) ∙ c.look_up.ensures.0 in
     let k = ap number_out (sym c.in-Refused-each.is) ∙ each.ensures in
-    (depth_refused _ _ _ _ e _ v.value-bits.ensures (λ h. i.if-bytes-eq0.false (b.bytes_per-bytes.ensures.0 ∙ h)) _ _ k, tt)
+    (depth_refused _ _ _ _ e _ c.value-bits.ensures (λ h. c.if-bytes-eq0.false (c.bytes_per-bytes.ensures.0 ∙ h)) _ _ k, tt)
 
 pub returns-in-Is-each : goal.returns-in-Is-each
 returns-in-Is-each c =
-    let i = (goal.at.returns-in-Is-each c).Else-bytes-eq0 in
-    let b = i.bytes_per-bytes in
-    let v = (goal.at.returns-in-Is-each c).After-value-bits in
-    let e = ap values_out (sym v.in-Is.is) ∙ v.look_up.ensures.0 in
+    let b = c.bytes_per-bytes in
+    let e = ap values_out (sym c.in-Is.is) ∙ c.look_up.ensures.0 in
     let k = ap number_out (sym c.in-Is-each.is) ∙ c.each.ensures in
-    let z = depth_is _ _ _ _ e _ v.value-bits.ensures (λ h. i.if-bytes-eq0.false (b.ensures.0 ∙ h)) _ k in
+    let z = depth_is _ _ _ _ e _ c.value-bits.ensures (λ h. c.if-bytes-eq0.false (b.ensures.0 ∙ h)) _ k in
     (ap is b.ensures.0 ∙ z, record { legal = omega arith; from = omega arith; to = b.ensures.1 })

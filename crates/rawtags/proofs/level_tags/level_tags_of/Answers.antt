@@ -11,6 +11,7 @@ use Rattle.rawtags.specs.Facts.White.{WhitesIn}
 use Rattle.rawtags.specs.LevelTags.{level_tags_reading}
 use borrow.Author.Rules.{rules}
 use Rattle.rawtags.proofs.level_tags.level_tags_of.Goals as goal
+use Rattle.rawtags.proofs.level_tags.level_tags_of.Goals.{After-black_of, After-delta_of, After-delta_of-2, After-repeat_of, After-table_of, After-white_of}
 
 pub returns-in-Refused : goal.returns-in-Refused
 unfolding level_tags_reading
@@ -111,8 +112,6 @@ pub returns : goal.returns
 unfolding level_tags_reading
 returns c =
     let white = (goal.at.returns c).After-white_of in
-    let rows = (goal.at.returns c).After-delta_of-2 in
-    let columns = (goal.at.returns c).After-delta_of in
     let black = (goal.at.returns c).After-black_of in
     let repeat = (goal.at.returns c).After-repeat_of in
     let table = (goal.at.returns c).After-table_of in
@@ -120,20 +119,20 @@ returns c =
     let f = a.file.now in
     let v1 = repeat.v-1.given in
     let v2 = black.v-in-Is-repeat_of-1.given in
-    let v3 = columns.v-in-Is-black_of-1.given in
-    let v4 = rows.v-in-Is-delta_of-1.given in
+    let v3 = white.v-in-Is-black_of-1.given in
+    let v4 = white.v-in-Is-delta_of-1.given in
     let v5 = white.v-in-Is-delta_of-2-1.given in
     let v6 = c.v-in-Is-white_of-1.given in record { result_value = sym (bind_is _ _ _ _ (ap values_out (sym v1.1) ∙ table.table_of.ensures.0)
           ∙ bind_is _ _ _ _ (ap repeat_out (sym v2.1) ∙ repeat.repeat_of.ensures.0)
           ∙ bind_is _ _ _ _ (ap values_out (sym v3.1) ∙ black.black_of.ensures.result_value)
-          ∙ bind_is _ _ _ _ (ap values_out (sym v4.1) ∙ columns.delta_of.ensures.result_value)
-          ∙ bind_is _ _ _ _ (ap values_out (sym v5.1) ∙ rows.delta_of-2.ensures.result_value)
+          ∙ bind_is _ _ _ _ (ap values_out (sym v4.1) ∙ white.delta_of.ensures.result_value)
+          ∙ bind_is _ _ _ _ (ap values_out (sym v5.1) ∙ white.delta_of-2.ensures.result_value)
           ∙ bind_is _ _ _ _ (ap values_out (sym v6.1) ∙ white.white_of.ensures.0)
           ∙ run_answer _ _); level_tags_in = record {
         (goal.at.returns c).After-table_of = subst (ValuesIn (length f) table_rule) v1.1 table.table_of.ensures.1;
         (goal.at.returns c).After-repeat_of = subst RepeatIn v2.1 repeat.repeat_of.ensures.1;
         (goal.at.returns c).After-black_of = subst (ValuesIn (length f) (black_rule v2.0.0 a.samples)) v3.1 black.black_of.ensures.values_in;
-        column_deltas = subst (ValuesIn (length f) (delta_rule black_level_delta_h a.columns)) v4.1 columns.delta_of.ensures.values_in;
-        row_deltas = subst (ValuesIn (length f) (delta_rule black_level_delta_v a.rows)) v5.1 rows.delta_of-2.ensures.values_in;
+        column_deltas = subst (ValuesIn (length f) (delta_rule black_level_delta_h a.columns)) v4.1 white.delta_of.ensures.values_in;
+        row_deltas = subst (ValuesIn (length f) (delta_rule black_level_delta_v a.rows)) v5.1 white.delta_of-2.ensures.values_in;
         (goal.at.returns c).After-white_of = subst (WhitesIn f a.ifd.order (white_rule a.samples)) v6.1 white.white_of.ensures.1;
       }; }

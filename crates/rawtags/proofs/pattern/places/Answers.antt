@@ -2,14 +2,14 @@ use mathlib.Core.Path.{sym, ◌∙◌}
 use Rattle.rawtags.proofs.PatternLaws.{places_are, places_reds, places_greens, places_blues}
 use borrow.Author.Rules.{rules}
 use Rattle.rawtags.proofs.pattern.places.Goals as goal
+use Rattle.rawtags.proofs.pattern.places.Goals.{Then-times-eq1-2, Then-times-eq2}
 
 pub returns-then-times-eq1-2 : goal.returns-then-times-eq1-2
 returns-then-times-eq1-2 c =
     let first = c.first in
-    let k = (goal.at.returns-then-times-eq1-2 c).Then-times-eq1-2 in
-    let x = sym k.times.ensures ∙ k.if-times-eq1.true in
-    let y = sym k.times-then-times-eq1.ensures ∙ k.if-times-eq2.true in
-    let z = sym k.times-then-times-eq2.ensures ∙ k.if-times-eq1-2.true in
+    let x = sym c.times.ensures ∙ c.if-times-eq1.true in
+    let y = sym c.times-then-times-eq1.ensures ∙ c.if-times-eq2.true in
+    let z = sym c.times-then-times-eq2.ensures ∙ c.if-times-eq1-2.true in
     places_are _ _ _ _ x y z _ _ _ _ first.ensures c.first-then-times-eq1-2.ensures c.last.ensures
     c.first-then-times-eq1-2-2.ensures
 

@@ -17,7 +17,7 @@ use Rattle.rawtags.specs.Repeat.{repeat_reading}
 use Rattle.rawtags.proofs.RepeatLaws.{pair_default, rows_refused, pair_out, pair_answer}
 use borrow.Author.Rules.{rules}
 use Rattle.rawtags.proofs.repeat.repeat_of.Goals as goal
-use Rattle.rawtags.proofs.repeat.repeat_of.Goals.{After-judged-2, Else-count-eq0, In-Is-2}
+use Rattle.rawtags.proofs.repeat.repeat_of.Goals.{After-judged, After-judged-2, After-value, Else-count-eq0, In-Is-2, In-Is-judged-3}
 
 pub returns-in-Refused : goal.returns-in-Refused
 unfolding repeat_reading
@@ -51,9 +51,8 @@ value-requires c =
 pub returns-in-Refused-judged : goal.returns-in-Refused-judged
 unfolding repeat_reading
 returns-in-Refused-judged c =
-    let j = (goal.at.returns-in-Refused-judged c).After-judged in
     let v = (goal.at.returns-in-Refused-judged c).After-value in
-    let k = ap number_out (sym c.in-Refused-judged.is) ∙ j.judged.ensures.0 in (
+    let k = ap number_out (sym c.in-Refused-judged.is) ∙ c.judged.ensures.0 in (
       rows_refused _ _ _ v.if-count-eq0.false _ v.value.ensures _ _ k ∙ sym (bind_is _ _ _ _ (values (goal.at.returns-in-Refused-judged c).In-Is-2).0),
       tt,
     )
@@ -73,9 +72,8 @@ answered : (j : After-judged-2) (r : Number) → j.judged-2.result ≡ r →
     pair_out n.in-Is-judged.n r ≡ run a.file.now (repeat_reading a.ifd)
 unfolding repeat_reading
 answered j r q =
-    let n = (FIXME j).In-Is-judged-3 in
-    let v = (FIXME n).After-value in
-    let m = ap number_out (sym n.in-Is-judged.is) ∙ n.judged.ensures.0 in
+    let v = (FIXME j).After-value in
+    let m = ap number_out (sym j.in-Is-judged.is) ∙ j.judged.ensures.0 in
     let k = ap number_out (sym q) ∙ j.judged-2.ensures.0 in
     pair_answer _ _ _ v.if-count-eq0.false _ v.value.ensures _ m _ j.value-2.ensures r k
     ∙ sym (bind_is _ _ _ _ (values (FIXME v).In-Is-2).0)

@@ -10,7 +10,7 @@ use Rattle.directory.proofs.Entries.{OneMore, one_more}
 use Rattle.rawtags.specs.Strips.{strip_from}
 use Rattle.rawtags.proofs.Strip.{strip_bytes_fit, strip_none, strip_bytes_law, strip_outside, strip_next}
 use Rattle.rawtags.proofs.strips.check_strips.Goals as goal
-use Rattle.rawtags.proofs.strips.check_strips.Goals.{In-loop-left}
+use Rattle.rawtags.proofs.strips.check_strips.Goals.{After-smaller-here, After-value-place, In-loop-left, Start}
 
 pub loop-left-init : goal.loop-left-init
 loop-left-init c =
@@ -33,10 +33,9 @@ value-bytes-requires c =
 
 pub overflow_mul-here : goal.overflow_mul-here
 overflow_mul-here c =
-    let s = (goal.at.overflow_mul-here c).After-smaller-here in
-    let m = min-le_right s.args.rows s.loop-left.rest in
-    let e = s.smaller-here.ensures in
-    omega (arith, strip_bytes_fit s.smaller-here.result s.args.row (omega arith) s.requires.count_in_bounds_2.1.1)
+    let m = min-le_right c.args.rows c.loop-left.rest in
+    let e = c.smaller-here.ensures in
+    omega (arith, strip_bytes_fit c.smaller-here.result c.args.row (omega arith) c.requires.count_in_bounds_2.1.1)
 
 pub returns-then-bytes-here : goal.returns-then-bytes-here
 returns-then-bytes-here c =
@@ -52,12 +51,11 @@ value-place-requires c = let i =
 
 pub returns-then-not-inside : goal.returns-then-not-inside
 returns-then-not-inside c =
-    let v = (goal.at.returns-then-not-inside c).After-value-place in
-    let l = v.loop-left in
-    let f = v.args.file.now in
+    let l = c.loop-left in
+    let f = c.args.file.now in
     let o = leb-false _ _ (sym c.inside.ensures ∙ not-true _ c.if-not-inside.true) in
     strip_outside f _ _ _ _ _ _ _ _ _ l.left (l.left - 1) (omega arith)
-    _ v.smaller-here.ensures _ v.value-bytes.ensures v.if-bytes-here.false _ v.value-place.ensures o
+    _ c.smaller-here.ensures _ c.value-bytes.ensures c.if-bytes-here.false _ c.value-place.ensures o
     ∙ sym l.invariant.0
 
 pub overflow_add-p : goal.overflow_add-p
@@ -74,14 +72,13 @@ overflow_sub-rest c =
 
 pub loop-left-preserved : goal.loop-left-preserved
 loop-left-preserved c =
-    let v = (goal.at.loop-left-preserved c).After-value-place in
     let s = (goal.at.loop-left-preserved c).After-smaller-here in
     let l = s.loop-left in
     let f = s.args.file.now in
     let i = leb-true _ _ (sym c.inside.ensures ∙ not-false _ c.if-not-inside.false) in (
       l.invariant.0
           ∙ strip_next f _ _ _ _ _ _ _ _ _ l.left (l.left - 1) (omega arith)
-          _ s.smaller-here.ensures _ v.value-bytes.ensures v.if-bytes-here.false _ v.value-place.ensures i,
+          _ s.smaller-here.ensures _ c.value-bytes.ensures c.if-bytes-here.false _ c.value-place.ensures i,
       (offsets (goal.at.loop-left-preserved c).In-loop-left).1,
       (counts (goal.at.loop-left-preserved c).In-loop-left).1,
       omega arith,

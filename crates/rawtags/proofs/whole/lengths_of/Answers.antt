@@ -17,7 +17,7 @@ use Rattle.rawtags.specs.Whole.{whole_number_reading, lengths_rule, lengths_read
 use Rattle.rawtags.proofs.WholeLaws.{both_default, horizontal_refused, vertical_refused, both_is}
 use borrow.Author.Rules.{rules}
 use Rattle.rawtags.proofs.whole.lengths_of.Goals as goal
-use Rattle.rawtags.proofs.whole.lengths_of.Goals.{Else-count-eq0, In-Is-2, In-Is-whole_number_at-3, Start}
+use Rattle.rawtags.proofs.whole.lengths_of.Goals.{After-whole_number_at, After-whole_number_at-2, Else-count-eq0, In-Is-2, In-Is-whole_number_at-3, Start}
 
 -- ---- the tag's values; where there are any, they are two of their type, in the file
 abbrev start : In-Is-2 → Start
@@ -79,17 +79,15 @@ whole_number_at-requires-2 c = let t =
 pub returns-in-Refused-whole_number_at-2 : goal.returns-in-Refused-whole_number_at-2
 unfolding lengths_reading
 returns-in-Refused-whole_number_at-2 c =
-    let w = (goal.at.returns-in-Refused-whole_number_at-2 c).After-whole_number_at-2 in
     let h = (goal.at.returns-in-Refused-whole_number_at-2 c).In-Is-whole_number_at-3 in
     let e = (goal.at.returns-in-Refused-whole_number_at-2 c).Else-count-eq0 in
-    let k = ap number_out (sym c.in-Refused-whole_number_at-2.is) ∙ w.whole_number_at-2.ensures in
+    let k = ap number_out (sym c.in-Refused-whole_number_at-2.is) ∙ c.whole_number_at-2.ensures in
     bind_last _ _ _ _ _ (values (found (goal.at.returns-in-Refused-whole_number_at-2 c).Else-count-eq0)).0 (vertical_refused _ _ _ _ _ e.if-count-eq0.false _ (horizontal (goal.at.returns-in-Refused-whole_number_at-2 c).In-Is-whole_number_at-3) _ _ k)
 
 pub returns : goal.returns
 unfolding lengths_reading
 returns c =
-    let w = (goal.at.returns c).After-whole_number_at-2 in
     let h = (goal.at.returns c).In-Is-whole_number_at-3 in
     let e = (goal.at.returns c).Else-count-eq0 in
-    let k = ap number_out (sym c.in-Is-whole_number_at-2.is) ∙ w.whole_number_at-2.ensures in
+    let k = ap number_out (sym c.in-Is-whole_number_at-2.is) ∙ c.whole_number_at-2.ensures in
     bind_last _ _ _ _ _ (values (found (goal.at.returns c).Else-count-eq0)).0 (both_is _ _ _ _ _ e.if-count-eq0.false _ (horizontal (goal.at.returns c).In-Is-whole_number_at-3) _ k)

@@ -3,7 +3,7 @@ use native.Mathlib.Omega.{arith}
 use Rattle.rawtags.proofs.WholeLaws.{rational_width, of_fraction, of_number}
 use borrow.Author.Rules.{rules}
 use Rattle.rawtags.proofs.whole.whole_number_at.Goals as goal
-use Rattle.rawtags.proofs.whole.whole_number_at.Goals.{Then-code-eq5}
+use Rattle.rawtags.proofs.whole.whole_number_at.Goals.{After-long-denominator, After-long-numerator, After-value-n, Else-code-eq5, Then-code-eq5}
 
 -- the bytes of a RATIONAL
 eight : (c : Then-code-eq5) → c.args.values.size ≡ 8
@@ -20,12 +20,9 @@ long-denominator-requires c =
 
 pub returns-then-code-eq5 : goal.returns-then-code-eq5
 returns-then-code-eq5 c =
-    let d = (goal.at.returns-then-code-eq5 c).After-long-denominator in
-    let n = (goal.at.returns-then-code-eq5 c).After-long-numerator in
-    let rational = sym n.code.ensures.0 ∙ n.if-code-eq5.true in
-    c.whole_number.ensures ∙ of_fraction _ _ _ _ _ rational _ _ n.long-numerator.ensures d.long-denominator.ensures
+    let rational = sym c.code.ensures.0 ∙ c.if-code-eq5.true in
+    c.whole_number.ensures ∙ of_fraction _ _ _ _ _ rational _ _ c.long-numerator.ensures c.long-denominator.ensures
 
 pub returns : goal.returns
 returns c =
-    let v = (goal.at.returns c).After-value-n in
-    c.whole_number-2.ensures ∙ of_number _ _ _ _ _ (λ e. v.if-code-eq5.false (v.code.ensures.0 ∙ e)) _ v.value-n.ensures
+    c.whole_number-2.ensures ∙ of_number _ _ _ _ _ (λ e. c.if-code-eq5.false (c.code.ensures.0 ∙ e)) _ c.value-n.ensures

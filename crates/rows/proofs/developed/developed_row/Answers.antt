@@ -4,6 +4,7 @@ use borrow.Author.Rules.{rules}
 use Rattle.rows.specs.Facts.Part.{AllInUnit}
 use Rattle.rows.proofs.Through.{part_units, part_developed}
 use Rattle.rows.proofs.developed.developed_row.Goals as goal
+use Rattle.rows.proofs.developed.developed_row.Goals.{Start}
 
 pub scaled_row-requires : goal.scaled_row-requires
 scaled_row-requires c =

@@ -12,6 +12,7 @@ use Rattle.rows.specs.Facts.GainMap.{times_gain, gain_line}
 use Rattle.rows.proofs.Gains.{column_below}
 use Rattle.rows.proofs.GridColumns.{planes_start, planes_next, end_short, hits}
 use Rattle.rows.proofs.gain_map.gain_planes.Goals as goal
+use Rattle.rows.proofs.gain_map.gain_planes.Goals.{At-loop-p, Start}
 
 abbrev along : List ℕ → Bracket → ℕ → ℕ → ℕ → ℕ → ℕ → ℕ → Float → Float
 along ps down plane width left pitch p j x = times_gain ps down (min (p - plane) (planes_in ps - 1)) width (left + j * pitch) x
@@ -69,14 +70,13 @@ overflow_mul-columns c =
 
 pub sweep_gain-requires : goal.sweep_gain-requires
 sweep_gain-requires c =
-    let d = (goal.at.sweep_gain-requires c).At-loop-p in
-    let a = d.args in
-    let h = d.requires.sized_in in
+    let a = c.args in
+    let h = c.requires.sized_in in
     let g = a.grid in
-    let v = d.loop-p in
-    let e = d.end_at-end.ensures in
-    let f = d.first_at-first.ensures.0 in
-    let k = d.skipped-skip.ensures in
+    let v = c.loop-p in
+    let e = c.end_at-end.ensures in
+    let f = c.first_at-first.ensures.0 in
+    let k = c.skipped-skip.ensures in
     let q : v.p < a.size.samples = omega (arith, h.1.planes, c.loop-p-test.true) in
     let t = end_short g.right a.column.0 a.size.samples (length a.out.now) in
     let w = small g.column_pitch a.size.samples h.2 h.0.few in record {
@@ -96,7 +96,7 @@ sweep_gain-requires c =
         },
         h.0.columns,
       );
-      gain_map_in = (d.requires.gain_map_in.0, d.across_axis-across.ensures, d.requires.gain_map_in.1, c.plane_for-q.ensures.1);
+      gain_map_in = (c.requires.gain_map_in.0, c.across_axis-across.ensures, c.requires.gain_map_in.1, c.plane_for-q.ensures.1);
     }
 
 pub overflow_add-p : goal.overflow_add-p
@@ -113,16 +113,15 @@ loop-p-smaller c =
 pub loop-p-preserved : goal.loop-p-preserved
 loop-p-preserved c =
     let plane-for = c.plane_for-q in
-    let d = (goal.at.loop-p-preserved c).At-loop-p in
-    let a = d.args in
-    let h = d.requires.sized_in in
+    let a = c.args in
+    let h = c.requires.sized_in in
     let g = a.grid in
-    let v = d.loop-p in
+    let v = c.loop-p in
     let t = c.loop-p-test.true in
     let w = c.sweep_gain in
-    let e = d.end_at-end in
-    let f = d.first_at-first in
-    let k = d.skipped-skip in
+    let e = c.end_at-end in
+    let f = c.first_at-first in
+    let k = c.skipped-skip in
     let step = g.column_pitch * a.size.samples in
     let swept : ℕ → List Float = λ q. swept_of (f.result + v.p) e.result step
     (λ m x. let j = k.result + (m - (f.result + v.p)) / step in times_gain a.ps.now a.down q a.size.columns

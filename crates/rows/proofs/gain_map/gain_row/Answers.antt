@@ -6,6 +6,7 @@ use Rattle.rows.proofs.Sweeps.{every_told}
 use Rattle.rows.proofs.Gains.{map_grid, row_on, row_off, map_in, enough, grid_in}
 use borrow.Author.Rules.{rules}
 use Rattle.rows.proofs.gain_map.gain_row.Goals as goal
+use Rattle.rows.proofs.gain_map.gain_row.Goals.{After-located-down, Start}
 
 pub grid_at-g-requires : goal.grid_at-g-requires
 grid_at-g-requires c =
@@ -39,15 +40,14 @@ gain_planes-requires c =
 
 pub returns-then-every : goal.returns-then-every
 returns-then-every c =
-    let d = (goal.at.returns-then-every c).After-located-down in
-    let a = d.args in
-    let n = d.grid_at-g in
-    let e = map_grid a.size a.ps.now d.requires.0 n.result n.ensures.by_index in
-    let t = sym d.every.ensures ∙ d.if-every.true in
-    let row = subst (λ (x : Axis). BracketOf x a.size.rows a.row.0 d.located-down.result) d.down_axis.ensures
-    d.located-down.ensures.0 in
+    let a = c.args in
+    let n = c.grid_at-g in
+    let e = map_grid a.size a.ps.now c.requires.0 n.result n.ensures.by_index in
+    let t = sym c.every.ensures ∙ c.if-every.true in
+    let row = subst (λ (x : Axis). BracketOf x a.size.rows a.row.0 c.located-down.result) c.down_axis.ensures
+    c.located-down.ensures.0 in
     c.gain_planes.ensures
-    ∙ row_on a.size a.ps.now a.row.0 a.column.0 a.size.samples d.located-down.result row a.out.now n.result e t
+    ∙ row_on a.size a.ps.now a.row.0 a.column.0 a.size.samples c.located-down.result row a.out.now n.result e t
 
 pub returns-else-every : goal.returns-else-every
 returns-else-every c =

@@ -17,6 +17,7 @@ use Rattle.rows.specs.declared.gain_map.Columns.{Columns}
 use Rattle.rows.proofs.Gains.{column_first, column_more}
 use Rattle.rows.proofs.Sweeps.{Swept, swept_start, swept_step, swept_end, every_tell}
 use Rattle.rows.proofs.gain_map.sweep_gain.Goals as goal
+use Rattle.rows.proofs.gain_map.sweep_gain.Goals.{After-corners_near-corners, Start}
 
 abbrev columns_of : ℕ → ℕ → ℕ → ℕ → ℕ → ℕ → Columns
 columns_of left pitch skip first end step = record { left = left; pitch = pitch; skip = skip; first = first; end = end; step = step }
@@ -67,69 +68,62 @@ offset_bounds-out-i c =
 
 pub bounds-out-i : goal.bounds-out-i
 bounds-out-i c =
-    let d = (goal.at.bounds-out-i c).After-corners_near-corners in
-    omega (arith, d.loop-i.invariant.0.same, d.loop-i-test.true, d.requires.columns_in.0.end)
+    omega (arith, c.loop-i.invariant.0.same, c.loop-i-test.true, c.requires.columns_in.0.end)
 
 pub offset_bounds-out-i-in-loop-i : goal.offset_bounds-out-i-in-loop-i
 offset_bounds-out-i-in-loop-i c =
-    let d = (goal.at.offset_bounds-out-i-in-loop-i c).After-corners_near-corners in
-    let i = d.loop-i.i in
-    let t = d.loop-i-test.true in
-    scaled_Fits i (length d.args.out.now) 8 (omega (arith, t, d.requires.columns_in.0.end)) d.well_formed.1.1.1.1.1.1.0.1
+    let i = c.loop-i.i in
+    let t = c.loop-i-test.true in
+    scaled_Fits i (length c.args.out.now) 8 (omega (arith, t, c.requires.columns_in.0.end)) c.well_formed.1.1.1.1.1.1.0.1
 
 pub bounds-out-i-in-loop-i : goal.bounds-out-i-in-loop-i
 bounds-out-i-in-loop-i c =
-    let d = (goal.at.bounds-out-i-in-loop-i c).After-corners_near-corners in
-    omega (arith, d.loop-i.invariant.0.same, d.loop-i-test.true, d.requires.columns_in.0.end)
+    omega (arith, c.loop-i.invariant.0.same, c.loop-i-test.true, c.requires.columns_in.0.end)
 
 pub overflow_add-c-in-loop-i : goal.overflow_add-c-in-loop-i
 overflow_add-c-in-loop-i c =
-    let d = (goal.at.overflow_add-c-in-loop-i c).After-corners_near-corners in
-    let v = d.loop-i in
-    let m = every_tell _ _ _ v.i v.invariant.0.from d.loop-i-test.true v.invariant.0.point in
-    omega (arith, v.invariant.1, d.requires.columns_in.0.inside v.i m, d.requires.columns_in.1, d.requires.columns_in.0.pitch)
+    let v = c.loop-i in
+    let m = every_tell _ _ _ v.i v.invariant.0.from c.loop-i-test.true v.invariant.0.point in
+    omega (arith, v.invariant.1, c.requires.columns_in.0.inside v.i m, c.requires.columns_in.1, c.requires.columns_in.0.pitch)
 
 pub overflow_add-i : goal.overflow_add-i
 overflow_add-i c =
-    let d = (goal.at.overflow_add-i c).After-corners_near-corners in
-    let i = d.loop-i.i in
-    let t = d.loop-i-test.true in
-    let g = d.well_formed.1.1.1.1.1.1.0.1 in
-    let o : Fits w64 (i * 8) = scaled_Fits i (length d.args.out.now) 8 (omega (arith, t, d.requires.columns_in.0.end)) g in
-    omega (arith, d.requires.columns_in.0.step)
+    let i = c.loop-i.i in
+    let t = c.loop-i-test.true in
+    let g = c.well_formed.1.1.1.1.1.1.0.1 in
+    let o : Fits w64 (i * 8) = scaled_Fits i (length c.args.out.now) 8 (omega (arith, t, c.requires.columns_in.0.end)) g in
+    omega (arith, c.requires.columns_in.0.step)
 
 pub loop-i-smaller : goal.loop-i-smaller
 loop-i-smaller c =
-    let d = (goal.at.loop-i-smaller c).After-corners_near-corners in
-    omega (arith, d.loop-i-test.true, d.requires.columns_in.0.some)
+    omega (arith, c.loop-i-test.true, c.requires.columns_in.0.some)
 
 pub loop-i-preserved : goal.loop-i-preserved
 unfolding gain_map_of
 loop-i-preserved c =
-    let d = (goal.at.loop-i-preserved c).After-corners_near-corners in
-    let a = d.args in
-    let h = d.requires.gain_map_in in
-    let v = d.loop-i in
-    let t = d.loop-i-test.true in
-    let bracket = d.located_near-bracket in
+    let a = c.args in
+    let h = c.requires.gain_map_in in
+    let v = c.loop-i in
+    let t = c.loop-i-test.true in
+    let bracket = c.located_near-bracket in
     let m = gain_map_of a.ps.now in
     let here = subst (λ (x : Axis). BracketOf x a.width v.c bracket.result) h.1 bracket.ensures.0 in
     let among = subst (λ (x : Axis). BracketIn x.points bracket.result) h.1 bracket.ensures.1 in
-    let four = d.corners_near-corners in
+    let four = c.corners_near-corners in
     let gain = corners_found m a.down bracket.result a.q a.width v.c here four.result _ _ four.ensures
-    d.point.ensures
+    c.point.ensures
     c.corners_gain.ensures h.2 among in
     let x = get_or v.out v.i nan in
     let times : ℕ → Float = λ n. times_gain a.ps.now a.down a.q a.width n x in
     let e : c.clip.result ≡ times (column_at a.columns v.i) =
     c.clip.ensures ∙ ap (λ (y : Float). clip_of (mul binary64 x y)) gain ∙ ap times v.invariant.1 in
-    let p = d.requires.columns_in.0 in
-    let o = corners_point m a.down a.q _ _ d.corners_near-corners.ensures in
+    let p = c.requires.columns_in.0 in
+    let o = corners_point m a.down a.q _ _ c.corners_near-corners.ensures in
     let k = point_below (long_of a.ps.now 36) bracket.result among in (
       rw e (swept_step _ _ _ _ v.i a.out.now v.out p.some t p.end v.invariant.0),
       column_more a.columns v.i v.c p.some v.invariant.0.from v.invariant.1,
-      corners_own m a.down a.q _ _ d.corners_near-corners.ensures,
-      omega (arith, o, k, d.point.ensures),
+      corners_own m a.down a.q _ _ c.corners_near-corners.ensures,
+      omega (arith, o, k, c.point.ensures),
     )
 
 pub shape_of-out : goal.shape_of-out

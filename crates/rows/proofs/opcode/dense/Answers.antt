@@ -3,6 +3,7 @@ use mathlib.Core.Bool.{true≢false}
 use native.Mathlib.Omega.{arith}
 use borrow.Author.Tests.{eqb-true}
 use Rattle.rows.proofs.opcode.dense.Goals as goal
+use Rattle.rows.proofs.opcode.dense.Goals.{Start}
 
 pub returns-then-id-eq11 : goal.returns-then-id-eq11
 returns-then-id-eq11 c =

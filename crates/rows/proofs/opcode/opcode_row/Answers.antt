@@ -14,6 +14,7 @@ use Rattle.rows.proofs.Overs.{read_fits, row_part, row_on, row_off}
 use Rattle.rows.proofs.Gains.{kept_plain, kept_gained, gained_kept}
 use borrow.Author.Rules.{rules}
 use Rattle.rows.proofs.opcode.opcode_row.Goals as goal
+use Rattle.rows.proofs.opcode.opcode_row.Goals.{Start, Then-every}
 
 pub gain_row-requires : goal.gain_row-requires
 gain_row-requires c =

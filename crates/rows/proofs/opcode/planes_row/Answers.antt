@@ -12,7 +12,7 @@ use Rattle.rows.proofs.Parts.{part_few, swept_units, applied_row}
 use Rattle.rows.specs.Facts.Part.{AllInUnit}
 use borrow.Author.Rules.{rules}
 use Rattle.rows.proofs.opcode.planes_row.Goals as goal
-use Rattle.rows.proofs.opcode.planes_row.Goals.{Start}
+use Rattle.rows.proofs.opcode.planes_row.Goals.{After-end_at-end, After-first_at-first, At-loop-p, Start, Then-dense}
 
 wide : (c : Start) → c.args.grid.column_pitch * c.args.n < 0x10_0000_0000
 wide c = omega (arith, mul-le-mul_left c.args.grid.column_pitch c.requires.column_pitch_nonzero.5, c.requires.column_pitch_nonzero)
@@ -47,14 +47,13 @@ sweep_row-requires c =
 
 pub returns-then-dense : goal.returns-then-dense
 returns-then-dense c =
-    let b = (goal.at.returns-then-dense c).Then-dense in
-    let a = b.args in
+    let a = c.args in
     let f = a.file.now in
-    let d = b.dense.ensures b.if-dense.true in
+    let d = c.dense.ensures c.if-dense.true in
     planes_dense _ _ a.grid.left a.grid.right a.grid.column_pitch a.column.0 a.n a.grid.plane
-    (a.grid.plane + a.grid.planes) _ _ a.out.now _ b.requires.column_pitch_nonzero.6
-    (λ p j x. applied_row f a.at a.id a.i b.requires.part_in.1 d.0 d.1 j x)
-    d.2 d.3 d.4 b.first_at-first.ensures.0 b.end_at-end.ensures
+    (a.grid.plane + a.grid.planes) _ _ a.out.now _ c.requires.column_pitch_nonzero.6
+    (λ p j x. applied_row f a.at a.id a.i c.requires.part_in.1 d.0 d.1 j x)
+    d.2 d.3 d.4 c.first_at-first.ensures.0 c.end_at-end.ensures
     c.sweep_row.ensures
 
 -- ---- plane after plane
@@ -73,10 +72,9 @@ overflow_mul-pitch c =
 pub sweep_opcode-requires : goal.sweep_opcode-requires
 sweep_opcode-requires c =
     let v = c.loop-p in
-    let d = (goal.at.sweep_opcode-requires c).After-end_at-end in
     let s = (goal.at.sweep_opcode-requires c).Start in
     let a = s.args in
-    let e = d.end_at-end.ensures in
+    let e = c.end_at-end.ensures in
     let q : v.p < a.n = omega (arith, s.requires.column_pitch_nonzero, c.loop-p-test.true) in
     let w = end_short a.grid.right a.column.0 a.n (length a.out.now) in record {
       pitch_nonzero = (mul-pos s.requires.column_pitch_nonzero.0 s.requires.column_pitch_nonzero.6, omega (arith, wide (goal.at.sweep_opcode-requires c).Start), omega (arith, e, w, v.invariant.2), s.requires.part_in.1);
@@ -84,14 +82,13 @@ sweep_opcode-requires c =
       float_in = λ h k t.
           s.requires.part_in.0.column h _
           (hits a.grid.left a.grid.right a.grid.column_pitch a.column.0 a.n v.p _ k s.requires.column_pitch_nonzero.0 q _ _ _
-          d.skipped-skip.ensures.0 d.first_at-first.ensures.0 e t);
+          c.skipped-skip.ensures.0 c.first_at-first.ensures.0 e t);
     }
 
 pub overflow_add-p : goal.overflow_add-p
 overflow_add-p c =
     let loop-test = c.loop-p-test in
-    let v = (goal.at.overflow_add-p c).At-loop-p in
-    omega (arith, v.loop-p.invariant, v.requires.column_pitch_nonzero, loop-test.true)
+    omega (arith, c.loop-p.invariant, c.requires.column_pitch_nonzero, loop-test.true)
 
 pub loop-p-smaller : goal.loop-p-smaller
 loop-p-smaller c =
@@ -103,14 +100,13 @@ loop-p-preserved c =
     let w = c.sweep_opcode in
     let t = c.loop-p-test.true in
     let v = c.loop-p in
-    let d = (goal.at.loop-p-preserved c).After-end_at-end in
-    let a = d.args in (
+    let a = c.args in (
       omega (arith, v.invariant.0),
       omega (arith, t),
       w.auto.1.1.1.1.1.0 ∙ v.invariant.2,
-      planes_next _ _ _ _ _ _ _ d.requires.column_pitch_nonzero.0 v.p _ _ _ _ a.out.now v.out _
-          d.skipped-skip.ensures.0 d.first_at-first.ensures.0 d.end_at-end.ensures
-          v.invariant.0 (omega (arith, d.requires.column_pitch_nonzero, t)) refl v.invariant.3 w.ensures,
+      planes_next _ _ _ _ _ _ _ c.requires.column_pitch_nonzero.0 v.p _ _ _ _ a.out.now v.out _
+          c.skipped-skip.ensures.0 c.first_at-first.ensures.0 c.end_at-end.ensures
+          v.invariant.0 (omega (arith, c.requires.column_pitch_nonzero, t)) refl v.invariant.3 w.ensures,
       subst AllInUnit (sym w.ensures) (swept_units a.file.now _ _ _ _ v.out v.invariant.4),
     )
 

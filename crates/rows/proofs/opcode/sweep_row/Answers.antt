@@ -2,6 +2,7 @@ use mathlib.Core.Path.{refl, sym}
 use Rattle.rows.proofs.Parts.{row_step_in, step_held, swept_is, swept_polynomial}
 use borrow.Author.Rules.{rules}
 use Rattle.rows.proofs.opcode.sweep_row.Goals as goal
+use Rattle.rows.proofs.opcode.sweep_row.Goals.{Start}
 
 pub low-requires : goal.low-requires
 low-requires c =

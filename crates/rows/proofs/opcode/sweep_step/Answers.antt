@@ -4,6 +4,7 @@ use Rattle.opcodes.specs.Facts.Step.{StepIn}
 use Rattle.rows.proofs.Parts.{swept_is}
 use borrow.Author.Rules.{rules}
 use Rattle.rows.proofs.opcode.sweep_step.Goals as goal
+use Rattle.rows.proofs.opcode.sweep_step.Goals.{Start}
 
 pub table-requires : goal.table-requires
 table-requires c =

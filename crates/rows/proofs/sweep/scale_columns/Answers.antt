@@ -10,7 +10,7 @@ use Rattle.levels.specs.Clip.{clip_of}
 use Rattle.opcodes.specs.Facts.StepAt.{float_at, FloatIn}
 use Rattle.rows.proofs.Sweeps.{Swept, swept_start, swept_step, swept_end, every_tell, line_first, line_more}
 use Rattle.rows.proofs.sweep.scale_columns.Goals as goal
-use Rattle.rows.proofs.sweep.scale_columns.Goals.{In-loop-i}
+use Rattle.rows.proofs.sweep.scale_columns.Goals.{In-loop-i, Start}
 
 -- the place's bytes, in the loop
 wide : (c : In-loop-i) → Fits w64 (c.loop-i.i * 8)

@@ -10,7 +10,7 @@ use Rattle.levels.proofs.Unit.{unit}
 use Rattle.opcodes.specs.Step.{mapped_of, table_at}
 use Rattle.rows.proofs.Sweeps.{Swept, swept_start, swept_step, swept_end}
 use Rattle.rows.proofs.sweep.table.Goals as goal
-use Rattle.rows.proofs.sweep.table.Goals.{In-loop-i}
+use Rattle.rows.proofs.sweep.table.Goals.{In-loop-i, Start}
 
 -- the place's bytes, in the loop
 wide : (c : In-loop-i) → Fits w64 (c.loop-i.i * 8)

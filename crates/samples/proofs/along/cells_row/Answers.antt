@@ -12,6 +12,7 @@ use Rattle.raw.proofs.StoredLaws.{repeat_columns_are}
 use Rattle.samples.specs.Facts.Along.{cell_along}
 use Rattle.samples.proofs.Alongs.{cell_next}
 use Rattle.samples.proofs.along.cells_row.Goals as goal
+use Rattle.samples.proofs.along.cells_row.Goals.{Start}
 
 pub overflow_mul-period : goal.overflow_mul-period
 overflow_mul-period c = let s =

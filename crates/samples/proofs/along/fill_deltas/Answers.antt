@@ -12,6 +12,7 @@ use Rattle.raw.specs.Stored.{blacks_reading}
 use Rattle.raw.proofs.StoredLaws.{column_deltas_are}
 use Rattle.samples.proofs.Lines.{sfits32, held_short}
 use Rattle.samples.proofs.along.fill_deltas.Goals as goal
+use Rattle.samples.proofs.along.fill_deltas.Goals.{Start}
 
 pub loop-i-init : goal.loop-i-init
 loop-i-init c =

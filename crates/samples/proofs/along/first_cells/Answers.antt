@@ -12,6 +12,7 @@ use Rattle.samples.specs.Facts.Along.{cell_along}
 use Rattle.samples.specs.Facts.Line.{Filled}
 use Rattle.samples.proofs.Lines.{back, filled_more}
 use Rattle.samples.proofs.along.first_cells.Goals as goal
+use Rattle.samples.proofs.along.first_cells.Goals.{Start}
 
 pub loop-i-init : goal.loop-i-init
 loop-i-init c =

@@ -15,6 +15,7 @@ use Rattle.raw.proofs.TagFacts.{span_in}
 use Rattle.samples.specs.Facts.Line.{Filled}
 use Rattle.samples.proofs.Lines.{back, filled_more}
 use Rattle.samples.proofs.along.first_inverses.Goals as goal
+use Rattle.samples.proofs.along.first_inverses.Goals.{Start}
 
 pub loop-i-init : goal.loop-i-init
 loop-i-init c =

@@ -10,6 +10,7 @@ use Rattle.raw.specs.Stored.{levels_reading}
 use Rattle.samples.specs.Facts.Along.{span_along}
 use Rattle.samples.proofs.Alongs.{span_next}
 use Rattle.samples.proofs.along.inverses_row.Goals as goal
+use Rattle.samples.proofs.along.inverses_row.Goals.{Start}
 
 pub slice_bounds-first_inverses-end : goal.slice_bounds-first_inverses-end
 slice_bounds-first_inverses-end c =

@@ -6,6 +6,7 @@ use lib.Ieee.{Float, nan}
 use lib.ListN.{length, get_or}
 use Rattle.samples.proofs.Lines.{filled_more}
 use Rattle.samples.proofs.along.repeat.Goals as goal
+use Rattle.samples.proofs.along.repeat.Goals.{Start}
 
 pub loop-i-init : goal.loop-i-init
 loop-i-init c =

@@ -8,6 +8,7 @@ use Rattle.levels.specs.Table.{table_of, through_of}
 use Rattle.samples.specs.Facts.Line.{Filled, number_at}
 use Rattle.samples.proofs.Lines.{filled_more}
 use Rattle.samples.proofs.line.fill_numbers.Goals as goal
+use Rattle.samples.proofs.line.fill_numbers.Goals.{Start}
 
 pub loop-i-init : goal.loop-i-init
 loop-i-init c =

@@ -6,6 +6,7 @@ use borrow.Author.Rules.{rules}
 use Rattle.samples.specs.Facts.Line.{LineIn}
 use Rattle.samples.specs.declared.line.Line.{Line}
 use Rattle.samples.proofs.line.scaled_line.Goals as goal
+use Rattle.samples.proofs.line.scaled_line.Goals.{Start}
 
 two : (l : Line) (f : List ℕ) (n : ℕ) → LineIn f l n → (l.bytes ≡ 1 → ⊥) → l.bytes ≡ 2
 two l f n h k = go l.bytes h.some h.few k

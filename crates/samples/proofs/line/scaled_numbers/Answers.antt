@@ -9,6 +9,7 @@ use Rattle.levels.specs.Level.{difference_of, level_of, scaled_of}
 use Rattle.samples.specs.Facts.Line.{Filled, Levelled}
 use Rattle.samples.proofs.Lines.{filled_more}
 use Rattle.samples.proofs.line.scaled_numbers.Goals as goal
+use Rattle.samples.proofs.line.scaled_numbers.Goals.{Start}
 
 pub loop-i-init : goal.loop-i-init
 loop-i-init c =

@@ -9,6 +9,7 @@ use Rattle.levels.specs.Facts.Reciprocal.{of_parts}
 use Rattle.samples.specs.Facts.Line.{Filled}
 use Rattle.samples.proofs.Lines.{sfits64_of32, held_long, filled_more}
 use Rattle.samples.proofs.scaled.add_deltas.Goals as goal
+use Rattle.samples.proofs.scaled.add_deltas.Goals.{Start}
 
 pub loop-i-init : goal.loop-i-init
 loop-i-init c =

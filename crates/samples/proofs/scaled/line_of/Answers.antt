@@ -10,6 +10,7 @@ use Rattle.raw.specs.Stored.{numbers_reading}
 use Rattle.raw.proofs.StoredLaws.{row_deltas_are}
 use Rattle.samples.proofs.Lines.{back}
 use Rattle.samples.proofs.scaled.line_of.Goals as goal
+use Rattle.samples.proofs.scaled.line_of.Goals.{Start}
 
 pub stored_row-r-requires : goal.stored_row-r-requires
 stored_row-r-requires c =

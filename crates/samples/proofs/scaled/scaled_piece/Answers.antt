@@ -8,6 +8,7 @@ use mathlib.Core.List.{List}
 use lib.ListN.{length, get_or, length-take, get_or-append, get_or-eq_default}
 use Rattle.samples.proofs.Lines.{fits, levelled_plain, levelled_sums}
 use Rattle.samples.proofs.scaled.scaled_piece.Goals as goal
+use Rattle.samples.proofs.scaled.scaled_piece.Goals.{Start}
 
 -- there are deltas
 some : (n : ℕ) → (n ≡ 0 → ⊥) → 0 < n

@@ -8,6 +8,7 @@ use lib.ListN.{length, get_or, take, drop, length-take, length-drop}
 use Rattle.samples.specs.Facts.Line.{Filled, line_value, Celled, Repeating}
 use Rattle.samples.proofs.Lines.{filled_part, line_from, value_from, Same, same_start, same_next}
 use Rattle.samples.proofs.scaled.scaled_pieces.Goals as goal
+use Rattle.samples.proofs.scaled.scaled_pieces.Goals.{Start}
 
 pub loop-i-init : goal.loop-i-init
 loop-i-init c =

@@ -1,6 +1,7 @@
 use native.Mathlib.Omega.{arith}
 use borrow.Author.Rules.{rules}
 use Rattle.samples.proofs.scaled.scaled_with_deltas.Goals as goal
+use Rattle.samples.proofs.scaled.scaled_with_deltas.Goals.{Start}
 
 pub scaled_pieces-requires : goal.scaled_pieces-requires
 scaled_pieces-requires c =

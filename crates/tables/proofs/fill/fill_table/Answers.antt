@@ -8,6 +8,7 @@ use Rattle.raw.proofs.TagFacts.{table_inside, span_in}
 use Rattle.samples.proofs.Lines.{back}
 use Rattle.tables.proofs.TableLaws.{table_holds}
 use Rattle.tables.proofs.fill.fill_table.Goals as goal
+use Rattle.tables.proofs.fill.fill_table.Goals.{Start}
 
 pub cell_at-cell-requires : goal.cell_at-cell-requires
 cell_at-cell-requires c =

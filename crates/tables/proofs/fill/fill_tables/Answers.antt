@@ -11,6 +11,7 @@ use Rattle.raw.specs.Stored.{levels_reading}
 use Rattle.tables.specs.Tables.{CellTable}
 use Rattle.tables.proofs.TableLaws.{tables_more}
 use Rattle.tables.proofs.fill.fill_tables.Goals as goal
+use Rattle.tables.proofs.fill.fill_tables.Goals.{Start}
 
 pub loop-i-init : goal.loop-i-init
 loop-i-init c =

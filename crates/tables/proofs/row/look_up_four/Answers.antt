@@ -6,6 +6,7 @@ use lib.Ieee.{nan}
 use lib.ListN.{get_or, length-set}
 use Rattle.tables.proofs.FoundLaws.{four_more}
 use Rattle.tables.proofs.row.look_up_four.Goals as goal
+use Rattle.tables.proofs.row.look_up_four.Goals.{Start}
 
 pub bounds-out-i-2 : goal.bounds-out-i-2
 bounds-out-i-2 c =

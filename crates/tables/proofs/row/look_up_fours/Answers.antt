@@ -12,7 +12,7 @@ use Rattle.samples.specs.Facts.Line.{Filled}
 use Rattle.tables.specs.Facts.RowTables.{FourFound, WordIs}
 use Rattle.tables.proofs.FoundLaws.{word_is}
 use Rattle.tables.proofs.row.look_up_fours.Goals as goal
-use Rattle.tables.proofs.row.look_up_fours.Goals.{Else-out-lt4}
+use Rattle.tables.proofs.row.look_up_fours.Goals.{Else-out-lt4, Start}
 
 -- a word that was read is its four bytes
 word_at : (e : Else-out-lt4) (i w : ℕ) → let f = e.args.bytes.now in

@@ -10,6 +10,7 @@ use Rattle.samples.specs.Facts.Line.{Filled}
 use Rattle.samples.proofs.Lines.{filled_more}
 use Rattle.tables.specs.Facts.RowTables.{found}
 use Rattle.tables.proofs.row.look_up_group.Goals as goal
+use Rattle.tables.proofs.row.look_up_group.Goals.{Start}
 
 pub loop-c-init : goal.loop-c-init
 loop-c-init c =

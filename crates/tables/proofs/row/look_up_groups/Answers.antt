@@ -9,6 +9,7 @@ use Rattle.samples.specs.Facts.Line.{Filled}
 use Rattle.tables.specs.Facts.RowTables.{found, found_along}
 use Rattle.tables.proofs.FoundLaws.{column_of, columns_behind}
 use Rattle.tables.proofs.row.look_up_groups.Goals as goal
+use Rattle.tables.proofs.row.look_up_groups.Goals.{Start}
 
 pub loop-at-init : goal.loop-at-init
 loop-at-init c = let s =

@@ -7,7 +7,7 @@ use Rattle.raw.proofs.StoredLaws.{repeat_columns_are}
 use Rattle.tables.proofs.FoundLaws.{row_found, bytes_inside}
 use Rattle.tables.proofs.TableLaws.{tabled_has}
 use Rattle.tables.proofs.row.table_row.Goals as goal
-use Rattle.tables.proofs.row.table_row.Goals.{After-line_of-line}
+use Rattle.tables.proofs.row.table_row.Goals.{After-line_of-line, Start}
 
 -- the row's bytes lie in the file
 inside : (c : After-line_of-line) → let s = (FIXME c).Start in
@@ -41,12 +41,11 @@ look_up_row-requires c =
 
 pub returns : goal.returns
 returns c =
-    let line = (goal.at.returns c).After-line_of-line in
-    let a = line.args in
-    let p = line.line_of-line.result.place in
+    let a = c.args in
+    let p = c.line_of-line.result.place in
     let n = length a.out.now in
-    row_found a.file.now a.order a.raw line.requires.raw_in.0 (tabled_has a.raw.tags line.requires.tags_value.0) a.row.0 a.column.0
-    line.requires.raw_in.1 _ line.line_of-line.ensures
-    (λ i. let b = line.type_inv.file i in omega (arith, b)) a.tables.now a.first
-    line.smaller-columns.result (p + n - p) a.out.now _ line.requires.tags_value.2 line.requires.raw_in.3 line.smaller-columns.ensures
+    row_found a.file.now a.order a.raw c.requires.raw_in.0 (tabled_has a.raw.tags c.requires.tags_value.0) a.row.0 a.column.0
+    c.requires.raw_in.1 _ c.line_of-line.ensures
+    (λ i. let b = c.type_inv.file i in omega (arith, b)) a.tables.now a.first
+    c.smaller-columns.result (p + n - p) a.out.now _ c.requires.tags_value.2 c.requires.raw_in.3 c.smaller-columns.ensures
     (omega arith) (search rules) c.look_up_row.ensures
