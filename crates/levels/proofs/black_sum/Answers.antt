@@ -24,4 +24,4 @@ overflow_add-result-2 c =
 pub returns : goal.returns
 returns c =
     rw (to_z-of_z (overflow_add-result-2 c), to_z-of_z (overflow_add-result c), to_z-of_z c.ranges.cell, to_z-of_z c.ranges.column, to_z-of_z c.ranges.row)
-    (refl, three c.args.cell c.args.column c.args.row c.requires.0 c.requires.1 c.requires.2)
+    record { value = refl; result_bound = three c.args.cell c.args.column c.args.row c.requires.0 c.requires.1 c.requires.2 }

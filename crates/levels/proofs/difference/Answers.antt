@@ -28,4 +28,4 @@ pub returns : goal.returns
 returns c =
     let h : c.args.v < 2 ^ 63 = omega arith in
     rw (to_z-of_z (overflow_sub-result c), to_z-of_z (overflow_mul-result c), to_z-of_z c.ranges.black, to_z_pos w64 h)
-    (refl, small _ c.args.black (omega arith) c.requires)
+    record { value = refl; result_bound = small _ c.args.black (omega arith) c.requires }

@@ -13,14 +13,14 @@ by_test a b t e = sym (ap (λ (u : Bool). cond u b a) e)
 
 pub returns-then-a-b : goal.returns-then-a-b
 returns-then-a-b c =
-    rw (to_z-of_z c.ranges.b) (
-      by_test c.args.a c.args.b true (rw (to_z-of_z c.ranges.a, to_z-of_z c.ranges.b) at c.if-a-b.true),
-      omega arith,
-    )
+    rw (to_z-of_z c.ranges.b) record {
+      value = by_test c.args.a c.args.b true (rw (to_z-of_z c.ranges.a, to_z-of_z c.ranges.b) at c.if-a-b.true);
+      result_bound = omega arith;
+    }
 
 pub returns-else-a-b : goal.returns-else-a-b
 returns-else-a-b c =
-    rw (to_z-of_z c.ranges.a) (
-      by_test c.args.a c.args.b false (rw (to_z-of_z c.ranges.a, to_z-of_z c.ranges.b) at c.if-a-b.false),
-      omega arith,
-    )
+    rw (to_z-of_z c.ranges.a) record {
+      value = by_test c.args.a c.args.b false (rw (to_z-of_z c.ranges.a, to_z-of_z c.ranges.b) at c.if-a-b.false);
+      result_bound = omega arith;
+    }

@@ -184,8 +184,7 @@ returns c =
     let s = striped a in
     let l = laid s in
     let o = framed l in
-    let v7 = c.v-in-Is-list_of-1.given in
-    let e = ap values_out (sym v7.1) ∙ c.list_of.ensures.0 in
+    let e = ap values_out (sym c.in-Is-list_of.is) ∙ c.list_of.ensures.0 in
     let order = (ifd o).order in
     let rows = active_rows (area a) in
     let columns = active_columns (area a) in (
@@ -197,6 +196,6 @@ returns c =
         area = area_in a;
         levels = subst (LevelTagsIn (file o) order (frame o).samples rows columns) x.v5.given.1 x.before.before.level-tags-of.ensures.1;
         crop = subst (CropIn rows columns) w.in-Is-crop_of.is w.crop_of.ensures.1;
-        list = subst (ValuesIn (length (file o)) list_rule) v7.1 c.list_of.ensures.1;
+        list = subst (ValuesIn (length (file o)) list_rule) c.in-Is-list_of.is c.list_of.ensures.1;
       },
     )

@@ -9,11 +9,11 @@ use Rattle.levels.specs.Black.{black_at, or_next, first_refused}
 use Rattle.levels.specs.declared.black.Black.{Black}
 use Rattle.levels.proofs.Runs.{refused_next, refused_over}
 use Rattle.levels.proofs.black.first_refused.Goals as goal
-use Rattle.levels.proofs.black.first_refused.Goals.{After-black_at, Start}
+use Rattle.levels.proofs.black.first_refused.Goals.{After-black_at}
 
 -- the first refused of all, and of what is left behind i
-abbrev all : Start → Black
-all s = let a = s.args in first_refused (run_of (black_at a.kind a.order a.s.now) a.step a.at a.count)
+abbrev all : After-black_at → Black
+all c = let a = c.args in first_refused (run_of (black_at a.kind a.order a.s.now) a.step a.at a.count)
 
 abbrev left : After-black_at → Black
 left c =
@@ -22,7 +22,7 @@ left c =
     first_refused (run_of (black_at a.kind a.order a.s.now) a.step (l.p + a.step) (a.count - (l.i + 1)))
 
 next : (c : After-black_at) (b : Black) → c.black_at.result ≡ b →
-    all (FIXME c).Start ≡ or_next b (left c)
+    all c ≡ or_next b (left c)
 next c b e =
     let a = c.args in
     let l = c.loop-i in

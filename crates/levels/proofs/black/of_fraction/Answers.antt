@@ -18,13 +18,15 @@ use Rattle.levels.proofs.black.of_fraction.Goals.{After-magnitude, After-magnitu
 fits : (z : ℤ) → nat_abs z < 0x1_0000_0000 → to_z w64 (of_z w64 z) ≡ z
 fits z h = to_z-of_z (sfits64 z (omega arith))
 
+magnitude_is : (z : ℤ) (n : ℕ) → nat_abs z < 0x1_0000_0000 → n ≡ nat_abs (to_z w64 (of_z w64 z)) → n ≡ nat_abs z
+magnitude_is z n h e = e ∙ ap nat_abs (fits z h)
+
 den : (c : After-magnitude-d) → c.magnitude-d.result ≡ nat_abs c.args.x.denominator
-den c = c.magnitude-d.ensures ∙ ap nat_abs (fits c.args.x.denominator c.requires.1)
+den c = magnitude_is c.args.x.denominator _ c.requires.1 c.magnitude-d.ensures
 
 num : (c : After-magnitude) →
     c.magnitude.result ≡ nat_abs c.args.x.numerator
-num c =
-    c.magnitude.ensures ∙ ap nat_abs (fits c.args.x.numerator c.requires.0)
+num c = magnitude_is c.args.x.numerator _ c.requires.0 c.magnitude.ensures
 
 pub returns-then-d-eq0 : goal.returns-then-d-eq0
 returns-then-d-eq0 c =
@@ -36,7 +38,7 @@ returns-then-den-lt0 c =
     (rw (fits c.args.x.denominator c.requires.1) at c.if-den-lt0.true)
 
 some : (c : Else-den-lt0) → nat_abs c.args.x.denominator ≡ 0 → ⊥
-some c h = c.if-d-eq0.false (den (FIXME c).After-magnitude-d ∙ h)
+some c h = c.if-d-eq0.false (magnitude_is c.args.x.denominator _ c.requires.1 c.magnitude-d.ensures ∙ h)
 
 positive : (c : Else-den-lt0) → lt_z c.args.x.denominator (pos 0) ≡ false
 positive c = rw (fits c.args.x.denominator c.requires.1) at c.if-den-lt0.false
@@ -73,7 +75,7 @@ overflow_mul-result c =
     (sfits64 (c.args.x.numerator *ℤ pos (256 / d)) (product c.args.x.numerator d c.requires.0))
 
 divides : (c : Else-d-ne0) → 256 % nat_abs c.args.x.denominator ≡ 0
-divides c = sym (ap (λ (d : ℕ). 256 % d) (den (FIXME c).After-magnitude-d)) ∙ c.if-d-ne0.false
+divides c = sym (ap (λ (d : ℕ). 256 % d) (magnitude_is c.args.x.denominator _ c.requires.1 c.magnitude-d.ensures)) ∙ c.if-d-ne0.false
 
 pub returns-then-magnitude-d : goal.returns-then-magnitude-d
 returns-then-magnitude-d c =

@@ -13,11 +13,10 @@ pub returns-in-Parts : goal.returns-in-Parts
 unfolding black_at
 returns-in-Parts c =
     let black-at = c.black_at in
-    let g = c.b-1.given in
-    let e = sym black-at.ensures ∙ g.1 in
-    let f : SFits w64 g.0.0 = search rules in
+    let e = sym black-at.ensures ∙ c.in-Parts.is in
+    let f : SFits w64 c.in-Parts.b = search rules in
     let a = c.args in
-    rw (to_z-of_z f) (rw e, (black_carried (value_of a.kind a.order (part a.s.now a.at (width_of a.kind))) g.0.0 e).small)
+    rw (to_z-of_z f) record { value = rw e; result_bound = (black_carried (value_of a.kind a.order (part a.s.now a.at (width_of a.kind))) c.in-Parts.b e).small }
 
 pub returns-in-Illegal : goal.returns-in-Illegal
 returns-in-Illegal c =

@@ -10,7 +10,7 @@ use Rattle.levels.proofs.table.through.Goals as goal
 pub returns-then-count-eq0 : goal.returns-then-count-eq0
 returns-then-count-eq0 c =
     let a = c.args in
-    sym (through_none (λ (p : ℕ). number_of a.order (take 2 (drop p a.s.now))) 2 a.at a.count a.v c.if-count-eq0.taken)
+    sym (through_none (λ (p : ℕ). number_of a.order (take 2 (drop p a.s.now))) 2 a.at a.count a.v c.if-count-eq0.true)
 
 pub returns : goal.returns
 returns c =

@@ -32,4 +32,4 @@ returns c =
     let down = c.smaller-down.ensures in
     let across = c.smaller-across.ensures in
     let e = greatest_black_is a.file.now a.order a.tags a.deltas a.plane _ _ c.requires.tags_in.0 c.requires.greatest_in down across in
-    rw (to_z-of_z f) (g.value ∙ e, g.result_bound)
+    rw (to_z-of_z f) record { value = g.value ∙ e; result_bound = g.result_bound }

@@ -31,4 +31,4 @@ returns c =
     let column = c.requires.small.0 c.args.j in
     let row = c.requires.small.1 c.args.i in
     let e = rw (to_z-of_z g, to_z-of_z (delta_fits _ column), to_z-of_z (delta_fits _ row)) at c.black_sum.ensures.value in
-    rw (to_z-of_z f) (e ∙ sum_same cell.ensures.value refl refl, c.black_sum.ensures.result_bound)
+    rw (to_z-of_z f) record { value = e ∙ sum_same cell.ensures.value refl refl; result_bound = c.black_sum.ensures.result_bound }

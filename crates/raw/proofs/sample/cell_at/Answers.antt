@@ -88,4 +88,4 @@ returns c =
     let k = ap (λ (k : BlackKind). parts_of (black_at k a.order f (b.place + b.size * n))) c.kind_for-kind.ensures in
     let e = black_in f a.order (kind_for b.kind) b (λ _. q.sized) n (subst (λ (m : ℕ). n < m) (sym q.count) (index (goal.at.returns c).Start).below) in
     let g = cell_for_law f a.order a.tags a.row.0 a.column.0 a.plane in
-    rw (to_z-of_z fits) (c.parts_at.ensures.value ∙ k ∙ sym e ∙ sym g, c.parts_at.ensures.result_bound)
+    rw (to_z-of_z fits)  record { value = c.parts_at.ensures.value ∙ k ∙ sym e ∙ sym g; result_bound = c.parts_at.ensures.result_bound; }

@@ -54,8 +54,8 @@ returns c =
     let h = pre.1 s in
     let w = within d.size d.count a.i h.1 in
     let f : SFits w64 c.parts_at.result = search rules in
-    rw (to_z-of_z f) (
-      c.parts_at.ensures.value
-          ∙ sym (black_in a.file.now a.order kind.SignedRational d (λ s. (pre.1 s).0) a.i h.1),
-      c.parts_at.ensures.result_bound,
-    )
+    rw (to_z-of_z f) record {
+      value = c.parts_at.ensures.value
+          ∙ sym (black_in a.file.now a.order kind.SignedRational d (λ s. (pre.1 s).0) a.i h.1);
+      result_bound = c.parts_at.ensures.result_bound;
+    }

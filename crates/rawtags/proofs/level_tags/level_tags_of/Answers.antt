@@ -116,23 +116,17 @@ returns c =
     let repeat = (goal.at.returns c).After-repeat_of in
     let table = (goal.at.returns c).After-table_of in
     let a = table.args in
-    let f = a.file.now in
-    let v1 = repeat.v-1.given in
-    let v2 = black.v-in-Is-repeat_of-1.given in
-    let v3 = white.v-in-Is-black_of-1.given in
-    let v4 = white.v-in-Is-delta_of-1.given in
-    let v5 = white.v-in-Is-delta_of-2-1.given in
-    let v6 = c.v-in-Is-white_of-1.given in record { result_value = sym (bind_is _ _ _ _ (ap values_out (sym v1.1) ∙ table.table_of.ensures.0)
-          ∙ bind_is _ _ _ _ (ap repeat_out (sym v2.1) ∙ repeat.repeat_of.ensures.0)
-          ∙ bind_is _ _ _ _ (ap values_out (sym v3.1) ∙ black.black_of.ensures.result_value)
-          ∙ bind_is _ _ _ _ (ap values_out (sym v4.1) ∙ white.delta_of.ensures.result_value)
-          ∙ bind_is _ _ _ _ (ap values_out (sym v5.1) ∙ white.delta_of-2.ensures.result_value)
-          ∙ bind_is _ _ _ _ (ap values_out (sym v6.1) ∙ white.white_of.ensures.0)
+    let f = a.file.now in record { result_value = sym (bind_is _ _ _ _ (ap values_out (sym repeat.in-Is.is) ∙ table.table_of.ensures.0)
+          ∙ bind_is _ _ _ _ (ap repeat_out (sym black.in-Is-repeat_of.is) ∙ repeat.repeat_of.ensures.0)
+          ∙ bind_is _ _ _ _ (ap values_out (sym white.in-Is-black_of.is) ∙ black.black_of.ensures.result_value)
+          ∙ bind_is _ _ _ _ (ap values_out (sym white.in-Is-delta_of.is) ∙ white.delta_of.ensures.result_value)
+          ∙ bind_is _ _ _ _ (ap values_out (sym white.in-Is-delta_of-2.is) ∙ white.delta_of-2.ensures.result_value)
+          ∙ bind_is _ _ _ _ (ap values_out (sym c.in-Is-white_of.is) ∙ white.white_of.ensures.0)
           ∙ run_answer _ _); level_tags_in = record {
-        (goal.at.returns c).After-table_of = subst (ValuesIn (length f) table_rule) v1.1 table.table_of.ensures.1;
-        (goal.at.returns c).After-repeat_of = subst RepeatIn v2.1 repeat.repeat_of.ensures.1;
-        (goal.at.returns c).After-black_of = subst (ValuesIn (length f) (black_rule v2.0.0 a.samples)) v3.1 black.black_of.ensures.values_in;
-        column_deltas = subst (ValuesIn (length f) (delta_rule black_level_delta_h a.columns)) v4.1 white.delta_of.ensures.values_in;
-        row_deltas = subst (ValuesIn (length f) (delta_rule black_level_delta_v a.rows)) v5.1 white.delta_of-2.ensures.values_in;
-        (goal.at.returns c).After-white_of = subst (WhitesIn f a.ifd.order (white_rule a.samples)) v6.1 white.white_of.ensures.1;
+        (goal.at.returns c).After-table_of = subst (ValuesIn (length f) table_rule) repeat.in-Is.is table.table_of.ensures.1;
+        (goal.at.returns c).After-repeat_of = subst RepeatIn black.in-Is-repeat_of.is repeat.repeat_of.ensures.1;
+        (goal.at.returns c).After-black_of = subst (ValuesIn (length f) (black_rule black.in-Is-repeat_of.v a.samples)) white.in-Is-black_of.is black.black_of.ensures.values_in;
+        column_deltas = subst (ValuesIn (length f) (delta_rule black_level_delta_h a.columns)) white.in-Is-delta_of.is white.delta_of.ensures.values_in;
+        row_deltas = subst (ValuesIn (length f) (delta_rule black_level_delta_v a.rows)) white.in-Is-delta_of-2.is white.delta_of-2.ensures.values_in;
+        (goal.at.returns c).After-white_of = subst (WhitesIn f a.ifd.order (white_rule a.samples)) c.in-Is-white_of.is white.white_of.ensures.1;
       }; }
