@@ -5,7 +5,6 @@ use lib.IntN.{ℤ, pos, nat_abs, ◌-ℤ◌}
 use mir.Syntax.{w64}
 use mir.Val.{SFits}
 use mir.Facts.{to_z_pos, to_z-of_z}
-use borrow.Author.Rules.{rules}
 use Rattle.reading.proofs.Magnitude.{nat_abs_sub, sfits64}
 use Rattle.levels.proofs.difference.Goals as goal
 

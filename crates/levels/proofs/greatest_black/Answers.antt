@@ -5,7 +5,6 @@ use lib.IntN.{ℤ, pos, nat_abs, neg_ℤ, ◌+ℤ◌, ◌-ℤ◌, neg_ℤ-neg_�
 use mir.Syntax.{w64}
 use mir.Val.{SFits}
 use mir.Facts.{to_z_pos, to_z-of_z}
-use borrow.Author.Rules.{rules}
 use Rattle.reading.proofs.Magnitude.{nat_abs_sub, sfits64}
 use Rattle.levels.proofs.greatest_black.Goals as goal
 

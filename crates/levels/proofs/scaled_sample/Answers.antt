@@ -1,6 +1,5 @@
 use mathlib.Core.Path.{ap, ◌∙◌}
 use native.Mathlib.Omega.{arith}
-use borrow.Author.Rules.{rules}
 use mir.Facts.{to_z-of_z}
 use Rattle.levels.specs.Facts.Reciprocal.{of_parts, inverse_of}
 use Rattle.levels.proofs.scaled_sample.Goals as goal

@@ -1,7 +1,6 @@
 use mathlib.Core.Path.{refl, ap, ◌∙◌}
 use mathlib.Core.Logic.{inl, inr}
 use Prim.Native.Nat.{ℕ}
-use borrow.Author.Rules.{rules}
 use Rattle.reading.specs.Fraction.{whole}
 use Rattle.levels.specs.Black.{black_of, value_of, black_at}
 use Rattle.levels.proofs.black.black_at.Goals as goal

@@ -3,7 +3,6 @@ use Prim.Native.Nat.{ℕ, ◌<◌, ◌+◌, ◌-◌, ◌*◌}
 use native.Mathlib.Nat.{mul-suc, mul-zero}
 use native.Mathlib.Numerals.{add-one}
 use native.Mathlib.Omega.{arith}
-use borrow.Author.Rules.{rules}
 use Rattle.levels.specs.Run.{run_of}
 use Rattle.levels.specs.Black.{black_at, or_next, first_refused}
 use Rattle.levels.specs.declared.black.Black.{Black}

@@ -1,13 +1,7 @@
-use mathlib.Core.Path.{◌≡◌, sym, ap, ◌∙◌}
-use Prim.Native.Nat.{ℕ, ◌<◌, ◌+◌, ◌-◌, ◌*◌}
-use native.Mathlib.Nat.{mul-suc, mul-zero}
-use native.Mathlib.Numerals.{add-one}
-use native.Mathlib.Omega.{arith}
-use borrow.Author.Rules.{rules}
+use mathlib.Core.Path.{◌≡◌}
+use Prim.Native.Nat.{◌+◌, ◌-◌, ◌*◌}
 use Rattle.levels.specs.Run.{run_of}
-use Rattle.levels.specs.Black.{black_at, or_next, first_refused}
-use Rattle.levels.specs.declared.black.Black.{Black}
-use Rattle.levels.proofs.Runs.{refused_next, refused_over}
+use Rattle.levels.specs.Black.{black_at, first_refused}
 use Rattle.levels.proofs.black.first_refused.Given as goal
 
 -- The invariant: the first refused of all is the first refused of what is left of the run.

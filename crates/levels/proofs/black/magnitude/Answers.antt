@@ -5,7 +5,6 @@ use lib.Signed.{non_neg}
 use lib.Dec.{T}
 use mir.Facts.{to_z-of_z}
 use Rattle.reading.proofs.Magnitude.{sfits64, nat_abs_sub, below_zero, not_below_zero}
-use borrow.Author.Rules.{rules}
 use Rattle.levels.proofs.black.magnitude.Goals as goal
 use Rattle.levels.proofs.black.magnitude.Goals.{Then-z-lt0}
 

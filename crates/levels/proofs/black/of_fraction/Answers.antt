@@ -8,7 +8,6 @@ use lib.Signed.{lt_z}
 use mir.Syntax.{w64}
 use mir.Val.{to_z, of_z}
 use mir.Facts.{to_z-of_z, to_z_pos}
-use borrow.Author.Rules.{rules}
 use Rattle.reading.proofs.Magnitude.{nat_abs_mul, sfits64}
 use Rattle.levels.proofs.Carried.{black_zero, black_negative, black_other, black_large, black_parts}
 use Rattle.levels.proofs.black.of_fraction.Goals as goal

@@ -1,5 +1,4 @@
 use mathlib.Core.Path.{ap, ◌∙◌}
-use borrow.Author.Rules.{rules}
 use lib.Ieee.{Float, binary64, div, of_bits}
 use mir.Facts.{to_z-of_z}
 use Rattle.levels.specs.Facts.Reciprocal.{most_raised, inverse_of}

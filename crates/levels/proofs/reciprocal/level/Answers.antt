@@ -1,5 +1,4 @@
 use mathlib.Core.Path.{◌≡◌, ap, ◌∙◌}
-use borrow.Author.Rules.{rules}
 use lib.Ieee.{Float, binary64, mul}
 use Rattle.levels.specs.Facts.Reciprocal.{capped_of, whole_of, level_by}
 use Rattle.levels.proofs.Clamps.{level_is_by}

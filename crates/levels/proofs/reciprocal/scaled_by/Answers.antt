@@ -1,7 +1,6 @@
 use mathlib.Core.Path.{ap}
 use Prim.Native.Nat.{◌≤◌}
 use native.Mathlib.Omega.{arith}
-use borrow.Author.Rules.{rules}
 use lib.Ieee.{Float, binary64, div, of_bits}
 use Rattle.levels.specs.Level.{difference_of, most}
 use Rattle.levels.proofs.Clamps.{difference_is}

@@ -4,7 +4,6 @@ use native.Mathlib.Omega.{arith}
 use lib.ListN.{take, drop}
 use Rattle.reading.specs.Number.{number_of}
 use Rattle.levels.proofs.Runs.{through_none, through_some}
-use borrow.Author.Rules.{rules}
 use Rattle.levels.proofs.table.through.Goals as goal
 
 pub returns-then-count-eq0 : goal.returns-then-count-eq0

@@ -4,7 +4,6 @@ use native.Mathlib.Omega.{arith}
 use lib.IntN.{pos}
 use mir.Syntax.{w64}
 use mir.Facts.{to_z_pos, to_z-of_z}
-use borrow.Author.Rules.{rules}
 use Rattle.reading.proofs.Fractions.{of_short, of_rational, of_signed}
 use Rattle.reading.proofs.Magnitude.{sfits64}
 use Rattle.reading.proofs.fraction.fraction_at.Goals as goal

@@ -1,5 +1,4 @@
 use Rattle.reading.proofs.Halves.{one_byte}
-use borrow.Author.Rules.{rules}
 use native.Mathlib.Omega.{arith}
 use Rattle.reading.proofs.number.byte.Goals as goal
 

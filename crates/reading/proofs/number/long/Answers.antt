@@ -1,6 +1,5 @@
 use mathlib.Core.Path.{refl}
 use Rattle.reading.proofs.Halves.{from_halves}
-use borrow.Author.Rules.{rules}
 use Rattle.reading.proofs.number.long.Goals as goal
 
 pub returns-in-Little : goal.returns-in-Little

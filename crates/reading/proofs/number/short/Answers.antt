@@ -1,5 +1,4 @@
 use Rattle.reading.proofs.Halves.{from_halves}
-use borrow.Author.Rules.{rules}
 use Rattle.reading.proofs.number.short.Goals as goal
 
 pub returns-in-Little : goal.returns-in-Little

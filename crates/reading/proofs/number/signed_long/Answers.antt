@@ -8,7 +8,6 @@ use lib.IntN.{pos, nat_abs, ◌-ℤ◌}
 use mir.Syntax.{w64}
 use mir.Facts.{to_z_pos, to_z-of_z}
 use Rattle.reading.proofs.Magnitude.{nat_abs_sub, sfits64}
-use borrow.Author.Rules.{rules}
 use Rattle.reading.proofs.number.signed_long.Goals as goal
 
 pub overflow_sub-result : goal.overflow_sub-result

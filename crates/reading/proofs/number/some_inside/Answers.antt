@@ -1,6 +1,5 @@
 use mathlib.Core.Path.{refl}
 use borrow.Author.Tests.{le-leb, lt-leb}
-use borrow.Author.Rules.{rules}
 use Rattle.reading.proofs.number.some_inside.Goals as goal
 
 pub returns-then-count-lt1 : goal.returns-then-count-lt1
