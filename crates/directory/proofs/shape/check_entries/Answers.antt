@@ -43,9 +43,8 @@ returns-in-Refused c =
     shape_refused a.widths a.file.now _ _ _ _ c.loop-left.left (c.loop-left.left - 1) (omega arith) _ _ e ∙ sym c.loop-left.invariant.0
 
 -- the tag of the entry at p
-tagged : (c : In-Is) → let l =
-    (FIXME c).At-loop-left in let a = l.before.before.args in
-    is c.in-Is.t ≡ run a.file.now (entry_reading a.widths (length a.file.now) a.order l.loop.p)
+tagged : (c : In-Is) → let a = c.args in
+    is c.in-Is.t ≡ run a.file.now (entry_reading a.widths (length a.file.now) a.order c.loop-left.p)
 tagged c = ap number_out (sym c.in-Is.is) ∙ c.placed_tag.ensures.result_value
 
 pub returns-then-tag-low : goal.returns-then-tag-low

@@ -43,8 +43,8 @@ many_inside-requires c =
     (entry_most c.args.widths c.requires.1.word, c.requires.0)
 
 -- the entries and the next offset lie in the file
-room : (c : Then-many_inside) → let v = (FIXME c).After-value-count in let a = v.args in
-    a.at + a.widths.entries + entry_width a.widths * v.value-count.result + a.widths.word ≤ length a.file.now
+room : (c : Then-many_inside) → let a = c.args in
+    a.at + a.widths.entries + entry_width a.widths * c.value-count.result + a.widths.word ≤ length a.file.now
 room c =
     let a = c.args in
     let n = c.value-count.result in

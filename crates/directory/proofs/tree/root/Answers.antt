@@ -52,7 +52,7 @@ walked : (c : After-walk_from) → let a = c.args in
 unfolding root_reading
 walked c =
     let check-version = c.check_version in
-    bind_is _ _ _ _ (opened (FIXME c).In-Is)
+    bind_is _ _ _ _ (ap ifd_out (sym c.in-Is.is) ∙ c.ifd_at.ensures.0)
     ∙ bind_is _ _ _ _ (ap number_out (sym c.in-Is-check_version.is) ∙ check-version.ensures)
 
 pub returns-in-Raw : goal.returns-in-Raw
