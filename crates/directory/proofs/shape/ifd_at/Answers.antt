@@ -7,7 +7,6 @@ use Rattle.directory.specs.Facts.Out.{number_out}
 use Rattle.directory.specs.Widths.{entry_width}
 use Rattle.directory.proofs.Entries.{wide_most, entry_most}
 use Rattle.directory.proofs.Shapes.{ifd_outside, ifd_empty, ifd_cut, ifd_refused, ifd_is}
-use borrow.Author.Rules.{rules}
 use Rattle.directory.proofs.shape.ifd_at.Goals as goal
 use Rattle.directory.proofs.shape.ifd_at.Goals.{After-check_entries, After-value-count, Start, Then-inside, Then-many_inside}
 

@@ -7,7 +7,6 @@ use Rattle.directory.specs.Entry.{kind_of, entry_of}
 use Rattle.directory.specs.declared.entry.Entry.{Entry}
 use Rattle.directory.proofs.Entries.{wide_most, fit, unfit, header_at}
 use Rattle.directory.proofs.Shapes.{entry_within, entry_inside, entry_outside}
-use borrow.Author.Rules.{rules}
 use Rattle.directory.proofs.shape.placed_tag.Goals as goal
 use Rattle.directory.proofs.shape.placed_tag.Goals.{After-value-count, After-value-place}
 

@@ -1,11 +1,7 @@
 use native.Mathlib.Omega.{arith}
 use mathlib.Core.Path.{◌≡◌, sym, ap, ◌∙◌}
 use Prim.Native.Nat.{◌+◌, ◌-◌}
-use lib.ListN.{length}
-use Rattle.reading.specs.Reading.{run}
 use Rattle.reading.proofs.Reading.{run_answer}
-use Rattle.directory.specs.Out.{Out.is}
-use Rattle.directory.specs.Shape.{ifd_reading}
 use Rattle.directory.specs.Facts.Shape.{ifd_out}
 use Rattle.directory.specs.Tree.{raw_one, parent, raw, left}
 use Rattle.directory.specs.Facts.Tree.{look_out, walk_out}

@@ -9,7 +9,6 @@ use Rattle.directory.specs.Facts.Shape.{ifd_out, IfdIn, Tested}
 use Rattle.directory.specs.Tree.{raw, left, after_walk, walk_reading, root_reading}
 use Rattle.directory.specs.Facts.Tree.{walk_out, WalkIn}
 use Rattle.directory.proofs.Outs.{bind_refused, bind_is}
-use borrow.Author.Rules.{rules}
 use Rattle.directory.proofs.tree.root.Goals as goal
 use Rattle.directory.proofs.tree.root.Goals.{After-check_version, After-walk_from, In-Is, Start}
 
