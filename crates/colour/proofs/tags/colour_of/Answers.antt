@@ -8,7 +8,6 @@ use Rattle.colour.specs.Facts.Value.{triple_out, TripleIn}
 use Rattle.colour.specs.Tags.{colour_reading}
 use Rattle.colour.specs.Facts.Tags.{matrix_out, MatrixIn, ColourWithin}
 use Rattle.colour.proofs.TagFacts.{colour_in}
-use borrow.Author.Rules.{rules}
 use Rattle.colour.proofs.tags.colour_of.Goals as goal
 
 pub returns-in-Refused : goal.returns-in-Refused

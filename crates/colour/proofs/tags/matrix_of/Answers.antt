@@ -7,7 +7,6 @@ use Rattle.directory.specs.Facts.Tag.{values_out}
 use Rattle.colour.specs.Facts.Value.{triple_out, TripleIn}
 use Rattle.colour.specs.Tags.{matrix_reading}
 use Rattle.colour.proofs.TagFacts.{room}
-use borrow.Author.Rules.{rules}
 use Rattle.colour.proofs.tags.matrix_of.Goals as goal
 use Rattle.colour.proofs.tags.matrix_of.Goals.{After-look_up, In-Is-2}
 

@@ -9,7 +9,6 @@ use Rattle.directory.specs.Facts.Tag.{values_out}
 use Rattle.colour.specs.Value.{triple_reading}
 use Rattle.colour.specs.Tags.{neutral_reading}
 use Rattle.colour.proofs.TagFacts.{neutral_room}
-use borrow.Author.Rules.{rules}
 use Rattle.colour.proofs.tags.neutral_of.Goals as goal
 
 pub returns-in-Refused : goal.returns-in-Refused

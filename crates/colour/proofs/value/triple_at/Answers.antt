@@ -4,7 +4,6 @@ use Rattle.directory.proofs.Outs.{bind_refused, bind_is}
 use Rattle.reading.proofs.Reading.{run_answer}
 use Rattle.colour.specs.Value.{triple_reading}
 use Rattle.colour.specs.Facts.Value.{quotient_out, QuotientIn}
-use borrow.Author.Rules.{rules}
 use Rattle.colour.proofs.value.triple_at.Goals as goal
 
 pub value_at-requires : goal.value_at-requires
