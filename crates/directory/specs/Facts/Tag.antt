@@ -19,7 +19,7 @@ use Rattle.directory.specs.declared.tag.Range.{Range}
 use Rattle.directory.specs.declared.tag.Values.{Values}
 use Rattle.directory.specs.declared.tag.ValuesTest.{ValuesTest}
 use Rattle.directory.specs.declared.tag.ValuesTest.TheVariants as given
-use Rattle.directory.specs.Tag.{allows_of, required}
+use Rattle.directory.specs.Tag.{allows_of}
 
 abbrev pub values_out : ValuesTest → Out Values
 values_out (given.Refused n d) = refused n d

@@ -1,8 +1,8 @@
-use Prim.Native.Nat.{◌+◌, ◌-◌}
+use Prim.Native.Nat.{◌+◌}
 use native.Mathlib.Omega.{arith}
 use lib.ListN.{length, length-set}
-use borrow.Author.Rules.{scaled_Fits, rules}
-use Rattle.colour.proofs.Passes.{Passed, passed_start, passed_step, passed_end}
+use borrow.Author.Rules.{scaled_Fits}
+use Rattle.colour.proofs.Passes.{passed_start, passed_step, passed_end}
 use Rattle.colour.proofs.pass.colour_pass.Goals as goal
 
 pub loop-i-init : goal.loop-i-init

@@ -1,8 +1,6 @@
-use Prim.Native.Nat.{◌+◌, ◌-◌}
-use native.Mathlib.Omega.{arith}
-use lib.ListN.{length, length-set}
-use borrow.Author.Rules.{scaled_Fits, rules}
-use Rattle.colour.proofs.Passes.{Passed, passed_start, passed_step, passed_end}
+use Prim.Native.Nat.{◌-◌}
+use lib.ListN.{length}
+use Rattle.colour.proofs.Passes.{Passed}
 use Rattle.colour.proofs.pass.colour_pass.Given as goal
 
 abbrev pub invariant-loop-i : goal.invariant-loop-i

@@ -1,5 +1,4 @@
 use mathlib.Core.Path.{◌≡◌, sym, subst}
-use borrow.Author.Rules.{rules}
 use Rattle.colour.specs.Facts.Bounds.{All, Finite}
 use Rattle.colour.specs.Pixel.{xyz_of}
 use Rattle.colour.specs.declared.pixel.Xyz.{Xyz}

@@ -8,7 +8,6 @@ use Rattle.colour.specs.Facts.Value.{triple_out, TripleIn}
 use Rattle.colour.specs.Tags.{colour_reading}
 use Rattle.colour.specs.Facts.Tags.{matrix_out, MatrixIn, ColourWithin}
 use Rattle.colour.proofs.TagFacts.{colour_in}
-use borrow.Author.Rules.{rules}
 use Rattle.colour.proofs.tags.colour_of.Goals as goal
 
 pub returns-in-Refused : goal.returns-in-Refused
@@ -21,10 +20,10 @@ pub returns-in-Refused-not_carried : goal.returns-in-Refused-not_carried
 unfolding colour_reading
 returns-in-Refused-not_carried c =
     let not-Carried = c.not_carried in
-    let told = c.enum_told-1 in
+    let told = c.in-Is in
     let not-carried2 = c.not_carried-2 in (
       bind_refused _ _ _ _ _ (ap number_out (sym c.in-Refused-not_carried.is) ∙ not-carried2.ensures)
-          ∙ sym (bind_is _ _ _ _ (ap number_out (sym told.given.1) ∙ not-Carried.ensures)),
+          ∙ sym (bind_is _ _ _ _ (ap number_out (sym told.is) ∙ not-Carried.ensures)),
       tt,
     )
 
@@ -32,13 +31,13 @@ pub returns-in-Refused-not_carried-2 : goal.returns-in-Refused-not_carried-2
 unfolding colour_reading
 returns-in-Refused-not_carried-2 c =
     let not-Carried = c.not_carried in
-    let told = c.enum_told-1 in
+    let told = c.in-Is in
     let not-carried2 = c.not_carried-2 in
-    let enum-told2 = c.enum_told-in-Is-not_carried-1 in
+    let enum-told2 = c.in-Is-not_carried in
     let not-carried3 = c.not_carried-3 in (
       bind_refused _ _ _ _ _ (ap number_out (sym c.in-Refused-not_carried-2.is) ∙ not-carried3.ensures)
-          ∙ sym (bind_is _ _ _ _ (ap number_out (sym told.given.1) ∙ not-Carried.ensures)
-          ∙ bind_is _ _ _ _ (ap number_out (sym enum-told2.given.1) ∙ not-carried2.ensures)),
+          ∙ sym (bind_is _ _ _ _ (ap number_out (sym told.is) ∙ not-Carried.ensures)
+          ∙ bind_is _ _ _ _ (ap number_out (sym enum-told2.is) ∙ not-carried2.ensures)),
       tt,
     )
 
@@ -46,16 +45,16 @@ pub returns-in-Refused-matrix_of : goal.returns-in-Refused-matrix_of
 unfolding colour_reading
 returns-in-Refused-matrix_of c =
     let not-Carried = c.not_carried in
-    let told = c.enum_told-1 in
+    let told = c.in-Is in
     let not-carried2 = c.not_carried-2 in
-    let enum-told2 = c.enum_told-in-Is-not_carried-1 in
+    let enum-told2 = c.in-Is-not_carried in
     let not-carried3 = c.not_carried-3 in
-    let enum-told3 = c.enum_told-in-Is-not_carried-2-1 in
+    let enum-told3 = c.in-Is-not_carried-2 in
     let matrix-of = c.matrix_of in (
       bind_refused _ _ _ _ _ (ap matrix_out (sym c.in-Refused-matrix_of.is) ∙ matrix-of.ensures.0)
-          ∙ sym (bind_is _ _ _ _ (ap number_out (sym told.given.1) ∙ not-Carried.ensures)
-          ∙ bind_is _ _ _ _ (ap number_out (sym enum-told2.given.1) ∙ not-carried2.ensures)
-          ∙ bind_is _ _ _ _ (ap number_out (sym enum-told3.given.1) ∙ not-carried3.ensures)),
+          ∙ sym (bind_is _ _ _ _ (ap number_out (sym told.is) ∙ not-Carried.ensures)
+          ∙ bind_is _ _ _ _ (ap number_out (sym enum-told2.is) ∙ not-carried2.ensures)
+          ∙ bind_is _ _ _ _ (ap number_out (sym enum-told3.is) ∙ not-carried3.ensures)),
       tt,
     )
 
@@ -63,19 +62,19 @@ pub returns-in-Refused-neutral_of : goal.returns-in-Refused-neutral_of
 unfolding colour_reading
 returns-in-Refused-neutral_of c =
     let not-Carried = c.not_carried in
-    let told = c.enum_told-1 in
+    let told = c.in-Is in
     let not-carried2 = c.not_carried-2 in
-    let enum-told2 = c.enum_told-in-Is-not_carried-1 in
+    let enum-told2 = c.in-Is-not_carried in
     let not-carried3 = c.not_carried-3 in
-    let enum-told3 = c.enum_told-in-Is-not_carried-2-1 in
+    let enum-told3 = c.in-Is-not_carried-2 in
     let matrix-of = c.matrix_of in
-    let m = c.m-1 in
+    let m = c.in-Is-matrix_of in
     let neutral-of = c.neutral_of in (
       bind_refused _ _ _ _ _ (ap triple_out (sym c.in-Refused-neutral_of.is) ∙ neutral-of.ensures.0)
-          ∙ sym (bind_is _ _ _ _ (ap number_out (sym told.given.1) ∙ not-Carried.ensures)
-          ∙ bind_is _ _ _ _ (ap number_out (sym enum-told2.given.1) ∙ not-carried2.ensures)
-          ∙ bind_is _ _ _ _ (ap number_out (sym enum-told3.given.1) ∙ not-carried3.ensures)
-          ∙ bind_is _ _ _ _ (ap matrix_out (sym m.given.1) ∙ matrix-of.ensures.0)),
+          ∙ sym (bind_is _ _ _ _ (ap number_out (sym told.is) ∙ not-Carried.ensures)
+          ∙ bind_is _ _ _ _ (ap number_out (sym enum-told2.is) ∙ not-carried2.ensures)
+          ∙ bind_is _ _ _ _ (ap number_out (sym enum-told3.is) ∙ not-carried3.ensures)
+          ∙ bind_is _ _ _ _ (ap matrix_out (sym m.is) ∙ matrix-of.ensures.0)),
       tt,
     )
 
@@ -83,22 +82,22 @@ pub returns : goal.returns
 unfolding colour_reading
 returns c =
     let not-Carried = c.not_carried in
-    let told = c.enum_told-1 in
+    let told = c.in-Is in
     let not-carried2 = c.not_carried-2 in
-    let enum-told2 = c.enum_told-in-Is-not_carried-1 in
+    let enum-told2 = c.in-Is-not_carried in
     let not-carried3 = c.not_carried-3 in
-    let enum-told3 = c.enum_told-in-Is-not_carried-2-1 in
+    let enum-told3 = c.in-Is-not_carried-2 in
     let matrix-of = c.matrix_of in
-    let m-call = c.m-1 in
+    let m-call = c.in-Is-matrix_of in
     let neutral-of = c.neutral_of in
-    let n-call = c.n-1 in
+    let n-call = c.in-Is-neutral_of in
     let j = c.colour_from.ensures in
-    let m = subst MatrixIn m-call.given.1 matrix-of.ensures.1 in
-    let n = subst (TripleIn true) n-call.given.1 neutral-of.ensures.1 in (
-      ap is j ∙ sym (bind_is _ _ _ _ (ap number_out (sym told.given.1) ∙ not-Carried.ensures)
-          ∙ bind_is _ _ _ _ (ap number_out (sym enum-told2.given.1) ∙ not-carried2.ensures)
-          ∙ bind_is _ _ _ _ (ap number_out (sym enum-told3.given.1) ∙ not-carried3.ensures)
-          ∙ bind_is _ _ _ _ (ap matrix_out (sym m-call.given.1) ∙ matrix-of.ensures.0)
-          ∙ bind_is _ _ _ _ (ap triple_out (sym n-call.given.1) ∙ neutral-of.ensures.0) ∙ run_answer _ _),
-      subst ColourWithin (sym j) (colour_in m-call.given.0.0 n-call.given.0.0 m n),
+    let m = subst MatrixIn m-call.is matrix-of.ensures.1 in
+    let n = subst (TripleIn true) n-call.is neutral-of.ensures.1 in (
+      ap is j ∙ sym (bind_is _ _ _ _ (ap number_out (sym told.is) ∙ not-Carried.ensures)
+          ∙ bind_is _ _ _ _ (ap number_out (sym enum-told2.is) ∙ not-carried2.ensures)
+          ∙ bind_is _ _ _ _ (ap number_out (sym enum-told3.is) ∙ not-carried3.ensures)
+          ∙ bind_is _ _ _ _ (ap matrix_out (sym m-call.is) ∙ matrix-of.ensures.0)
+          ∙ bind_is _ _ _ _ (ap triple_out (sym n-call.is) ∙ neutral-of.ensures.0) ∙ run_answer _ _),
+      subst ColourWithin (sym j) (colour_in m-call.m n-call.n m n),
     )

@@ -7,7 +7,6 @@ use Rattle.directory.specs.Facts.Tag.{values_out}
 use Rattle.colour.specs.Facts.Value.{triple_out, TripleIn}
 use Rattle.colour.specs.Tags.{matrix_reading}
 use Rattle.colour.proofs.TagFacts.{room}
-use borrow.Author.Rules.{rules}
 use Rattle.colour.proofs.tags.matrix_of.Goals as goal
 use Rattle.colour.proofs.tags.matrix_of.Goals.{After-look_up, In-Is-2}
 
@@ -28,10 +27,10 @@ pub returns-in-Refused-triple_at : goal.returns-in-Refused-triple_at
 unfolding matrix_reading
 returns-in-Refused-triple_at c =
     let look_up = c.look_up in
-    let v = c.v-1 in
+    let v = c.in-Is in
     let triple-at = c.triple_at in (
       bind_refused _ _ _ _ _ (ap triple_out (sym c.in-Refused-triple_at.is) ∙ triple-at.ensures.0)
-          ∙ sym (bind_is _ _ _ _ (ap values_out (sym v.given.1) ∙ look_up.ensures.0)),
+          ∙ sym (bind_is _ _ _ _ (ap values_out (sym v.is) ∙ look_up.ensures.0)),
       tt,
     )
 
@@ -39,29 +38,29 @@ pub overflow_add-place : goal.overflow_add-place
 overflow_add-place c =
     let a = c.args in
     let look_up = c.look_up in
-    let v = c.v-1 in
-    let l = room a.file.now look_up.result v.given.0.0 v.given.1 look_up.ensures.1 in
+    let v = c.in-Is in
+    let l = room a.file.now look_up.result v.v v.is look_up.ensures.1 in
     omega arith
 
 pub triple_at-requires-2 : goal.triple_at-requires-2
 triple_at-requires-2 c =
     let a = c.args in
     let look_up = c.look_up in
-    let v = c.v-1 in
-    let l = room a.file.now look_up.result v.given.0.0 v.given.1 look_up.ensures.1 in
+    let v = c.in-Is in
+    let l = room a.file.now look_up.result v.v v.is look_up.ensures.1 in
     (omega arith, refl)
 
 pub returns-in-Refused-triple_at-2 : goal.returns-in-Refused-triple_at-2
 unfolding matrix_reading
 returns-in-Refused-triple_at-2 c =
     let look_up = c.look_up in
-    let v = c.v-1 in
+    let v = c.in-Is in
     let triple-at = c.triple_at in
-    let t = c.t-1 in
+    let t = c.in-Is-triple_at in
     let triple-at2 = c.triple_at-2 in (
       bind_refused _ _ _ _ _ (ap triple_out (sym c.in-Refused-triple_at-2.is) ∙ triple-at2.ensures.0)
-          ∙ sym (bind_is _ _ _ _ (ap values_out (sym v.given.1) ∙ look_up.ensures.0)
-          ∙ bind_is _ _ _ _ (ap triple_out (sym t.given.1) ∙ triple-at.ensures.0)),
+          ∙ sym (bind_is _ _ _ _ (ap values_out (sym v.is) ∙ look_up.ensures.0)
+          ∙ bind_is _ _ _ _ (ap triple_out (sym t.is) ∙ triple-at.ensures.0)),
       tt,
     )
 
@@ -74,24 +73,24 @@ pub triple_at-requires-3 : goal.triple_at-requires-3
 triple_at-requires-3 c =
     let a = c.args in
     let look_up = c.look_up in
-    let v = c.v-1 in
-    let l = room a.file.now look_up.result v.given.0.0 v.given.1 look_up.ensures.1 in
+    let v = c.in-Is in
+    let l = room a.file.now look_up.result v.v v.is look_up.ensures.1 in
     (omega arith, refl)
 
 pub returns-in-Refused-triple_at-3 : goal.returns-in-Refused-triple_at-3
 unfolding matrix_reading
 returns-in-Refused-triple_at-3 c =
     let look_up = c.look_up in
-    let v = c.v-1 in
+    let v = c.in-Is in
     let triple-at = c.triple_at in
-    let t = c.t-1 in
+    let t = c.in-Is-triple_at in
     let triple-at2 = c.triple_at-2 in
-    let t2 = c.t-in-Is-triple_at-2-1 in
+    let t2 = c.in-Is-triple_at-2 in
     let triple-at3 = c.triple_at-3 in (
       bind_refused _ _ _ _ _ (ap triple_out (sym c.in-Refused-triple_at-3.is) ∙ triple-at3.ensures.0)
-          ∙ sym (bind_is _ _ _ _ (ap values_out (sym v.given.1) ∙ look_up.ensures.0)
-          ∙ bind_is _ _ _ _ (ap triple_out (sym t.given.1) ∙ triple-at.ensures.0)
-          ∙ bind_is _ _ _ _ (ap triple_out (sym t2.given.1) ∙ triple-at2.ensures.0)),
+          ∙ sym (bind_is _ _ _ _ (ap values_out (sym v.is) ∙ look_up.ensures.0)
+          ∙ bind_is _ _ _ _ (ap triple_out (sym t.is) ∙ triple-at.ensures.0)
+          ∙ bind_is _ _ _ _ (ap triple_out (sym t2.is) ∙ triple-at2.ensures.0)),
       tt,
     )
 
@@ -99,18 +98,18 @@ pub returns : goal.returns
 unfolding matrix_reading
 returns c =
     let look_up = c.look_up in
-    let v = c.v-1 in
+    let v = c.in-Is in
     let triple-at = c.triple_at in
-    let t = c.t-1 in
+    let t = c.in-Is-triple_at in
     let triple-at2 = c.triple_at-2 in
-    let t2 = c.t-in-Is-triple_at-2-1 in
+    let t2 = c.in-Is-triple_at-2 in
     let triple-at3 = c.triple_at-3 in
-    let x = subst (TripleIn false) t.given.1 triple-at.ensures.1 in
-    let y = subst (TripleIn false) t2.given.1 triple-at2.ensures.1 in
+    let x = subst (TripleIn false) t.is triple-at.ensures.1 in
+    let y = subst (TripleIn false) t2.is triple-at2.ensures.1 in
     let z = subst (TripleIn false) c.in-Is-triple_at-3.is triple-at3.ensures.1 in (
-      sym (bind_is _ _ _ _ (ap values_out (sym v.given.1) ∙ look_up.ensures.0)
-          ∙ bind_is _ _ _ _ (ap triple_out (sym t.given.1) ∙ triple-at.ensures.0)
-          ∙ bind_is _ _ _ _ (ap triple_out (sym t2.given.1) ∙ triple-at2.ensures.0)
+      sym (bind_is _ _ _ _ (ap values_out (sym v.is) ∙ look_up.ensures.0)
+          ∙ bind_is _ _ _ _ (ap triple_out (sym t.is) ∙ triple-at.ensures.0)
+          ∙ bind_is _ _ _ _ (ap triple_out (sym t2.is) ∙ triple-at2.ensures.0)
           ∙ bind_is _ _ _ _ (ap triple_out (sym c.in-Is-triple_at-3.is) ∙ triple-at3.ensures.0) ∙ run_answer _ _),
       record { x = x; y = y; z = z },
     )

@@ -1,5 +1,4 @@
 use borrow.Author.Tests.{eq-eqb, ne_eqb}
-use borrow.Author.Rules.{rules}
 use Rattle.reading.proofs.Reading.{pick_yes, pick_no}
 use Rattle.colour.specs.Tags.{neutral_kind}
 use Rattle.colour.proofs.tags.neutral_kind.Goals as goal

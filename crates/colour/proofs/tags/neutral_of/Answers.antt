@@ -9,7 +9,6 @@ use Rattle.directory.specs.Facts.Tag.{values_out}
 use Rattle.colour.specs.Value.{triple_reading}
 use Rattle.colour.specs.Tags.{neutral_reading}
 use Rattle.colour.proofs.TagFacts.{neutral_room}
-use borrow.Author.Rules.{rules}
 use Rattle.colour.proofs.tags.neutral_of.Goals as goal
 
 pub returns-in-Refused : goal.returns-in-Refused
@@ -22,19 +21,19 @@ pub triple_at-requires : goal.triple_at-requires
 triple_at-requires c =
     let a = c.args in
     let look_up = c.look_up in
-    let v = c.v-1 in
-    let l = neutral_room a.file.now look_up.result v.given.0.0 v.given.1 look_up.ensures.1 in
+    let v = c.in-Is in
+    let l = neutral_room a.file.now look_up.result v.v v.is look_up.ensures.1 in
     (l.0, l.1 ∙ ap width_of (sym c.neutral_kind-kind.ensures))
 
 pub returns : goal.returns
 unfolding neutral_reading
 returns c =
     let look_up = c.look_up in
-    let v-call = c.v-1 in
-    let v = v-call.given.0.0 in
+    let v-call = c.in-Is in
+    let v = v-call.v in
     let a = c.args in
     let k = ap (λ (k : FractionKind). run a.file.now (triple_reading a.ifd.order k v.size as_shot_neutral true v.place))
     c.neutral_kind-kind.ensures in (
-      c.triple_at.ensures.0 ∙ k ∙ sym (bind_is _ _ _ _ (ap values_out (sym v-call.given.1) ∙ look_up.ensures.0)),
+      c.triple_at.ensures.0 ∙ k ∙ sym (bind_is _ _ _ _ (ap values_out (sym v-call.is) ∙ look_up.ensures.0)),
       c.triple_at.ensures.1,
     )

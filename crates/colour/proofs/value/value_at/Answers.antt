@@ -2,7 +2,6 @@ use mathlib.Core.Path.{sym, ap, ◌∙◌, subst}
 use Rattle.directory.specs.Out.{Out.is}
 use Rattle.colour.specs.Facts.Value.{QuotientWithin}
 use Rattle.colour.proofs.Legality.{value_legal, value_illegal, quotient_in}
-use borrow.Author.Rules.{rules}
 use Rattle.colour.proofs.value.value_at.Goals as goal
 
 pub legal-requires : goal.legal-requires

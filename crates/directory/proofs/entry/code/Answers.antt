@@ -1,5 +1,4 @@
 use native.Mathlib.Omega.{arith}
-use borrow.Author.Rules.{rules}
 use Rattle.directory.proofs.entry.code.Goals as goal
 
 pub returns-in-Unknown : goal.returns-in-Unknown

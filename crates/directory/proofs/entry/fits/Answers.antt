@@ -1,6 +1,5 @@
 use native.Mathlib.Omega.{arith}
 use Rattle.directory.proofs.Entries.{product_most, capped}
-use borrow.Author.Rules.{rules}
 use Rattle.directory.proofs.entry.fits.Goals as goal
 
 pub overflow_mul-result : goal.overflow_mul-result

@@ -1,5 +1,4 @@
 use borrow.Author.Tests.{le-leb, lt-leb}
-use borrow.Author.Rules.{rules}
 use Rattle.reading.proofs.Reading.{pick_yes, pick_no}
 use Rattle.directory.specs.Entry.{kind_of}
 use Rattle.directory.proofs.entry.kind_of.Goals as goal

@@ -1,6 +1,5 @@
 use mathlib.Core.Path.{◌∙◌}
 use Rattle.reading.proofs.Bytes.{from_place, past_end}
-use borrow.Author.Rules.{rules}
 use Rattle.directory.proofs.entry.many_inside.Goals as goal
 
 pub returns-then-place-len : goal.returns-then-place-len

@@ -1,5 +1,4 @@
 use mathlib.Core.Path.{sym, ◌∙◌}
-use borrow.Author.Rules.{rules}
 use Rattle.directory.proofs.Entries.{plain_long, plain_ifd, plain_other}
 use Rattle.directory.proofs.entry.plain.Goals as goal
 

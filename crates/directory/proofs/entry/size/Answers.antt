@@ -2,7 +2,6 @@ use mathlib.Core.Path.{ap}
 use Prim.Native.Nat.{ℕ}
 use native.Mathlib.Omega.{arith}
 use lib.ListN.{get_or}
-use borrow.Author.Rules.{rules}
 use Rattle.directory.specs.Entry.{sizes, kind_width}
 use Rattle.directory.proofs.Entries.{size_listed}
 use Rattle.directory.proofs.entry.size.Goals as goal

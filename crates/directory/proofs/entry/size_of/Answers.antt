@@ -1,5 +1,4 @@
 use native.Mathlib.Omega.{arith}
-use borrow.Author.Rules.{rules}
 use Rattle.directory.proofs.Entries.{size_listed, size_known, size_unknown}
 use Rattle.directory.proofs.entry.size_of.Goals as goal
 

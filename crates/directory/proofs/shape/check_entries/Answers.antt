@@ -1,16 +1,15 @@
 use mathlib.Core.Path.{◌≡◌, refl, sym, ap, subst, ◌∙◌}
-use Prim.Native.Nat.{◌+◌, ◌-◌, ◌*◌, ◌≤◌}
+use Prim.Native.Nat.{◌-◌}
 use native.Mathlib.Omega.{arith}
 use lib.ListN.{length}
 use Rattle.reading.specs.Reading.{run}
 use Rattle.directory.specs.Out.{Out.is}
 use Rattle.directory.specs.Facts.Out.{number_out}
 use Rattle.directory.specs.Widths.{entry_width}
-use Rattle.directory.specs.Shape.{entry_reading, shape_from}
+use Rattle.directory.specs.Shape.{entry_reading}
 use Rattle.directory.specs.Facts.Shape.{TagIn}
 use Rattle.directory.proofs.Entries.{entry_most, OneMore, one_more}
 use Rattle.directory.proofs.Shapes.{shape_none, shape_refused, shape_order, shape_next}
-use borrow.Author.Rules.{rules}
 use Rattle.directory.proofs.shape.check_entries.Goals as goal
 use Rattle.directory.proofs.shape.check_entries.Goals.{At-loop-left, In-Is, In-loop-left, Start}
 
@@ -43,9 +42,8 @@ returns-in-Refused c =
     shape_refused a.widths a.file.now _ _ _ _ c.loop-left.left (c.loop-left.left - 1) (omega arith) _ _ e ∙ sym c.loop-left.invariant.0
 
 -- the tag of the entry at p
-tagged : (c : In-Is) → let l =
-    (FIXME c).At-loop-left in let a = l.before.before.args in
-    is c.in-Is.t ≡ run a.file.now (entry_reading a.widths (length a.file.now) a.order l.loop.p)
+tagged : (c : In-Is) → let a = c.args in
+    is c.in-Is.t ≡ run a.file.now (entry_reading a.widths (length a.file.now) a.order c.loop-left.p)
 tagged c = ap number_out (sym c.in-Is.is) ∙ c.placed_tag.ensures.result_value
 
 pub returns-then-tag-low : goal.returns-then-tag-low

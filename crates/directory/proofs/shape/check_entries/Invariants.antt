@@ -1,16 +1,9 @@
-use mathlib.Core.Path.{◌≡◌, refl, sym, ap, subst, ◌∙◌}
-use Prim.Native.Nat.{◌+◌, ◌-◌, ◌*◌, ◌≤◌}
-use native.Mathlib.Omega.{arith}
+use mathlib.Core.Path.{◌≡◌}
+use Prim.Native.Nat.{◌+◌, ◌*◌, ◌≤◌}
 use lib.ListN.{length}
 use Rattle.reading.specs.Reading.{run}
-use Rattle.directory.specs.Out.{Out.is}
-use Rattle.directory.specs.Facts.Out.{number_out}
 use Rattle.directory.specs.Widths.{entry_width}
-use Rattle.directory.specs.Shape.{entry_reading, shape_from}
-use Rattle.directory.specs.Facts.Shape.{TagIn}
-use Rattle.directory.proofs.Entries.{entry_most, OneMore, one_more}
-use Rattle.directory.proofs.Shapes.{shape_none, shape_refused, shape_order, shape_next}
-use borrow.Author.Rules.{rules}
+use Rattle.directory.specs.Shape.{shape_from}
 use Rattle.directory.proofs.shape.check_entries.Given as goal
 
 abbrev pub invariant-loop-left : goal.invariant-loop-left

@@ -7,7 +7,6 @@ use Rattle.directory.specs.Facts.Out.{number_out}
 use Rattle.directory.specs.Widths.{entry_width}
 use Rattle.directory.proofs.Entries.{wide_most, entry_most}
 use Rattle.directory.proofs.Shapes.{ifd_outside, ifd_empty, ifd_cut, ifd_refused, ifd_is}
-use borrow.Author.Rules.{rules}
 use Rattle.directory.proofs.shape.ifd_at.Goals as goal
 use Rattle.directory.proofs.shape.ifd_at.Goals.{After-check_entries, After-value-count, Start, Then-inside, Then-many_inside}
 
@@ -43,8 +42,8 @@ many_inside-requires c =
     (entry_most c.args.widths c.requires.1.word, c.requires.0)
 
 -- the entries and the next offset lie in the file
-room : (c : Then-many_inside) → let v = (FIXME c).After-value-count in let a = v.args in
-    a.at + a.widths.entries + entry_width a.widths * v.value-count.result + a.widths.word ≤ length a.file.now
+room : (c : Then-many_inside) → let a = c.args in
+    a.at + a.widths.entries + entry_width a.widths * c.value-count.result + a.widths.word ≤ length a.file.now
 room c =
     let a = c.args in
     let n = c.value-count.result in

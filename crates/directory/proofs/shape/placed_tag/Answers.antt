@@ -7,7 +7,6 @@ use Rattle.directory.specs.Entry.{kind_of, entry_of}
 use Rattle.directory.specs.declared.entry.Entry.{Entry}
 use Rattle.directory.proofs.Entries.{wide_most, fit, unfit, header_at}
 use Rattle.directory.proofs.Shapes.{entry_within, entry_inside, entry_outside}
-use borrow.Author.Rules.{rules}
 use Rattle.directory.proofs.shape.placed_tag.Goals as goal
 use Rattle.directory.proofs.shape.placed_tag.Goals.{After-value-count, After-value-place}
 
@@ -53,7 +52,7 @@ pub returns-then-fits : goal.returns-then-fits
 returns-then-fits c =
     let h = (goal.at.returns-then-fits c).After-value-count in
     let a = h.args in
-    let b = fit (λ (m : ℕ). m * h.value-count.result) (entry (goal.at.returns-then-fits c).After-value-count).kind _ _ _ h.type_size.ensures.0 c.fits.ensures
+    let b = fit (λ (m : ℕ). m * h.value-count.result) (entry (goal.at.returns-then-fits c).After-value-count).kind _ _ _ h.size_of-size.ensures.0 c.fits.ensures
     c.if-fits.true in record { result_value = entry_within a.widths a.file.now _ _ _ (entry (goal.at.returns-then-fits c).After-value-count) (head (goal.at.returns-then-fits c).After-value-count) b; tag_in = omega arith }
 
 pub value-place-requires : goal.value-place-requires
@@ -70,7 +69,7 @@ pub returns-then-many_inside : goal.returns-then-many_inside
 returns-then-many_inside c =
     let h = (goal.at.returns-then-many_inside c).After-value-count in
     let a = h.args in
-    let s = h.type_size.ensures.0 in
+    let s = h.size_of-size.ensures.0 in
     let b = unfit (λ (m : ℕ). m * h.value-count.result) (entry (goal.at.returns-then-many_inside c).After-value-count).kind _ _ _ s c.fits.ensures c.if-fits.false in
     let r = fit (λ (m : ℕ). c.value-place.result + m * h.value-count.result) (entry (goal.at.returns-then-many_inside c).After-value-count).kind _ _ _ s c.many_inside.ensures
     c.if-many_inside.true in record { result_value = entry_inside a.widths a.file.now _ _ _ (entry (goal.at.returns-then-many_inside c).After-value-count) (head (goal.at.returns-then-many_inside c).After-value-count) b _ c.value-place.ensures r; tag_in = omega arith }
@@ -79,7 +78,7 @@ pub returns-else-many_inside : goal.returns-else-many_inside
 returns-else-many_inside c =
     let h = (goal.at.returns-else-many_inside c).After-value-count in
     let a = h.args in
-    let s = h.type_size.ensures.0 in
+    let s = h.size_of-size.ensures.0 in
     let b = unfit (λ (m : ℕ). m * h.value-count.result) (entry (goal.at.returns-else-many_inside c).After-value-count).kind _ _ _ s c.fits.ensures c.if-fits.false in
     let r = unfit (λ (m : ℕ). c.value-place.result + m * h.value-count.result) (entry (goal.at.returns-else-many_inside c).After-value-count).kind _ _ _ s c.many_inside.ensures
     c.if-many_inside.false in record { result_value = entry_outside a.widths a.file.now _ _ _ (entry (goal.at.returns-else-many_inside c).After-value-count) (head (goal.at.returns-else-many_inside c).After-value-count) b _ c.value-place.ensures r; tag_in = tt }

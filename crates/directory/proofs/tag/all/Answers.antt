@@ -8,7 +8,6 @@ use Rattle.directory.specs.Facts.Tag.{values_out, PlacedValues}
 use Rattle.directory.proofs.Outs.{bind_refused, bind_is}
 use Rattle.directory.proofs.Tags.{looked_up, wide}
 use Rattle.reading.proofs.Reading.{run_answer}
-use borrow.Author.Rules.{rules}
 use Rattle.directory.proofs.tag.all.Goals as goal
 use Rattle.directory.proofs.tag.all.Goals.{In-Is, Start}
 

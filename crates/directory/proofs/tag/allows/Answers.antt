@@ -2,7 +2,6 @@ use mathlib.Core.Path.{◌∙◌}
 use mathlib.Core.List.{[], ◌∷◌}
 use borrow.Author.Tests.{eq-eqb}
 use Rattle.directory.proofs.Tags.{key_one, key_here, key_there}
-use borrow.Author.Rules.{rules}
 use Rattle.directory.proofs.tag.allows.Goals as goal
 use Rattle.directory.proofs.tag.allows.Goals.{After-plain-t, Else-t-eq3-3}
 

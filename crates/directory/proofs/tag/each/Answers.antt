@@ -1,14 +1,10 @@
 use mathlib.Core.Path.{◌≡◌, refl, sym, ap, ◌∙◌}
-use Prim.Native.Nat.{◌+◌, ◌-◌, ◌*◌, ◌≤◌, ◌<◌}
+use Prim.Native.Nat.{◌-◌}
 use native.Mathlib.Omega.{arith}
 use lib.ListN.{length}
-use Rattle.reading.specs.Reading.{run}
 use Rattle.directory.specs.Facts.Out.{number_out}
-use Rattle.reading.specs.Facts.Number.{Wide}
-use Rattle.directory.specs.Tag.{each_reading}
 use Rattle.directory.proofs.Entries.{OneMore, one_more}
 use Rattle.directory.proofs.Tags.{each_none, each_bad, each_next}
-use borrow.Author.Rules.{rules}
 use Rattle.directory.proofs.tag.each.Goals as goal
 use Rattle.directory.proofs.tag.each.Goals.{After-value, At-loop-left, In-loop-left}
 

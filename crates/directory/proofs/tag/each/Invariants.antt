@@ -1,14 +1,9 @@
-use mathlib.Core.Path.{◌≡◌, refl, sym, ap, ◌∙◌}
-use Prim.Native.Nat.{◌+◌, ◌-◌, ◌*◌, ◌≤◌, ◌<◌}
-use native.Mathlib.Omega.{arith}
+use mathlib.Core.Path.{◌≡◌}
+use Prim.Native.Nat.{◌+◌, ◌*◌, ◌≤◌, ◌<◌}
 use lib.ListN.{length}
 use Rattle.reading.specs.Reading.{run}
-use Rattle.directory.specs.Facts.Out.{number_out}
 use Rattle.reading.specs.Facts.Number.{Wide}
 use Rattle.directory.specs.Tag.{each_reading}
-use Rattle.directory.proofs.Entries.{OneMore, one_more}
-use Rattle.directory.proofs.Tags.{each_none, each_bad, each_next}
-use borrow.Author.Rules.{rules}
 use Rattle.directory.proofs.tag.each.Given as goal
 
 abbrev pub invariant-loop-left : goal.invariant-loop-left

@@ -2,7 +2,6 @@ use mathlib.Core.Path.{sym, ap, ◌∙◌}
 use Prim.Native.Nat.{ℕ}
 use Rattle.directory.specs.Out.{Out.refused}
 use Rattle.directory.proofs.Tags.{judged_is, judged_bad}
-use borrow.Author.Rules.{rules}
 use Rattle.directory.proofs.tag.judged.Goals as goal
 
 pub returns-then-number-eq0 : goal.returns-then-number-eq0

@@ -4,7 +4,6 @@ use Rattle.reading.proofs.Reading.{run_answer}
 use Rattle.directory.specs.Facts.Tag.{FoundIn}
 use Rattle.directory.specs.declared.tag.Found.TheVariants.{At, Absent}
 use Rattle.directory.proofs.Tags.{PlacedIn, found_placed, values_found_law}
-use borrow.Author.Rules.{rules}
 use Rattle.directory.proofs.tag.look_up.Goals as goal
 use Rattle.directory.proofs.tag.look_up.Goals.{Start}
 

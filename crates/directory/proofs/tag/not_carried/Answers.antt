@@ -2,7 +2,6 @@ use mathlib.Core.Path.{sym, ◌∙◌}
 use Rattle.reading.proofs.Reading.{run_answer, run_then}
 use Rattle.directory.specs.Tag.{if_absent, not_carried}
 use Rattle.directory.specs.declared.tag.Found.TheVariants.{At, Absent}
-use borrow.Author.Rules.{rules}
 use Rattle.directory.proofs.tag.not_carried.Goals as goal
 
 pub returns-in-Absent : goal.returns-in-Absent

@@ -9,7 +9,6 @@ use Rattle.directory.specs.Facts.Tag.{values_out, PlacedValues}
 use Rattle.directory.proofs.Outs.{bind_refused, bind_is}
 use Rattle.directory.proofs.Entries.{one_more}
 use Rattle.directory.proofs.Tags.{looked_up, wide, first_default, first_is}
-use borrow.Author.Rules.{rules}
 use Rattle.directory.proofs.tag.one.Goals as goal
 use Rattle.directory.proofs.tag.one.Goals.{In-Is, Start}
 

@@ -6,7 +6,6 @@ use Rattle.directory.specs.Out.{Out.is}
 use Rattle.directory.specs.Tag.{allows_of}
 use Rattle.directory.proofs.Entries.{wide_most, fit, unfit}
 use Rattle.directory.proofs.Tags.{kind_wrong, count_low, count_high, in_entry, elsewhere, inside_entry, inside_file}
-use borrow.Author.Rules.{rules}
 use Rattle.directory.proofs.tag.tested.Goals as goal
 use Rattle.directory.proofs.tag.tested.Goals.{Start, Then-ok}
 

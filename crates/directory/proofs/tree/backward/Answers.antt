@@ -5,7 +5,6 @@ use native.Mathlib.Omega.{arith}
 use Rattle.directory.specs.declared.tag.Kinds.TheVariants as kinds
 use Rattle.directory.proofs.Tags.{exactly}
 use Rattle.directory.proofs.Trees.{backward_default, backward_given}
-use borrow.Author.Rules.{rules}
 use Rattle.directory.proofs.tree.backward.Goals as goal
 
 pub short-requires : goal.short-requires

@@ -1,7 +1,6 @@
 use mathlib.Core.Path.{refl, sym, ◌∙◌}
 use native.Mathlib.Omega.{arith}
 use Rattle.directory.proofs.Trees.{big_tiff_laid, big_tiff_small, big_tiff_not_8, big_tiff_not_0, big_tiff_offset}
-use borrow.Author.Rules.{rules}
 use Rattle.directory.proofs.tree.big_tiff_root.Goals as goal
 use Rattle.directory.proofs.tree.big_tiff_root.Goals.{After-short, After-short-2, Else-file-lt16}
 

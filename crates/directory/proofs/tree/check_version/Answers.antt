@@ -6,7 +6,6 @@ use Rattle.directory.specs.Tag.{values_reading}
 use Rattle.directory.specs.Facts.Tag.{values_out, ValuesIn}
 use Rattle.directory.specs.Tree.{version_rule, backward_rule}
 use Rattle.directory.proofs.Trees.{version_refused, backward_refused, version_above, version_is}
-use borrow.Author.Rules.{rules}
 use Rattle.directory.proofs.tree.check_version.Goals as goal
 use Rattle.directory.proofs.tree.check_version.Goals.{After-look_up-2, In-Is, In-Is-look_up}
 

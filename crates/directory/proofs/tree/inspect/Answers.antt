@@ -7,7 +7,6 @@ use Rattle.directory.specs.Facts.Out.{number_out}
 use Rattle.directory.specs.Facts.Tag.{values_out, ValuesIn}
 use Rattle.directory.specs.Tree.{children_rule, subfile_reading}
 use Rattle.directory.proofs.Trees.{look_refused, look_raw, children_refused, look_into}
-use borrow.Author.Rules.{rules}
 use Rattle.directory.proofs.tree.inspect.Goals as goal
 use Rattle.directory.proofs.tree.inspect.Goals.{After-look_up, In-Is, Start}
 

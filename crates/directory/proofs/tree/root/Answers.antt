@@ -9,7 +9,6 @@ use Rattle.directory.specs.Facts.Shape.{ifd_out, IfdIn, Tested}
 use Rattle.directory.specs.Tree.{raw, left, after_walk, walk_reading, root_reading}
 use Rattle.directory.specs.Facts.Tree.{walk_out, WalkIn}
 use Rattle.directory.proofs.Outs.{bind_refused, bind_is}
-use borrow.Author.Rules.{rules}
 use Rattle.directory.proofs.tree.root.Goals as goal
 use Rattle.directory.proofs.tree.root.Goals.{After-check_version, After-walk_from, In-Is, Start}
 
@@ -52,7 +51,7 @@ walked : (c : After-walk_from) → let a = c.args in
 unfolding root_reading
 walked c =
     let check-version = c.check_version in
-    bind_is _ _ _ _ (opened (FIXME c).In-Is)
+    bind_is _ _ _ _ (ap ifd_out (sym c.in-Is.is) ∙ c.ifd_at.ensures.0)
     ∙ bind_is _ _ _ _ (ap number_out (sym c.in-Is-check_version.is) ∙ check-version.ensures)
 
 pub returns-in-Raw : goal.returns-in-Raw

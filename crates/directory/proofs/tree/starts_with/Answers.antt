@@ -1,7 +1,6 @@
 use mathlib.Core.Bool.{and-true}
 use borrow.Author.Tests.{eq-eqb, ne_eqb}
 use Rattle.directory.proofs.Trees.{start_is}
-use borrow.Author.Rules.{rules}
 use Rattle.directory.proofs.tree.starts_with.Goals as goal
 use Rattle.directory.proofs.tree.starts_with.Goals.{After-shared_slice_known-1, Else-file-mark-2, Else-file-mark-3}
 

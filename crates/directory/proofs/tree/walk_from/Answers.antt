@@ -4,7 +4,6 @@ use Rattle.reading.proofs.Reading.{run_answer}
 use Rattle.directory.specs.Tree.{raw_one, parent, walk_reading}
 use Rattle.directory.specs.Facts.Tree.{look_out, LookIn}
 use Rattle.directory.proofs.Outs.{bind_refused, bind_is}
-use borrow.Author.Rules.{rules}
 use Rattle.directory.proofs.tree.walk_from.Goals as goal
 use Rattle.directory.proofs.tree.walk_from.Goals.{After-inspect, In-Into, Start}
 
