@@ -10,4 +10,5 @@ returns c =
     let row = c.row in
     let a = c.args in
     let e : record { x = row.result; y = c.row-2.result; z = c.row-3.result } ≡ xyz_of a.colour a.s0 a.s1 a.s2 = λ i.
-    record { x = row.ensures i; y = c.row-2.ensures i; z = c.row-3.ensures i } in record { value = e; all = λ h u. subst (λ (r : Xyz). All Finite r.x r.y r.z) (sym e) (xyz_finite a.colour a.s0 a.s1 a.s2 h u) }
+    record { x = row.ensures i; y = c.row-2.ensures i; z = c.row-3.ensures i } in
+    record { value = e; all = λ h u. subst (λ (r : Xyz). All Finite r.x r.y r.z) (sym e) (xyz_finite a.colour a.s0 a.s1 a.s2 h u) }

@@ -48,9 +48,10 @@ tagged c = ap number_out (sym c.in-Is.is) ∙ c.placed_tag.ensures.result_value
 
 pub returns-then-tag-low : goal.returns-then-tag-low
 returns-then-tag-low c =
+    let at-in-is = (goal.at.returns-then-tag-low c).In-Is in
     let a = c.args in
     let n = c.loop-left.left in
-    shape_order a.widths a.file.now _ _ _ _ n (n - 1) (omega arith) _ (tagged (goal.at.returns-then-tag-low c).In-Is) c.if-tag-low.true ∙ sym c.loop-left.invariant.0
+    shape_order a.widths a.file.now _ _ _ _ n (n - 1) (omega arith) _ (tagged at-in-is) c.if-tag-low.true ∙ sym c.loop-left.invariant.0
 
 pub overflow_add-low : goal.overflow_add-low
 overflow_add-low c =

@@ -57,11 +57,12 @@ check_entries-requires c =
 
 pub returns-in-Refused : goal.returns-in-Refused
 returns-in-Refused c =
+    let at-then-inside = (goal.at.returns-in-Refused c).Then-inside in
     let i = (goal.at.returns-in-Refused c).Then-many_inside in
     let v = (goal.at.returns-in-Refused c).After-value-count in
     let a = v.args in
     let e = ap number_out (sym c.in-Refused.is) ∙ c.check_entries.ensures in (
-      ifd_refused a.widths a.file.now _ _ _ (counted (goal.at.returns-in-Refused c).Then-inside) _ v.value-count.ensures i.if-count-gt0.true (room (goal.at.returns-in-Refused c).Then-many_inside) _ _
+      ifd_refused a.widths a.file.now _ _ _ (counted at-then-inside) _ v.value-count.ensures i.if-count-gt0.true (room i) _ _
           e,
       tt,
     )

@@ -52,8 +52,9 @@ pub returns-then-fits : goal.returns-then-fits
 returns-then-fits c =
     let h = (goal.at.returns-then-fits c).After-value-count in
     let a = h.args in
-    let b = fit (λ (m : ℕ). m * h.value-count.result) (entry (goal.at.returns-then-fits c).After-value-count).kind _ _ _ h.size_of-size.ensures.0 c.fits.ensures
-    c.if-fits.true in record { result_value = entry_within a.widths a.file.now _ _ _ (entry (goal.at.returns-then-fits c).After-value-count) (head (goal.at.returns-then-fits c).After-value-count) b; tag_in = omega arith }
+    let b = fit (λ (m : ℕ). m * h.value-count.result) (entry h).kind _ _ _ h.size_of-size.ensures.0 c.fits.ensures
+    c.if-fits.true in
+    record { result_value = entry_within a.widths a.file.now _ _ _ (entry h) (head h) b; tag_in = omega arith }
 
 pub value-place-requires : goal.value-place-requires
 value-place-requires c =
@@ -70,15 +71,17 @@ returns-then-many_inside c =
     let h = (goal.at.returns-then-many_inside c).After-value-count in
     let a = h.args in
     let s = h.size_of-size.ensures.0 in
-    let b = unfit (λ (m : ℕ). m * h.value-count.result) (entry (goal.at.returns-then-many_inside c).After-value-count).kind _ _ _ s c.fits.ensures c.if-fits.false in
-    let r = fit (λ (m : ℕ). c.value-place.result + m * h.value-count.result) (entry (goal.at.returns-then-many_inside c).After-value-count).kind _ _ _ s c.many_inside.ensures
-    c.if-many_inside.true in record { result_value = entry_inside a.widths a.file.now _ _ _ (entry (goal.at.returns-then-many_inside c).After-value-count) (head (goal.at.returns-then-many_inside c).After-value-count) b _ c.value-place.ensures r; tag_in = omega arith }
+    let b = unfit (λ (m : ℕ). m * h.value-count.result) (entry h).kind _ _ _ s c.fits.ensures c.if-fits.false in
+    let r = fit (λ (m : ℕ). c.value-place.result + m * h.value-count.result) (entry h).kind _ _ _ s c.many_inside.ensures
+    c.if-many_inside.true in
+    record { result_value = entry_inside a.widths a.file.now _ _ _ (entry h) (head h) b _ c.value-place.ensures r; tag_in = omega arith }
 
 pub returns-else-many_inside : goal.returns-else-many_inside
 returns-else-many_inside c =
     let h = (goal.at.returns-else-many_inside c).After-value-count in
     let a = h.args in
     let s = h.size_of-size.ensures.0 in
-    let b = unfit (λ (m : ℕ). m * h.value-count.result) (entry (goal.at.returns-else-many_inside c).After-value-count).kind _ _ _ s c.fits.ensures c.if-fits.false in
-    let r = unfit (λ (m : ℕ). c.value-place.result + m * h.value-count.result) (entry (goal.at.returns-else-many_inside c).After-value-count).kind _ _ _ s c.many_inside.ensures
-    c.if-many_inside.false in record { result_value = entry_outside a.widths a.file.now _ _ _ (entry (goal.at.returns-else-many_inside c).After-value-count) (head (goal.at.returns-else-many_inside c).After-value-count) b _ c.value-place.ensures r; tag_in = tt }
+    let b = unfit (λ (m : ℕ). m * h.value-count.result) (entry h).kind _ _ _ s c.fits.ensures c.if-fits.false in
+    let r = unfit (λ (m : ℕ). c.value-place.result + m * h.value-count.result) (entry h).kind _ _ _ s c.many_inside.ensures
+    c.if-many_inside.false in
+    record { result_value = entry_outside a.widths a.file.now _ _ _ (entry h) (head h) b _ c.value-place.ensures r; tag_in = tt }

@@ -64,11 +64,13 @@ overflow_add-p c =
 
 pub loop-left-preserved : goal.loop-left-preserved
 loop-left-preserved c =
+    let at-after-short = (goal.at.loop-left-preserved c).After-short in
+    let at-in-loop-left = (goal.at.loop-left-preserved c).In-loop-left in
     let a = c.args in
     let n = c.loop-left.left in
-    let e = find_later a.widths a.file.now _ _ _ n (n - 1) (omega arith) _ refl (λ h. c.if-short-tag.false (sym (tag_is (goal.at.loop-left-preserved c).After-short) ∙ h))
+    let e = find_later a.widths a.file.now _ _ _ n (n - 1) (omega arith) _ refl (λ h. c.if-short-tag.false (sym (tag_is at-after-short) ∙ h))
     in
-    (c.loop-left.invariant.0 ∙ e, (spaced (goal.at.loop-left-preserved c).In-loop-left).1)
+    (c.loop-left.invariant.0 ∙ e, (spaced at-in-loop-left).1)
 
 pub returns : goal.returns
 returns c =

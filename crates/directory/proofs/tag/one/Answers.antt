@@ -27,7 +27,7 @@ pub returns-then-count-eq0 : goal.returns-then-count-eq0
 unfolding one_reading
 returns-then-count-eq0 c =
     let g = (goal.at.returns-then-count-eq0 c).In-Is in
-    (c.judged.ensures.0 ∙ first_default _ _ _ _ _ _ c.if-count-eq0.true ∙ sym (bind_is _ _ _ _ (given (goal.at.returns-then-count-eq0 c).In-Is).0), c.judged.ensures.1)
+    (c.judged.ensures.0 ∙ first_default _ _ _ _ _ _ c.if-count-eq0.true ∙ sym (bind_is _ _ _ _ (given g).0), c.judged.ensures.1)
 
 pub value-requires : goal.value-requires
 value-requires c =

@@ -38,8 +38,8 @@ returns-then-fits c =
     let s = c.size-size.ensures.0 in
     let b = fit (λ (m : ℕ). m * t.args.entry.count) t.args.entry.kind _ _ _ s c.fits.ensures c.if-fits.true in (
       ap (λ n. is (record { place = t.args.place; kind = t.args.entry.kind; size = n; count = t.args.entry.count })) s
-          ∙ in_entry _ _ _ _ _ _ (allowed (goal.at.returns-then-fits c).Then-ok) l m b,
-      rw s (inside_entry t.args.widths t.args.file.now t.args.order _ _ t.args.entry (allowed (goal.at.returns-then-fits c).Then-ok) l m _ t.requires.word_in_bounds.0 b),
+          ∙ in_entry _ _ _ _ _ _ (allowed t) l m b,
+      rw s (inside_entry t.args.widths t.args.file.now t.args.order _ _ t.args.entry (allowed t) l m _ t.requires.word_in_bounds.0 b),
     )
 
 pub returns-else-fits : goal.returns-else-fits

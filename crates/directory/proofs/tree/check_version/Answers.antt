@@ -25,7 +25,11 @@ returns-in-Refused-look_up c =
 
 pub backward-n-requires : goal.backward-n-requires
 backward-n-requires c =
-    let n = length c.args.file.now in record { placed_values = subst (ValuesIn n version_rule) c.in-Is.is c.look_up.ensures.1; placed_values_2 = subst (ValuesIn n backward_rule) c.in-Is-look_up.is c.look_up-2.ensures.1 }
+    let n = length c.args.file.now in
+    record {
+      placed_values = subst (ValuesIn n version_rule) c.in-Is.is c.look_up.ensures.1;
+      placed_values_2 = subst (ValuesIn n backward_rule) c.in-Is-look_up.is c.look_up-2.ensures.1;
+    }
 
 backward_values : (c : In-Is-look_up) → let a = c.args in
     is c.in-Is-look_up.v ≡ run a.file.now (values_reading a.ifd backward_rule)
@@ -33,10 +37,12 @@ backward_values c = ap values_out (sym c.in-Is-look_up.is) ∙ c.look_up-2.ensur
 
 pub returns-then-n-gt17236224 : goal.returns-then-n-gt17236224
 returns-then-n-gt17236224 c =
+    let at-in-is = (goal.at.returns-then-n-gt17236224 c).In-Is in
     let g = (goal.at.returns-then-n-gt17236224 c).In-Is-look_up in
-    version_above _ _ _ (version (goal.at.returns-then-n-gt17236224 c).In-Is) _ (backward_values (goal.at.returns-then-n-gt17236224 c).In-Is-look_up) _ c.backward-n.ensures c.if-n-gt17236224.true
+    version_above _ _ _ (version at-in-is) _ (backward_values g) _ c.backward-n.ensures c.if-n-gt17236224.true
 
 pub returns-else-n-gt17236224 : goal.returns-else-n-gt17236224
 returns-else-n-gt17236224 c =
+    let at-in-is = (goal.at.returns-else-n-gt17236224 c).In-Is in
     let g = (goal.at.returns-else-n-gt17236224 c).In-Is-look_up in
-    version_is _ _ _ (version (goal.at.returns-else-n-gt17236224 c).In-Is) _ (backward_values (goal.at.returns-else-n-gt17236224 c).In-Is-look_up) _ c.backward-n.ensures c.if-n-gt17236224.false
+    version_is _ _ _ (version at-in-is) _ (backward_values g) _ c.backward-n.ensures c.if-n-gt17236224.false

@@ -52,7 +52,7 @@ pub returns-then-starts_with : goal.returns-then-starts_with
 returns-then-starts_with c =
     let k = (goal.at.returns-then-starts_with c).After-starts_with in (
       c.root_from.ensures.0
-          ∙ sym (tree_classic_little _ _ (least (goal.at.returns-then-starts_with c).After-starts_with) (most (goal.at.returns-then-starts_with c).After-starts_with) (sym k.starts_with.ensures ∙ c.if-starts_with.true)),
+          ∙ sym (tree_classic_little _ _ (least k) (most k) (sym k.starts_with.ensures ∙ c.if-starts_with.true)),
       c.root_from.ensures.1,
     )
 
@@ -63,14 +63,14 @@ starts_with-requires-2 c =
 pub root_from-requires-then-starts_with-2 : goal.root_from-requires-then-starts_with-2
 root_from-requires-then-starts_with-2 c =
     let k = (goal.at.root_from-requires-then-starts_with-2 c).After-starts_with in
-    (most (goal.at.root_from-requires-then-starts_with-2 c).After-starts_with, classic_laid _ refl refl (omega arith), omega (arith, least (goal.at.root_from-requires-then-starts_with-2 c).After-starts_with))
+    (most k, classic_laid _ refl refl (omega arith), omega (arith, least k))
 
 pub returns-then-starts_with-2 : goal.returns-then-starts_with-2
 returns-then-starts_with-2 c =
     let m = (goal.at.returns-then-starts_with-2 c).After-starts_with-2 in
     let k = (goal.at.returns-then-starts_with-2 c).After-starts_with in (
       c.root_from-then-starts_with-2.ensures.0
-          ∙ sym (tree_classic_big _ _ (least (goal.at.returns-then-starts_with-2 c).After-starts_with) (most (goal.at.returns-then-starts_with-2 c).After-starts_with) (not_little (goal.at.returns-then-starts_with-2 c).After-starts_with-2) (sym m.starts_with-2.ensures ∙ c.if-starts_with-2.true)),
+          ∙ sym (tree_classic_big _ _ (least k) (most k) (not_little m) (sym m.starts_with-2.ensures ∙ c.if-starts_with-2.true)),
       c.root_from-then-starts_with-2.ensures.1,
     )
 
@@ -88,7 +88,7 @@ returns-then-starts_with-3 c =
     let m = (goal.at.returns-then-starts_with-3 c).After-starts_with-2 in
     let k = (goal.at.returns-then-starts_with-3 c).After-starts_with in (
       c.big_tiff_root.ensures.0
-          ∙ sym (tree_big_tiff_little _ _ (least (goal.at.returns-then-starts_with-3 c).After-starts_with) (most (goal.at.returns-then-starts_with-3 c).After-starts_with) (not_little (goal.at.returns-then-starts_with-3 c).After-starts_with-2) (not_big (goal.at.returns-then-starts_with-3 c).After-starts_with-3)
+          ∙ sym (tree_big_tiff_little _ _ (least k) (most k) (not_little m) (not_big o)
           (sym o.starts_with-3.ensures ∙ c.if-starts_with-3.true)),
       c.big_tiff_root.ensures.1,
     )
@@ -108,7 +108,7 @@ returns-then-starts_with-4 c =
     let m = (goal.at.returns-then-starts_with-4 c).After-starts_with-2 in
     let k = (goal.at.returns-then-starts_with-4 c).After-starts_with in
     let e = sym q.starts_with-4.ensures ∙ c.if-starts_with-4.true in (
-      c.big_tiff_root-then-starts_with-4.ensures.0 ∙ sym (tree_big_tiff_big _ _ (least (goal.at.returns-then-starts_with-4 c).After-starts_with) (most (goal.at.returns-then-starts_with-4 c).After-starts_with) (not_little (goal.at.returns-then-starts_with-4 c).After-starts_with-2) (not_big (goal.at.returns-then-starts_with-4 c).After-starts_with-3) (not_big_tiff_little (goal.at.returns-then-starts_with-4 c).After-starts_with-4) e),
+      c.big_tiff_root-then-starts_with-4.ensures.0 ∙ sym (tree_big_tiff_big _ _ (least k) (most k) (not_little m) (not_big o) (not_big_tiff_little q) e),
       c.big_tiff_root-then-starts_with-4.ensures.1,
     )
 
@@ -118,6 +118,6 @@ returns c =
     let o = (goal.at.returns c).After-starts_with-3 in
     let m = (goal.at.returns c).After-starts_with-2 in
     let k = (goal.at.returns c).After-starts_with in (
-      tree_other _ _ (least (goal.at.returns c).After-starts_with) (most (goal.at.returns c).After-starts_with) (not_little (goal.at.returns c).After-starts_with-2) (not_big (goal.at.returns c).After-starts_with-3) (not_big_tiff_little (goal.at.returns c).After-starts_with-4) (sym q.starts_with-4.ensures ∙ c.if-starts_with-4.false),
+      tree_other _ _ (least k) (most k) (not_little m) (not_big o) (not_big_tiff_little q) (sym q.starts_with-4.ensures ∙ c.if-starts_with-4.false),
       tt,
     )

@@ -71,10 +71,10 @@ pub returns-in-Refused-walk_from : goal.returns-in-Refused-walk_from
 unfolding root_reading
 returns-in-Refused-walk_from c =
     let n = (goal.at.returns-in-Refused-walk_from c).After-walk_from in
-    (bind_refused _ _ _ _ _ (ap walk_out (sym c.in-Refused-walk_from.is) ∙ n.walk_from.ensures.0) ∙ sym (walked (goal.at.returns-in-Refused-walk_from c).After-walk_from), tt)
+    (bind_refused _ _ _ _ _ (ap walk_out (sym c.in-Refused-walk_from.is) ∙ n.walk_from.ensures.0) ∙ sym (walked n), tt)
 
 pub returns-in-Left : goal.returns-in-Left
 unfolding root_reading
 returns-in-Left c =
     let n = (goal.at.returns-in-Left c).After-walk_from in
-    (sym (walked (goal.at.returns-in-Left c).After-walk_from ∙ bind_is _ _ _ (left _) (ap walk_out (sym c.in-Left.is) ∙ n.walk_from.ensures.0) ∙ run_answer _ _), tt)
+    (sym (walked n ∙ bind_is _ _ _ (left _) (ap walk_out (sym c.in-Left.is) ∙ n.walk_from.ensures.0) ∙ run_answer _ _), tt)
