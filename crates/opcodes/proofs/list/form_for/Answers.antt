@@ -1,4 +1,4 @@
-use Rattle.std.proofs.Common.{ℕ, sym, ap, ◌∙◌, rules, eq-eqb, ne_eqb}
+use Rattle.std.proofs.Common.{ℕ, sym, ap, ◌∙◌, eq-eqb, ne_eqb}
 use Rattle.opcodes.specs.OpcodeList.{lines_form}
 use Rattle.opcodes.proofs.OpcodeLists.{form_table, form_polynomial, form_rows, form_columns}
 use Rattle.opcodes.proofs.list.form_for.Goals as goal

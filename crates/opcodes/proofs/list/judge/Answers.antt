@@ -1,4 +1,4 @@
-use Rattle.std.proofs.Common.{◌≡◌, ℕ, ◌+◌, sym, refl, ap, ◌∙◌, arith, rules}
+use Rattle.std.proofs.Common.{◌≡◌, ℕ, ◌+◌, sym, refl, ap, ◌∙◌, arith}
 use Rattle.reading.specs.Bytes.{part}
 use Rattle.directory.specs.Out.{Out.refused}
 use Rattle.opcodes.specs.OpcodeList.{class_of}

@@ -1,4 +1,4 @@
-use Rattle.std.proofs.Common.{ap, ◌∙◌, subst, arith, rules}
+use Rattle.std.proofs.Common.{ap, ◌∙◌, subst, arith}
 use Rattle.levels.specs.Clip.{clip_of}
 use Rattle.opcodes.specs.Step.{horner_of, result_of, applied_of}
 use Rattle.opcodes.specs.Facts.Step.{TableIn, StepIn}

@@ -1,4 +1,4 @@
-use Rattle.std.proofs.Common.{◌≡◌, ℕ, ◌+◌, ◌<◌, ◌≤◌, List, sym, ap, ◌∙◌, arith, rules}
+use Rattle.std.proofs.Common.{◌≡◌, ℕ, ◌+◌, ◌<◌, ◌≤◌, List, sym, ap, ◌∙◌, arith}
 use lib.Ieee.{Float}
 use Rattle.reading.specs.declared.number.Order.TheVariants.{Big}
 use Rattle.levels.specs.Clip.{clip_of}
