@@ -35,7 +35,7 @@ pub sfits32 : (z : ℤ) → nat_abs z ≤ most_black → SFits w32 (to_z w64 (of
 sfits32 z h = rw (back z (omega arith)) (record { sfits = omega (arith, mag_le z) })
 
 pub back32 : (z : ℤ) → nat_abs z ≤ most_black → to_z w32 (of_z w32 z) ≡ z
-back32 z h = to_z-of_z (record { sfits = omega (arith, mag_le z) })
+back32 z h = to_z-of_z {w = w32} (record { sfits = omega (arith, mag_le z) })
 
 pub held_short : (z : ℤ) → nat_abs z ≤ most_black → to_z w32 (of_z w32 (to_z w64 (of_z w64 z))) ≡ z
 held_short z h = to_z-of_z (sfits32 z h) ∙ back z (omega arith)

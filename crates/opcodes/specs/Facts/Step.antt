@@ -1,6 +1,5 @@
 -- What the functions tell one another.
 use Rattle.std.specs.Prelude.{ℕ, ◌+◌, ◌*◌, ◌≤◌, List, length}
-use Rattle.levels.specs.Level.{most}
 use Rattle.opcodes.specs.declared.step.Step.{Step}
 use Rattle.opcodes.specs.declared.step.Step.TheVariants.{Add, Scale, Polynomial, Table}
 use Rattle.opcodes.specs.Grid.{long_of}

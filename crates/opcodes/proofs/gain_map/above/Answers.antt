@@ -1,4 +1,4 @@
-use Rattle.std.proofs.Common.{ℕ, Bool, not, T, sym, ap, ◌∙◌, subst, rules}
+use Rattle.std.proofs.Common.{ℕ, Bool, not, T, sym, ap, ◌∙◌, subst}
 use lib.Ieee.{binary64, of_bits, lt}
 use Rattle.levels.specs.Clip.{plus_zero}
 use Rattle.opcodes.proofs.GainMaps.{nan_not_above}

@@ -1,4 +1,4 @@
-use Rattle.std.proofs.Common.{◌≡◌, ℕ, ap, ◌∙◌, rules}
+use Rattle.std.proofs.Common.{◌≡◌, ℕ, ap, ◌∙◌}
 use lib.Ieee.{Float}
 use Rattle.opcodes.specs.Step.{value_of}
 use Rattle.opcodes.specs.declared.gain_map.Axis.{Axis}

@@ -1,4 +1,4 @@
-use Rattle.std.proofs.Common.{◌∙◌, rules}
+use Rattle.std.proofs.Common.{◌∙◌}
 use Rattle.opcodes.proofs.GainMaps.{axis_none, axis_many, axis_one, axis_some}
 use Rattle.opcodes.proofs.gain_map.axis_legal.Goals as goal
 use Rattle.opcodes.proofs.gain_map.axis_legal.Goals.{Else-n-lt1}

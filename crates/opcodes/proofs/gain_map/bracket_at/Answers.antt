@@ -29,7 +29,8 @@ returns-then-last-p c =
 pub truncating_f64_to_u64-k-requires : goal.truncating_f64_to_u64-k-requires
 unfolding of_bits
 truncating_f64_to_u64-k-requires c =
-    word_below c.args.p (c.args.points - 1) (omega (arith, c.requires.1)) c.requires.2 c.if-p.false c.if-last-p.false
+    let w = word_below c.args.p (c.args.points - 1) (omega (arith, c.requires.1)) c.requires.2 c.if-p.false c.if-last-p.false in
+    record { lower_bound = w.0; upper_bound = w.1 }
 
 pub int_to_float-result : goal.int_to_float-result
 unfolding of_bits

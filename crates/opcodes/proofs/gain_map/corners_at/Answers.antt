@@ -1,4 +1,4 @@
-use Rattle.std.proofs.Common.{ℕ, ap, ◌∙◌, arith, rules}
+use Rattle.std.proofs.Common.{ℕ, ap, ◌∙◌, arith}
 use Rattle.opcodes.specs.GainMap.{gain_map_of}
 use Rattle.opcodes.specs.Facts.Bracket.{next_of}
 use Rattle.opcodes.proofs.Places.{float_exact}

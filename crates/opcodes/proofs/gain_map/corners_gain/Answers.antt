@@ -1,4 +1,4 @@
-use Rattle.std.proofs.Common.{ap, ◌∙◌, rules}
+use Rattle.std.proofs.Common.{ap, ◌∙◌}
 use lib.Ieee.{Float}
 use Rattle.opcodes.specs.Facts.Bracket.{taken_of}
 use Rattle.opcodes.proofs.gain_map.corners_gain.Goals as goal

@@ -1,4 +1,4 @@
-use Rattle.std.proofs.Common.{◌≡◌, ℕ, ◌*◌, ◌≤◌, mul-le-mul, arith, rules}
+use Rattle.std.proofs.Common.{◌≡◌, ℕ, ◌*◌, ◌≤◌, mul-le-mul, arith}
 use Rattle.opcodes.proofs.gain_map.count.Goals as goal
 use Rattle.opcodes.proofs.gain_map.count.Goals.{After-field-planes}
 

@@ -1,4 +1,4 @@
-use Rattle.std.proofs.Common.{◌+◌, ◌*◌, ◌≤◌, length, ap, ◌∙◌, arith, rules}
+use Rattle.std.proofs.Common.{◌+◌, ◌*◌, ◌≤◌, length, ap, ◌∙◌, arith}
 use Rattle.opcodes.specs.Step.{value_of}
 use Rattle.opcodes.proofs.BracketLaws.{gain_room, gain_read}
 use Rattle.opcodes.proofs.gain_map.gain.Goals as goal

@@ -1,4 +1,4 @@
-use Rattle.std.proofs.Common.{sym, ◌∙◌, subst, arith, rules}
+use Rattle.std.proofs.Common.{sym, ◌∙◌, subst, arith}
 use Rattle.opcodes.specs.Grid.{long_of}
 use Rattle.opcodes.specs.GainMap.{gain_map_of}
 use Rattle.opcodes.specs.Facts.Bracket.{AxisIn, BracketOf, BracketIn}

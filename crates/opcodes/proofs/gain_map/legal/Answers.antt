@@ -1,4 +1,4 @@
-use Rattle.std.proofs.Common.{ℕ, leb, sym, ap, ◌∙◌, rules}
+use Rattle.std.proofs.Common.{ℕ, leb, sym, ap, ◌∙◌}
 use Rattle.opcodes.proofs.GainMaps.{legal_planes, legal_first, legal_second}
 use Rattle.opcodes.proofs.gain_map.legal.Goals as goal
 

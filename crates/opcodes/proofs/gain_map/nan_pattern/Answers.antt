@@ -1,4 +1,4 @@
-use Rattle.std.proofs.Common.{sym, ◌∙◌, rules, eq-eqb, ne_eqb}
+use Rattle.std.proofs.Common.{sym, ◌∙◌, eq-eqb, ne_eqb}
 use lib.Ieee.{nan_bits}
 use Rattle.opcodes.proofs.gain_map.nan_pattern.Goals as goal
 

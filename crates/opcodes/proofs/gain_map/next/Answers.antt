@@ -1,5 +1,4 @@
 use Rattle.opcodes.proofs.BracketLaws.{next_more, next_last}
-use Rattle.std.proofs.Common.{rules}
 use Rattle.opcodes.proofs.gain_map.next.Goals as goal
 
 pub returns-then-k-points : goal.returns-then-k-points

@@ -1,4 +1,4 @@
-use Rattle.std.proofs.Common.{sym, ap, ◌∙◌, rules}
+use Rattle.std.proofs.Common.{sym, ap, ◌∙◌}
 use Rattle.opcodes.specs.Facts.Bracket.{taken_of}
 use Rattle.opcodes.specs.declared.gain_map.Bracket.{Bracket}
 use Rattle.opcodes.proofs.gain_map.taken.Goals as goal

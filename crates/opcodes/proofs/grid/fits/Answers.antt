@@ -1,4 +1,4 @@
-use Rattle.std.proofs.Common.{sym, ◌∙◌, rules}
+use Rattle.std.proofs.Common.{sym, ◌∙◌}
 use Rattle.opcodes.specs.Grid.{fits_of}
 use Rattle.opcodes.proofs.grid.fits.Goals as goal
 

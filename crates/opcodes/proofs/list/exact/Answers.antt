@@ -1,4 +1,4 @@
-use Rattle.std.proofs.Common.{sym, rules}
+use Rattle.std.proofs.Common.{sym}
 use Rattle.opcodes.proofs.list.exact.Goals as goal
 
 pub returns-then-legal : goal.returns-then-legal

@@ -1,4 +1,4 @@
-use Rattle.std.proofs.Common.{ap, ◌∙◌, rules}
+use Rattle.std.proofs.Common.{ap, ◌∙◌}
 use Rattle.reading.proofs.Bytes.{cut}
 use Rattle.opcodes.specs.OpcodeList.{opcode_fault}
 use Rattle.opcodes.proofs.list.fault.Goals as goal

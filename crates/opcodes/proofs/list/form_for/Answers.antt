@@ -1,11 +1,11 @@
-use Rattle.std.proofs.Common.{ℕ, sym, ap, ◌∙◌, rules, eq-eqb, ne_eqb}
+use Rattle.std.proofs.Common.{ℕ, sym, ap, ◌∙◌, eq-eqb, ne_eqb}
 use Rattle.opcodes.specs.OpcodeList.{lines_form}
 use Rattle.opcodes.proofs.OpcodeLists.{form_table, form_polynomial, form_rows, form_columns}
 use Rattle.opcodes.proofs.list.form_for.Goals as goal
 
 pub table_form-requires : goal.table_form-requires
 table_form-requires c =
-    c.requires.left_le_right.1
+    c.requires.n_bound
 
 pub returns-then-id-eq7 : goal.returns-then-id-eq7
 returns-then-id-eq7 c =
@@ -14,7 +14,7 @@ returns-then-id-eq7 c =
 
 pub polynomial_form-requires : goal.polynomial_form-requires
 polynomial_form-requires c =
-    c.requires.left_le_right.1
+    c.requires.n_bound
 
 pub returns-then-id-eq8 : goal.returns-then-id-eq8
 returns-then-id-eq8 c =
@@ -24,23 +24,19 @@ returns-then-id-eq8 c =
 
 pub lines-requires : goal.lines-requires
 lines-requires c =
-    let pre = c.requires in
-    pre.top_le_bottom
+    c.requires.top_le_bottom
 
 pub lines_form-requires : goal.lines_form-requires
 lines_form-requires c =
-    let pre = c.requires in
-    pre.left_le_right.1
+    c.requires.n_bound
 
 pub lines-requires-else-by_row : goal.lines-requires-else-by_row
 lines-requires-else-by_row c =
-    let pre = c.requires in
-    pre.left_le_right.0
+    c.requires.left_le_right
 
 pub lines_form-requires-else-by_row : goal.lines_form-requires-else-by_row
 lines_form-requires-else-by_row c =
-    let pre = c.requires in
-    pre.left_le_right.1
+    c.requires.n_bound
 
 pub returns-then-by_row : goal.returns-then-by_row
 returns-then-by_row c =

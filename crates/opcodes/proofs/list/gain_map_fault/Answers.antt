@@ -1,4 +1,4 @@
-use Rattle.std.proofs.Common.{true, false, sym, ◌∙◌, rules}
+use Rattle.std.proofs.Common.{true, false, sym, ◌∙◌}
 use Rattle.opcodes.proofs.OpcodeLists.{own_fits}
 use Rattle.opcodes.proofs.GainMaps.{legal_in, map_short, map_grid, map_illegal, map_other, map_read}
 use Rattle.opcodes.proofs.list.gain_map_fault.Goals as goal

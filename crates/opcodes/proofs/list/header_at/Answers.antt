@@ -1,4 +1,4 @@
-use Rattle.std.proofs.Common.{◌≡◌, ℕ, sym, ap, ◌∙◌, add-zero, arith, rules}
+use Rattle.std.proofs.Common.{◌≡◌, ℕ, sym, ap, ◌∙◌, add-zero, arith}
 use Rattle.opcodes.specs.Grid.{long_of}
 use Rattle.opcodes.specs.OpcodeList.{header_of}
 use Rattle.opcodes.specs.declared.list.Header.{Header}

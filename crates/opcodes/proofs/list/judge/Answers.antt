@@ -1,4 +1,4 @@
-use Rattle.std.proofs.Common.{◌≡◌, ℕ, ◌+◌, sym, refl, ap, ◌∙◌, arith, rules}
+use Rattle.std.proofs.Common.{◌≡◌, ℕ, ◌+◌, sym, refl, ap, ◌∙◌, arith}
 use Rattle.reading.specs.Bytes.{part}
 use Rattle.directory.specs.Out.{Out.refused}
 use Rattle.opcodes.specs.OpcodeList.{class_of}
@@ -25,8 +25,7 @@ pub returns-then-number-eq0 : goal.returns-then-number-eq0
 returns-then-number-eq0 c =
     let a = c.args in
     let classify = c.classify in
-    let told = c.enum_told-1 in
-    let cl : class_of a.header ≡ class.Carried = sym classify.ensures ∙ told.given.1 in
+    let cl : class_of a.header ≡ class.Carried = sym classify.ensures ∙ c.in-Carried.is in
     rw cl (rw (carried_run a.file.now a.size a.i a.at a.header)
     (parameters_kept a.size a.i a.header.id (part a.file.now (a.at + 16) a.header.length) a.counts
     (sym c.fault-number.ensures ∙ c.if-number-eq0.true)))

@@ -1,4 +1,4 @@
-use Rattle.std.proofs.Common.{◌∙◌, rules}
+use Rattle.std.proofs.Common.{◌∙◌}
 use Rattle.opcodes.proofs.GainMaps.{fault_map, fault_plain}
 use Rattle.opcodes.proofs.list.own_fault.Goals as goal
 

@@ -1,4 +1,4 @@
-use Rattle.std.proofs.Common.{◌≡◌, true, false, sym, ◌∙◌, arith, rules}
+use Rattle.std.proofs.Common.{◌≡◌, true, false, sym, ◌∙◌, arith}
 use Rattle.opcodes.specs.Grid.{grid_of, fits_of}
 use Rattle.opcodes.proofs.OpcodeLists.{fault_short, fault_grid, fault_inexact, fault_numbers, fits_in, own_grid, own_fits}
 use Rattle.opcodes.proofs.OpcodeLists.{FormIn, form_in, exact_bytes}

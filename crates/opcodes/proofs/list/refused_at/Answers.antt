@@ -1,4 +1,4 @@
-use Rattle.std.proofs.Common.{ap, ◌∙◌, ⊎_elim, arith, rules, eq-eqb, ne_eqb}
+use Rattle.std.proofs.Common.{ap, ◌∙◌, ⊎_elim, arith, eq-eqb, ne_eqb}
 use Rattle.reading.proofs.Reading.{pick_yes, pick_no}
 use Rattle.opcodes.specs.OpcodeList.{refused_real}
 use Rattle.opcodes.proofs.list.refused_at.Goals as goal

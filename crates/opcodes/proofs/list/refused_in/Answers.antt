@@ -1,5 +1,4 @@
-use Rattle.std.proofs.Common.{◌≡◌, ◌+◌, ◌*◌, ◌<◌, ◌≤◌, length, sym, refl, ◌∙◌, arith}
-use Rattle.opcodes.specs.OpcodeList.{refused_in}
+use Rattle.std.proofs.Common.{◌<◌, sym, refl, ◌∙◌, arith}
 use Rattle.opcodes.proofs.OpcodeLists.{refused_none, refused_here, refused_there, one_less}
 use Rattle.levels.proofs.Runs.{within}
 use Rattle.opcodes.proofs.list.refused_in.Goals as goal

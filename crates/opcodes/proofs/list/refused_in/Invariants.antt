@@ -1,7 +1,5 @@
-use Rattle.std.proofs.Common.{◌≡◌, ◌+◌, ◌*◌, ◌<◌, ◌≤◌, length, sym, refl, ◌∙◌, arith}
+use Rattle.std.proofs.Common.{◌≡◌, ◌+◌, ◌*◌, ◌≤◌, length}
 use Rattle.opcodes.specs.OpcodeList.{refused_in}
-use Rattle.opcodes.proofs.OpcodeLists.{refused_none, refused_here, refused_there, one_less}
-use Rattle.levels.proofs.Runs.{within}
 use Rattle.opcodes.proofs.list.refused_in.Given as goal
 
 abbrev pub invariant-loop-left : goal.invariant-loop-left

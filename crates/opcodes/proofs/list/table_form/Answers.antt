@@ -1,4 +1,4 @@
-use Rattle.std.proofs.Common.{◌*◌, Bool, ap, rules}
+use Rattle.std.proofs.Common.{◌*◌, Bool, ap}
 use Rattle.opcodes.proofs.list.table_form.Goals as goal
 
 pub returns : goal.returns

@@ -1,4 +1,4 @@
-use Rattle.std.proofs.Common.{◌≡◌, ℕ, ◌+◌, ◌-◌, ◌<◌, ◌≤◌, length, sym, refl, ap, ◌∙◌, arith, rules}
+use Rattle.std.proofs.Common.{◌≡◌, ℕ, ◌+◌, ◌-◌, ◌<◌, ◌≤◌, sym, refl, ap, ◌∙◌, arith}
 use native.Mathlib.Nat.{sub-zero}
 use Rattle.reading.specs.Bytes.{part}
 use Rattle.reading.specs.Reading.{run}
@@ -104,7 +104,7 @@ loop-i-preserved c =
     let header_at = c.header_at-h in
     let if2 = c.if-rest-whole in
     let judge = c.judge in
-    let c_call = c.c-1 in
+    let told = c.in-Is in
     let f = a.file.now in
     let z = a.size in
     let i = loop.i in
@@ -115,11 +115,11 @@ loop-i-preserved c =
     let e : header_at.result ≡ header_of (part f p 16) = header_at.ensures.value in
     let l : 16 + (header_of (part f p 16)).length ≤ n = rw (← e) if2.false in
     let hd = header_of (part f p 16) in
-    let g : is c_call.given.0.0 ≡ counted_one loop.counts (run f (opcode_reading (class_of hd) z i p hd)) =
-    (rw (← e) (ap list_out (sym c_call.given.1) ∙ judge.ensures)) in
-    let k = counted_bound loop.counts c_call.given.0.0 (run f (opcode_reading (class_of hd) z i p hd)) g in
+    let g : is told.c ≡ counted_one loop.counts (run f (opcode_reading (class_of hd) z i p hd)) =
+    (rw (← e) (ap list_out (sym told.is) ∙ judge.ensures)) in
+    let k = counted_bound loop.counts told.c (run f (opcode_reading (class_of hd) z i p hd)) g in
     let j : a.count - i - 1 ≡ a.count - (i + 1) = omega arith in
-    let t = list_next f z i p n loop.counts h l (a.count - i) some c_call.given.0.0 g in (
+    let t = list_next f z i p n loop.counts h l (a.count - i) some told.c g in (
       loop.invariant.0 ∙ t ∙ rw (j, ← e) refl,
       omega (arith, loop.invariant.1, if2.false),
       omega (arith, loop-test.true),

@@ -1,11 +1,7 @@
-use Rattle.std.proofs.Common.{◌≡◌, ℕ, ◌+◌, ◌-◌, ◌<◌, ◌≤◌, length, sym, refl, ap, ◌∙◌, arith, rules}
-use native.Mathlib.Nat.{sub-zero}
-use Rattle.reading.specs.Bytes.{part}
+use Rattle.std.proofs.Common.{◌≡◌, ◌+◌, ◌-◌, ◌≤◌, length}
 use Rattle.reading.specs.Reading.{run}
-use Rattle.directory.specs.Out.{Out.is}
-use Rattle.opcodes.specs.OpcodeList.{header_of, class_of, opcode_reading, list_from}
-use Rattle.opcodes.specs.Facts.OpcodeList.{none, counted_one, counted_on, list_out}
-use Rattle.opcodes.proofs.Listing.{list_short, list_over, list_refused, list_next, list_end, list_left, counted_bound}
+use Rattle.opcodes.specs.OpcodeList.{list_from}
+use Rattle.opcodes.specs.Facts.OpcodeList.{none, counted_on}
 use Rattle.opcodes.proofs.list.test_opcodes.Given as goal
 
 abbrev pub invariant-loop-i : goal.invariant-loop-i

@@ -1,4 +1,4 @@
-use Rattle.std.proofs.Common.{ap, ◌∙◌, subst, arith, rules}
+use Rattle.std.proofs.Common.{ap, ◌∙◌, subst, arith}
 use Rattle.levels.specs.Clip.{clip_of}
 use Rattle.opcodes.specs.Step.{horner_of, result_of, applied_of}
 use Rattle.opcodes.specs.Facts.Step.{TableIn, StepIn}
@@ -34,5 +34,4 @@ returns-in-Polynomial c =
 pub returns-in-Table : goal.returns-in-Table
 unfolding applied_of result_of horner_of
 returns-in-Table c =
-    let step4 = c.step-in-Table-1 in
-    rw step4.given.1 (c.clip-in-Table.ensures ∙ ap clip_of c.mapped.ensures)
+    rw c.in-Table.is (c.clip-in-Table.ensures ∙ ap clip_of c.mapped.ensures)

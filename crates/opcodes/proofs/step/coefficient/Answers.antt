@@ -1,4 +1,4 @@
-use Rattle.std.proofs.Common.{sym, ap, ◌∙◌, arith, rules}
+use Rattle.std.proofs.Common.{sym, ap, ◌∙◌, arith}
 use lib.ListN.{get_or-eq_default}
 use lib.Ieee.{of_bits, neg}
 use Rattle.levels.proofs.Runs.{run_at, length_run}

@@ -1,4 +1,4 @@
-use Rattle.std.proofs.Common.{sym, subst, arith, rules}
+use Rattle.std.proofs.Common.{sym, subst, arith}
 use Rattle.opcodes.specs.TableIndex.{WholePart}
 use Rattle.opcodes.proofs.IndexBits.{index_number, index_shifted, index_whole, exponent_most, exponent_least}
 use Rattle.opcodes.proofs.step.index_from_bits.Goals as goal

@@ -1,4 +1,4 @@
-use Rattle.std.proofs.Common.{◌≡◌, ℕ, ◌+◌, min, List, ap, ◌∙◌, arith, rules}
+use Rattle.std.proofs.Common.{◌≡◌, ℕ, ◌+◌, min, List, ap, ◌∙◌, arith}
 use lib.Ieee.{Float}
 use Rattle.reading.specs.Bytes.{part}
 use Rattle.reading.specs.Number.{number_of}

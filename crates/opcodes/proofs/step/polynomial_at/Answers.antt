@@ -1,5 +1,4 @@
 use Rattle.opcodes.specs.Step.{polynomial_of}
-use Rattle.std.proofs.Common.{rules}
 use Rattle.opcodes.proofs.step.polynomial_at.Goals as goal
 
 pub returns : goal.returns

@@ -1,4 +1,4 @@
-use Rattle.std.proofs.Common.{◌≡◌, ℕ, ◌+◌, ◌<◌, ◌≤◌, List, sym, ap, ◌∙◌, arith, rules}
+use Rattle.std.proofs.Common.{◌≡◌, ℕ, ◌+◌, ◌<◌, ◌≤◌, List, sym, ap, ◌∙◌, arith}
 use lib.Ieee.{Float}
 use Rattle.reading.specs.declared.number.Order.TheVariants.{Big}
 use Rattle.levels.specs.Clip.{clip_of}
@@ -31,7 +31,7 @@ read f at n k l x e h q b = sym (scaled_unit l b) ∙ ap (λ (m : ℕ). clip_of 
 pub returns : goal.returns
 returns c =
     let t = c.through in
-    let w : t.result < 65536 = t.type-inv in
+    let w : t.result < 65536 = t.type_inv in
     let b : t.result ≤ 65535 = omega arith in
     let a = c.args in
     c.scaled.ensures ∙ read a.file.now a.at _ _ t.result a.x c.requires.1 c.unit_index.ensures

@@ -1,4 +1,4 @@
-use Rattle.std.proofs.Common.{sym, ap, rules}
+use Rattle.std.proofs.Common.{sym, ap}
 use lib.Ieee.{of_bits}
 use Rattle.opcodes.specs.Step.{value_of}
 use Rattle.opcodes.proofs.step.value.Goals as goal

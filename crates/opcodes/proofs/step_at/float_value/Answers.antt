@@ -1,4 +1,4 @@
-use Rattle.std.proofs.Common.{ap, ◌∙◌, rules}
+use Rattle.std.proofs.Common.{ap, ◌∙◌}
 use Rattle.opcodes.specs.Step.{value_of}
 use Rattle.opcodes.proofs.step_at.float_value.Goals as goal
 

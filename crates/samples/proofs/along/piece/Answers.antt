@@ -42,7 +42,7 @@ pub returns-then-len-most : goal.returns-then-len-most
 returns-then-len-most c =
     let m = most c.args.tags.levels.repeat.rows c.requires.le_len.1 c.requires.le_len.2 in
     let e = c.smaller-most.ensures in
-    let h = c.if-len-most.taken in
+    let h = c.if-len-most.true in
     (c.requires.le_len.0, omega arith, part_of _ _ _ (omega arith) m.1, λ l. absurd (omega arith))
 
 pub returns-else-len-most : goal.returns-else-len-most

@@ -13,7 +13,7 @@ abbrev pub invariant-loop-i : goal.invariant-loop-i
 invariant-loop-i l =
     (length l.out ≡ length l.initial.out) × (l.i ≤ length l.initial.out)
     × ((down : Float) → Filled 0 (number_at l.file
-    (record { l.order = l.order; l.bytes = l.bytes; l.place = l.place; l.table = l.table; l.count = l.count; down = down })) l.i l.out)
+    (record { order = l.order; bytes = l.bytes; place = l.place; table = l.table; count = l.count; down = down })) l.i l.out)
 
 abbrev pub decreases-loop-i : goal.decreases-loop-i
 decreases-loop-i l = length l.initial.out - l.i

@@ -17,7 +17,7 @@ two s h = omega (arith, s.requires.1, s.requires.2)
 
 pub overflow_add-place : goal.overflow_add-place
 overflow_add-place c = let s =
-    (goal.at.overflow_add-place c).Start in omega (arith, inside s 1 c.if-bytes-eq1.true, s.well-formed.0.1)
+    (goal.at.overflow_add-place c).Start in omega (arith, inside s 1 c.if-bytes-eq1.true, s.well_formed.0.1)
 
 pub byte-requires : goal.byte-requires
 byte-requires c = let s =
@@ -25,11 +25,11 @@ byte-requires c = let s =
 
 pub overflow_mul-i : goal.overflow_mul-i
 overflow_mul-i c = let s =
-    (goal.at.overflow_mul-i c).Start in omega (arith, inside s 2 (two s c.if-bytes-eq1.false), s.well-formed.0.1)
+    (goal.at.overflow_mul-i c).Start in omega (arith, inside s 2 (two s c.if-bytes-eq1.false), s.well_formed.0.1)
 
 pub overflow_add-place-else-bytes-eq1 : goal.overflow_add-place-else-bytes-eq1
 overflow_add-place-else-bytes-eq1 c = let s =
-    (goal.at.overflow_add-place-else-bytes-eq1 c).Start in omega (arith, inside s 2 (two s c.if-bytes-eq1.false), s.well-formed.0.1)
+    (goal.at.overflow_add-place-else-bytes-eq1 c).Start in omega (arith, inside s 2 (two s c.if-bytes-eq1.false), s.well_formed.0.1)
 
 pub short-requires : goal.short-requires
 short-requires c = let s =

@@ -14,7 +14,7 @@ invariant-loop-i l =
     (length l.out ≡ length l.initial.out) × (length l.sums ≡ length l.initial.sums) × (l.i ≤ length l.initial.out)
     × ((cell span : ℕ → ℤ) (d : ℤ) → Celled cell span d l.cells l.inverses l.down (length l.cells) → (r : Repeating cell span (length l.cells) (length l.initial.out))
     → Same cell span (length l.cells) (length l.initial.out) r l.i
-    × Filled nan (line_value l.file (record { l.order = l.order; l.bytes = l.bytes; l.place = l.place; l.table = l.table; l.count = l.count; l.down = l.down })
+    × Filled nan (line_value l.file (record { order = l.order; bytes = l.bytes; place = l.place; table = l.table; count = l.count; down = l.down })
     (λ k. cell k +ℤ get_or l.deltas k (pos 0) +ℤ d) span) l.i l.out)
 
 abbrev pub decreases-loop-i : goal.decreases-loop-i

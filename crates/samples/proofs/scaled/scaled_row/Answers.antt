@@ -44,11 +44,11 @@ ends s =
 
 pub overflow_mul-first : goal.overflow_mul-first
 overflow_mul-first c = let s =
-    (goal.at.overflow_mul-first c).Start in omega (arith, (ends s).0, (ends s).1, s.well-formed.1.1.1.1.1.0.1)
+    (goal.at.overflow_mul-first c).Start in omega (arith, (ends s).0, (ends s).1, s.well_formed.1.1.1.1.1.0.1)
 
 pub overflow_mul-last : goal.overflow_mul-last
 overflow_mul-last c = let s =
-    (goal.at.overflow_mul-last c).Start in omega (arith, (ends s).0, (ends s).1, s.well-formed.1.1.1.1.1.0.1)
+    (goal.at.overflow_mul-last c).Start in omega (arith, (ends s).0, (ends s).1, s.well_formed.1.1.1.1.1.0.1)
 
 pub overflow_add-first : goal.overflow_add-first
 overflow_add-first c =

@@ -12,7 +12,7 @@ use Rattle.samples.specs.Facts.Line.{Filled}
 use Rattle.tables.specs.Facts.RowTables.{FourFound, WordIs}
 use Rattle.tables.proofs.FoundLaws.{word_is}
 use Rattle.tables.proofs.row.look_up_fours.Goals as goal
-use Rattle.tables.proofs.row.look_up_fours.Goals.{Else-out-lt4, Start}
+use Rattle.tables.proofs.row.look_up_fours.Goals.{Else-out-lt4}
 
 -- a word that was read is its four bytes
 word_at : (e : Else-out-lt4) (i w : ℕ) → let f = e.args.bytes.now in
@@ -23,8 +23,8 @@ word_at e i w h q =
     (word_is f i (λ k. let b = e.type_inv.bytes k in omega (arith, b)) h)
 
 -- a four that has one behind it lies in the slice
-behind : (e : Else-out-lt4) (j : ℕ) → let s = (FIXME e).Start in
-    j < length s.args.out.now / 4 - 1 → (4 * j + 4 + 4 ≤ length s.args.out.now) × (4 * j + 4 + 4 ≤ length s.args.bytes.now)
+behind : (e : Else-out-lt4) (j : ℕ) → j < length e.args.out.now / 4 - 1
+    → (4 * j + 4 + 4 ≤ length e.args.out.now) × (4 * j + 4 + 4 ≤ length e.args.bytes.now)
 behind e j h = (omega arith, omega (arith, e.requires))
 
 pub returns-then-out-lt4 : goal.returns-then-out-lt4

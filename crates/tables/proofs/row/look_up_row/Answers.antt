@@ -1,71 +1,67 @@
-use borrow.Author.Rules.{rules}
-use Rattle.tables.proofs.row.look_up_row.Reads as reads
-use Rattle.tables.proofs.row.look_up_row.Lts as lts
-use Rattle.tables.proofs.row.look_up_fours.Reads as look-up-fours-reads
-use Rattle.tables.proofs.row.look_up_groups.Reads as look-up-groups-reads
+use Rattle.std.proofs.Common.{◌≡◌, ℕ, ◌+◌, ◌*◌, ◌/◌, ◌%◌, ◌≤◌, ◌<◌, length, sym, ap, ◌∙◌, arith, rules}
+use native.Mathlib.Nat.{mod-lt, zero-mod}
+use Rattle.tables.specs.Facts.RowTables.{found_along}
+use Rattle.tables.proofs.FoundLaws.{four_found, fours_whole}
 use Rattle.tables.proofs.row.look_up_row.Goals as goal
 
--- src/row.rt:138:21
 pub overflow_add-first : goal.overflow_add-first
 overflow_add-first c =
-    ?
+    omega (arith, mod-lt 1 c.requires.1, c.requires.3, c.well_formed)
 
--- src/row.rt:138:13
 pub offset_bounds-tables-first-then-columns-eq0 : goal.offset_bounds-tables-first-then-columns-eq0
 offset_bounds-tables-first-then-columns-eq0 c =
-    ?
+    omega (arith, mod-lt 1 c.requires.1, c.requires.3)
 
--- src/row.rt:138:13
 pub bounds-tables-first-then-columns-eq0 : goal.bounds-tables-first-then-columns-eq0
 bounds-tables-first-then-columns-eq0 c =
-    ?
+    omega (arith, mod-lt 1 c.requires.1, c.requires.3)
 
--- src/row.rt:139:21
 pub overflow_add-first-then-columns-eq0 : goal.overflow_add-first-then-columns-eq0
 overflow_add-first-then-columns-eq0 c =
-    ?
+    omega (arith, mod-lt 2 c.requires.1, c.requires.3)
 
--- src/row.rt:139:13
 pub offset_bounds-tables-first-then-columns-eq0-2 : goal.offset_bounds-tables-first-then-columns-eq0-2
 offset_bounds-tables-first-then-columns-eq0-2 c =
-    ?
+    omega (arith, mod-lt 2 c.requires.1, c.requires.3)
 
--- src/row.rt:139:13
 pub bounds-tables-first-then-columns-eq0-2 : goal.bounds-tables-first-then-columns-eq0-2
 bounds-tables-first-then-columns-eq0-2 c =
-    ?
+    omega (arith, mod-lt 2 c.requires.1, c.requires.3)
 
--- src/row.rt:140:21
 pub overflow_add-first-then-columns-eq0-2 : goal.overflow_add-first-then-columns-eq0-2
 overflow_add-first-then-columns-eq0-2 c =
-    ?
+    omega (arith, mod-lt 3 c.requires.1, c.requires.3)
 
--- src/row.rt:140:13
 pub offset_bounds-tables-first-then-columns-eq0-3 : goal.offset_bounds-tables-first-then-columns-eq0-3
 offset_bounds-tables-first-then-columns-eq0-3 c =
-    ?
+    omega (arith, mod-lt 3 c.requires.1, c.requires.3)
 
--- src/row.rt:140:13
 pub bounds-tables-first-then-columns-eq0-3 : goal.bounds-tables-first-then-columns-eq0-3
 bounds-tables-first-then-columns-eq0-3 c =
-    ?
+    omega (arith, mod-lt 3 c.requires.1, c.requires.3)
 
--- src/row.rt:143:9
 pub look_up_groups-requires : goal.look_up_groups-requires
 look_up_groups-requires c =
-    ?
+    let n = c.look_up_fours-done.ensures in
+    let m = c.look_up_fours-done.result in
+    let e : m ≡ m / 4 * 4 = omega (arith, n.1) in (
+      omega (arith, c.requires.0),
+      c.requires.1,
+      c.requires.3,
+      omega (arith, n.0),
+      ap (λ (z : ℕ). z % c.args.columns) e ∙ fours_whole c.args.columns c.if-columns-eq0.true (m / 4),
+    )
 
--- src/row.rt:145:9
 pub look_up_groups-requires-else-columns-eq0 : goal.look_up_groups-requires-else-columns-eq0
 look_up_groups-requires-else-columns-eq0 c =
-    ?
+    (c.requires.0, c.requires.1, c.requires.3, omega arith, zero-mod c.args.columns)
 
--- src/row.rt:130:1
 pub returns-then-columns-eq0 : goal.returns-then-columns-eq0
 returns-then-columns-eq0 c =
+    let a = c.args in
+    let x = found_along a.tables.now a.first a.columns a.bytes.now in
     ?
 
--- src/row.rt:130:1
 pub returns-else-columns-eq0 : goal.returns-else-columns-eq0
 returns-else-columns-eq0 c =
-    ?
+    c.look_up_groups-else-columns-eq0.ensures (λ k h. absurd (omega arith))

@@ -7,18 +7,17 @@ use Rattle.raw.proofs.StoredLaws.{repeat_columns_are}
 use Rattle.tables.proofs.FoundLaws.{row_found, bytes_inside}
 use Rattle.tables.proofs.TableLaws.{tabled_has}
 use Rattle.tables.proofs.row.table_row.Goals as goal
-use Rattle.tables.proofs.row.table_row.Goals.{After-line_of-line, Start}
+use Rattle.tables.proofs.row.table_row.Goals.{After-line_of-line}
 
 -- the row's bytes lie in the file
-inside : (c : After-line_of-line) → let s = (FIXME c).Start in
-    c.line_of-line.result.place + length s.args.out.now ≤ length s.args.file.now
+inside : (c : After-line_of-line) → c.line_of-line.result.place + length c.args.out.now ≤ length c.args.file.now
 inside c =
     bytes_inside c.args.file.now c.args.order c.args.raw c.requires.raw_in.0 (tabled_has c.args.raw.tags c.requires.tags_value.0)
     c.args.row.0 c.args.column.0 c.requires.raw_in.1 _ c.line_of-line.ensures _ c.requires.tags_value.1 c.requires.raw_in.3
 
 pub overflow_add-end : goal.overflow_add-end
-overflow_add-end c = let s =
-    (goal.at.overflow_add-end c).Start in omega (arith, inside (goal.at.overflow_add-end c).After-line_of-line, s.well-formed.0)
+overflow_add-end c =
+    omega (arith, inside (goal.at.overflow_add-end c).After-line_of-line, c.well_formed.0)
 
 pub slice_bounds-look_up_row-end : goal.slice_bounds-look_up_row-end
 slice_bounds-look_up_row-end c =
