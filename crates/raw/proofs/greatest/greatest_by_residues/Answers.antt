@@ -26,8 +26,8 @@ overflow_mul-pairs c = let h =
     c.requires.small in omega (arith, mul-le-mul h.3 h.5)
 
 pub residue_black-best-requires : goal.residue_black-best-requires
-residue_black-best-requires c = let s =
-    (goal.at.residue_black-best-requires c).Start in (s.requires.0, (s.requires.1.0, s.requires.1.1, omega arith, omega arith))
+residue_black-best-requires c =
+    record { tags_in = c.requires.tags_in; small = (c.requires.small.0, c.requires.small.1, omega arith, omega arith) }
 
 pub loop-k-init : goal.loop-k-init
 loop-k-init c =
