@@ -39,8 +39,7 @@ unfolding raw_reading
 returns-in-Is-spans_of c =
     let a = c.args in
     let tags-of = c.tags_of in
-    let spans-of = c.spans_of in
-    (
+    let spans-of = c.spans_of in (
       sym (bind_is _ _ _ _ (ap tags_out (sym c.in-Is.is) ∙ tags-of.ensures.0)
           ∙ bind_is _ _ _ _ (ap spans_out (sym c.in-Is-spans_of.is) ∙ spans-of.ensures.0
           ∙ sym (run_then a.file.now (levels_reading a.ifd.order c.in-Is.v) (λ l. answer (spanned_of l)) _ refl ∙ run_answer _ _))
