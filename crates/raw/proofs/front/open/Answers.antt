@@ -6,29 +6,26 @@ use Rattle.raw.specs.Front.{front_reading}
 use Rattle.raw.specs.Facts.Front.{raw_out, RawIn}
 use borrow.Author.Rules.{rules}
 use Rattle.raw.proofs.front.open.Goals as goal
-use Rattle.raw.proofs.front.open.Goals.{After-open, In-Is-2}
 
 pub returns-in-Refused : goal.returns-in-Refused
 unfolding front_reading
 returns-in-Refused c =
-    let open-call = (goal.at.returns-in-Refused c).After-open.«open» in
+    let open-call = c.«open» in
     (bind_refused _ _ _ _ _ (ap tree_out (sym c.in-Refused.is) ∙ open-call.ensures.0), tt)
 
 pub raw_of-requires : goal.raw_of-requires
 raw_of-requires c =
     let a = c.args in
-    let open-call = (goal.at.raw_of-requires c).After-open.«open» in
-    let v = c.v-1 in
-    let q = subst (TreeIn a.file.now) v.given.1 open-call.ensures.1 in q.raw
+    let open-call = c.«open» in
+    let q = subst (TreeIn a.file.now) c.in-Is.is open-call.ensures.1 in q.raw
 
 pub returns-in-Refused-raw_of : goal.returns-in-Refused-raw_of
 unfolding front_reading
 returns-in-Refused-raw_of c =
-    let open-call = (goal.at.returns-in-Refused-raw_of c).After-open.«open» in
-    let v = c.v-1 in
+    let open-call = c.«open» in
     let raw_of = c.raw_of in (
       bind_refused _ _ _ _ _ (ap raw_out (sym c.in-Refused-raw_of.is) ∙ raw_of.ensures.0)
-          ∙ sym (bind_is _ _ _ _ (ap tree_out (sym v.given.1) ∙ open-call.ensures.0)),
+          ∙ sym (bind_is _ _ _ _ (ap tree_out (sym c.in-Is.is) ∙ open-call.ensures.0)),
       tt,
     )
 
@@ -37,8 +34,8 @@ unfolding front_reading
 returns-in-Is-raw_of c =
     let raw_of = c.raw_of in
     let f = c.args.file.now in
-    let q = subst (TreeIn f) c.in-Is.is (goal.at.returns-in-Is-raw_of c).After-open.«open».ensures.1 in
-    let tree = ap tree_out (sym c.in-Is.is) ∙ (goal.at.returns-in-Is-raw_of c).After-open.«open».ensures.0 in
+    let q = subst (TreeIn f) c.in-Is.is c.«open».ensures.1 in
+    let tree = ap tree_out (sym c.in-Is.is) ∙ c.«open».ensures.0 in
     let raw = ap raw_out (sym c.in-Is-raw_of.is) ∙ raw_of.ensures.0 in (
       sym (bind_is _ _ _ _ tree ∙ bind_is _ _ _ _ raw ∙ run_answer _ _),
       record {

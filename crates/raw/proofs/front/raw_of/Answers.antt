@@ -27,11 +27,10 @@ unfolding raw_reading
 returns-in-Refused-spans_of c =
     let a = c.args in
     let tags-of = c.tags_of in
-    let v = c.v-1 in
     let spans-of = c.spans_of in (
       bind_refused _ _ _ _ _ (ap spans_out (sym c.in-Refused-spans_of.is) ∙ spans-of.ensures.0
-          ∙ sym (run_then a.file.now (levels_reading a.ifd.order v.given.0.0) (λ l. answer (spanned_of l)) _ refl
-          ∙ run_answer _ _)) ∙ sym (bind_is _ _ _ _ (ap tags_out (sym v.given.1) ∙ tags-of.ensures.0)),
+          ∙ sym (run_then a.file.now (levels_reading a.ifd.order c.in-Is.v) (λ l. answer (spanned_of l)) _ refl
+          ∙ run_answer _ _)) ∙ sym (bind_is _ _ _ _ (ap tags_out (sym c.in-Is.is) ∙ tags-of.ensures.0)),
       tt,
     )
 
@@ -40,21 +39,19 @@ unfolding raw_reading
 returns-in-Is-spans_of c =
     let a = c.args in
     let tags-of = c.tags_of in
-    let v = c.v-1 in
-    let spans-of = c.spans_of in
-    let spans-call = c.spans-1 in (
-      sym (bind_is _ _ _ _ (ap tags_out (sym v.given.1) ∙ tags-of.ensures.0)
-          ∙ bind_is _ _ _ _ (ap spans_out (sym spans-call.given.1) ∙ spans-of.ensures.0
-          ∙ sym (run_then a.file.now (levels_reading a.ifd.order v.given.0.0) (λ l. answer (spanned_of l)) _ refl ∙ run_answer _ _))
+    let spans-of = c.spans_of in (
+      sym (bind_is _ _ _ _ (ap tags_out (sym c.in-Is.is) ∙ tags-of.ensures.0)
+          ∙ bind_is _ _ _ _ (ap spans_out (sym c.in-Is-spans_of.is) ∙ spans-of.ensures.0
+          ∙ sym (run_then a.file.now (levels_reading a.ifd.order c.in-Is.v) (λ l. answer (spanned_of l)) _ refl ∙ run_answer _ _))
           ∙ run_answer _ _),
       record {
         tags = subst (TagsIn a.file.now
             a.ifd.order)
-            v.given.1 tags-of.ensures.1;
+            c.in-Is.is tags-of.ensures.1;
         spans =
-            subst (SpansIn v.given.0.0.frame.samples) spans-call.given.1
+            subst (SpansIn c.in-Is.v.frame.samples) c.in-Is-spans_of.is
             spans-of.ensures.1;
-        spanned = ap spans_out (sym spans-call.given.1)
+        spanned = ap spans_out (sym c.in-Is-spans_of.is)
             ∙ spans-of.ensures.0;
       },
     )

@@ -4,7 +4,7 @@ use native.Mathlib.Nat.{mul-le-mul, mul-pos, zero-div, zero-mod, mod-lt, div-lt_
 use native.Mathlib.Omega.{arith}
 use lib.IntN.{ℤ, nat_abs}
 use mir.Syntax.{w64}
-use mir.Val.{to_z, SFits}
+use mir.Val.{SFits}
 use mir.Facts.{to_z-of_z}
 use Rattle.reading.specs.Reading.{run}
 use Rattle.levels.specs.Facts.Residues.{residue_black}
@@ -26,8 +26,8 @@ overflow_mul-pairs c = let h =
     c.requires.small in omega (arith, mul-le-mul h.3 h.5)
 
 pub residue_black-best-requires : goal.residue_black-best-requires
-residue_black-best-requires c = let s =
-    (goal.at.residue_black-best-requires c).Start in (s.requires.0, (s.requires.1.0, s.requires.1.1, omega arith, omega arith))
+residue_black-best-requires c =
+    record { tags_in = c.requires.tags_in; small = (c.requires.small.0, c.requires.small.1, omega arith, omega arith) }
 
 pub loop-k-init : goal.loop-k-init
 loop-k-init c =
@@ -59,11 +59,11 @@ loop-k-preserved c =
     let k : SFits w64 n.result = search rules in
     let g = rw (to_z-of_z k) at c.greater-best.ensures in
     rw (to_z-of_z f) (
-      fold_step (pair (goal.at.loop-k-preserved c).Start) _ l.k (to_z w64 l.best) n.result _ l.invariant.0 t n.ensures.value g.0,
-      omega (arith, g.1, n.ensures.result_bound, l.invariant.1),
+      fold_step _ _ l.k _ n.result _ l.invariant.0 t n.ensures.value g.value,
+      omega (arith, g.result_bound, n.ensures.result_bound, l.invariant.1),
     )
 
 pub returns : goal.returns
 returns c =
     let l = c.loop-k in
-    let s = (goal.at.returns c).Start in record { value = fold_end (pair (goal.at.returns c).Start) _ l.k _ l.invariant.0 c.loop-k-test.false; result_bound = l.invariant.1 }
+    let s = (goal.at.returns c).Start in record { value = fold_end _ _ l.k _ l.invariant.0 c.loop-k-test.false; result_bound = l.invariant.1 }

@@ -3,9 +3,6 @@ use Prim.Native.Nat.{ℕ, ◌-◌, ◌*◌, ◌/◌, ◌%◌, ◌≤◌}
 use native.Mathlib.Nat.{mul-le-mul, mul-pos, zero-div, zero-mod, mod-lt, div-lt_iff_lt-mul}
 use native.Mathlib.Omega.{arith}
 use lib.IntN.{ℤ, nat_abs}
-use mir.Syntax.{w64}
-use mir.Val.{to_z, SFits}
-use mir.Facts.{to_z-of_z}
 use Rattle.reading.specs.Reading.{run}
 use Rattle.levels.specs.Facts.Residues.{residue_black}
 use Rattle.levels.proofs.Maxima.{Folded, fold_start, fold_step, fold_end}
@@ -16,9 +13,9 @@ use Rattle.raw.proofs.greatest.greatest_by_residues.Given as goal
 -- The invariant: the greatest of the pairs before k, and the pairs from k on, make the greatest of all.
 abbrev pub invariant-loop-k : goal.invariant-loop-k
 invariant-loop-k l =
-    Folded (λ (l.k : ℕ). residue_black (run l.file (levels_reading l.order l.tags)) l.deltas.columns l.deltas.rows l.plane (l.k / l.across) (l.k % l.across))
-    (l.down * l.across) l.k (to_z w64 l.best)
-    × (nat_abs (to_z w64 l.best) ≤ 50330880)
+    Folded (λ (k : ℕ). residue_black (run l.file (levels_reading l.order l.tags)) l.deltas.columns l.deltas.rows l.plane (k / l.across) (k % l.across))
+    (l.down * l.across) l.k l.best
+    × (nat_abs l.best ≤ 50330880)
 
 abbrev pub decreases-loop-k : goal.decreases-loop-k
 decreases-loop-k l = l.pairs - l.k

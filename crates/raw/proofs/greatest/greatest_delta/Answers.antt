@@ -5,7 +5,7 @@ use native.Mathlib.Omega.{arith}
 use lib.IntN.{ℤ, pos, nat_abs}
 use lib.ListN.{get_or}
 use mir.Syntax.{w64}
-use mir.Val.{to_z, SFits}
+use mir.Val.{SFits}
 use mir.Facts.{to_z-of_z}
 use Rattle.reading.specs.Reading.{run}
 use Rattle.levels.specs.declared.black.BlackKind.TheVariants as kind
@@ -29,8 +29,11 @@ returns-then-deltas-eq0 c =
     let a = c.args in record { value = sym (greatest_delta_none a.file.now a.order a.deltas a.n a.step a.first c.requires.deltas_of c.if-deltas-eq0.true); result_bound = omega arith }
 
 -- there are no more deltas than rows or columns, and each that is asked for is there
+few_of : (n step first : ℕ) → n ≤ 16384 → first < n → times_of n step first ≤ 16384
+few_of n step first h k = omega (arith, div-le_self (n - 1 - first) step, h, k)
+
 few : (s : Start) → let a = s.args in times_of a.n a.step a.first ≤ 16384
-few s = let a = s.args in omega (arith, div-le_self (a.n - 1 - a.first) a.step, s.requires.n_bound.0, s.requires.n_bound.3)
+few s = let a = s.args in few_of a.n a.step a.first s.requires.n_bound.0 s.requires.n_bound.3
 
 there : (s : Start) → let a = s.args in
     0 < a.deltas.count → (k : ℕ) → k < times_of a.n a.step a.first → a.first + a.step * k < a.deltas.count
@@ -60,9 +63,10 @@ loop-k-init c =
 place_fits : (c : In-loop-k) → let a = c.args in
     a.step * c.loop-k.k ≤ 8 * 16384
 place_fits c =
-    let s = (FIXME c).Start in
-    let k : c.loop-k.k ≤ 16384 = omega (arith, few s, c.loop-k-test.true) in
-    mul-le-mul s.requires.n_bound.2 k
+    let a = c.args in
+    let h = c.requires.n_bound in
+    let k : c.loop-k.k ≤ 16384 = omega (arith, few_of a.n a.step a.first h.0 h.3, c.loop-k-test.true) in
+    mul-le-mul h.2 k
 
 pub overflow_mul-step : goal.overflow_mul-step
 overflow_mul-step c =
@@ -93,11 +97,11 @@ loop-k-preserved c =
     let k : SFits w64 n.result = search rules in
     let g = rw (to_z-of_z k) at c.greater-best.ensures in
     rw (to_z-of_z f) (
-      fold_step (delta (goal.at.loop-k-preserved c).Start) _ l.k (to_z w64 l.best) n.result _ l.invariant.0 t n.ensures.value g.0,
-      omega (arith, g.1, n.ensures.result_bound, l.invariant.1),
+      fold_step _ _ l.k _ n.result _ l.invariant.0 t n.ensures.value g.value,
+      omega (arith, g.result_bound, n.ensures.result_bound, l.invariant.1),
     )
 
 pub returns : goal.returns
 returns c =
     let l = c.loop-k in
-    let s = (goal.at.returns c).Start in record { value = fold_end (delta (goal.at.returns c).Start) _ l.k _ l.invariant.0 c.loop-k-test.false; result_bound = l.invariant.1 }
+    let s = (goal.at.returns c).Start in record { value = fold_end _ _ l.k _ l.invariant.0 c.loop-k-test.false; result_bound = l.invariant.1 }

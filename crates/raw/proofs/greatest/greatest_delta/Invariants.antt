@@ -4,9 +4,6 @@ use native.Mathlib.Nat.{div-le_self, mul-le-mul, mul-zero}
 use native.Mathlib.Omega.{arith}
 use lib.IntN.{ℤ, pos, nat_abs}
 use lib.ListN.{get_or}
-use mir.Syntax.{w64}
-use mir.Val.{to_z, SFits}
-use mir.Facts.{to_z-of_z}
 use Rattle.reading.specs.Reading.{run}
 use Rattle.levels.specs.declared.black.BlackKind.TheVariants as kind
 use Rattle.levels.specs.Facts.Residues.{times_of}
@@ -20,9 +17,9 @@ use Rattle.raw.proofs.greatest.greatest_delta.Given as goal
 -- The invariant: the greatest of the deltas before the k-th, and those from it on, make the greatest of all.
 abbrev pub invariant-loop-k : goal.invariant-loop-k
 invariant-loop-k l =
-    Folded (λ (l.k : ℕ). get_or (run l.file (blacks_reading l.order kind.SignedRational l.deltas)) (l.first + l.step * l.k) (pos 0)) (times_of l.n l.step l.first) l.k
-    (to_z w64 l.best)
-    × (nat_abs (to_z w64 l.best) ≤ most_black)
+    Folded (λ (k : ℕ). get_or (run l.file (blacks_reading l.order kind.SignedRational l.deltas)) (l.first + l.step * k) (pos 0)) (times_of l.n l.step l.first) l.k
+    l.best
+    × (nat_abs l.best ≤ most_black)
 
 abbrev pub decreases-loop-k : goal.decreases-loop-k
 decreases-loop-k l = l.times - l.k

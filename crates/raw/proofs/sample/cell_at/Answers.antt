@@ -32,7 +32,7 @@ returns-then-cells-eq0 c =
     let f = a.file.now in
     let b = t.levels.black in
     let h = s.requires.0.levels.black in
-    let e = black_none f a.order (kind_for b.kind) b (λ (goal.at.returns-then-cells-eq0 c).Start. (h.typed (goal.at.returns-then-cells-eq0 c).Start).1 ∙ width_for _ (h.typed (goal.at.returns-then-cells-eq0 c).Start).0) c.if-cells-eq0.true _ in record { value = sym (cell_for_law f a.order t a.row.0 a.column.0 a.plane ∙ e); result_bound = omega arith; }
+    let e = black_none f a.order (kind_for b.kind) b (λ k. (h.typed k).1 ∙ width_for _ (h.typed k).0) c.if-cells-eq0.true _ in record { value = sym (cell_for_law f a.order t a.row.0 a.column.0 a.plane ∙ e); result_bound = omega arith }
 
 pub overflow_mul-i : goal.overflow_mul-i
 overflow_mul-i c =
@@ -88,4 +88,4 @@ returns c =
     let k = ap (λ (k : BlackKind). parts_of (black_at k a.order f (b.place + b.size * n))) c.kind_for-kind.ensures in
     let e = black_in f a.order (kind_for b.kind) b (λ _. q.sized) n (subst (λ (m : ℕ). n < m) (sym q.count) (index (goal.at.returns c).Start).below) in
     let g = cell_for_law f a.order a.tags a.row.0 a.column.0 a.plane in
-    rw (to_z-of_z fits)  record { value = c.parts_at.ensures.value ∙ k ∙ sym e ∙ sym g; result_bound = c.parts_at.ensures.result_bound; }
+    rw (to_z-of_z fits) record { value = c.parts_at.ensures.value ∙ k ∙ sym e ∙ sym g; result_bound = c.parts_at.ensures.result_bound }

@@ -44,8 +44,8 @@ more : (s : Start) → (s.args.tags.frame.samples ≡ 1 → ⊥) → s.args.tags
 more s h = ⊎_elim (λ e. absurd (h e)) (λ e. e) s.requires.frame.planes
 
 pub span-first-requires : goal.span-first-requires
-span-first-requires c = let s =
-    (goal.at.span-first-requires c).Start in ((s.requires, s.requires.frame.some_samples), c.greatest_deltas-deltas.ensures)
+span-first-requires c =
+    record { tags_in = (c.requires, c.requires.frame.some_samples); greatest_in = c.greatest_deltas-deltas.ensures }
 
 pub returns-then-first-le0 : goal.returns-then-first-le0
 returns-then-first-le0 c =

@@ -41,9 +41,8 @@ pub overflow_add-place : goal.overflow_add-place
 overflow_add-place c =
     let a = c.args in
     let look_up = c.look_up in
-    let v = c.v-1 in
     let q = counted active_area kinds.ShortOrLong 4
-    (subst (ValuesIn (length a.file.now) (optional active_area kinds.ShortOrLong 4)) v.given.1 look_up.ensures.1)
+    (subst (ValuesIn (length a.file.now) (optional active_area kinds.ShortOrLong 4)) c.in-Is.is look_up.ensures.1)
     c.if-count-eq0.false in
     omega (arith, q.0)
 
@@ -51,9 +50,8 @@ pub value-left-requires : goal.value-left-requires
 value-left-requires c =
     let a = c.args in
     let look_up = c.look_up in
-    let v = c.v-1 in
     let q = counted active_area kinds.ShortOrLong 4
-    (subst (ValuesIn (length a.file.now) (optional active_area kinds.ShortOrLong 4)) v.given.1 look_up.ensures.1)
+    (subst (ValuesIn (length a.file.now) (optional active_area kinds.ShortOrLong 4)) c.in-Is.is look_up.ensures.1)
     c.if-count-eq0.false in
     (omega (arith, q.0), q.1)
 
@@ -61,9 +59,8 @@ pub overflow_mul-size : goal.overflow_mul-size
 overflow_mul-size c =
     let a = c.args in
     let look_up = c.look_up in
-    let v = c.v-1 in
     let q = counted active_area kinds.ShortOrLong 4
-    (subst (ValuesIn (length a.file.now) (optional active_area kinds.ShortOrLong 4)) v.given.1 look_up.ensures.1)
+    (subst (ValuesIn (length a.file.now) (optional active_area kinds.ShortOrLong 4)) c.in-Is.is look_up.ensures.1)
     c.if-count-eq0.false in
     omega (arith, q.0)
 
@@ -71,9 +68,8 @@ pub overflow_add-place-2 : goal.overflow_add-place-2
 overflow_add-place-2 c =
     let a = c.args in
     let look_up = c.look_up in
-    let v = c.v-1 in
     let q = counted active_area kinds.ShortOrLong 4
-    (subst (ValuesIn (length a.file.now) (optional active_area kinds.ShortOrLong 4)) v.given.1 look_up.ensures.1)
+    (subst (ValuesIn (length a.file.now) (optional active_area kinds.ShortOrLong 4)) c.in-Is.is look_up.ensures.1)
     c.if-count-eq0.false in
     omega (arith, q.0)
 
@@ -81,9 +77,8 @@ pub value-bottom-requires : goal.value-bottom-requires
 value-bottom-requires c =
     let a = c.args in
     let look_up = c.look_up in
-    let v = c.v-1 in
     let q = counted active_area kinds.ShortOrLong 4
-    (subst (ValuesIn (length a.file.now) (optional active_area kinds.ShortOrLong 4)) v.given.1 look_up.ensures.1)
+    (subst (ValuesIn (length a.file.now) (optional active_area kinds.ShortOrLong 4)) c.in-Is.is look_up.ensures.1)
     c.if-count-eq0.false in
     (omega (arith, q.0), q.1)
 
@@ -91,30 +86,27 @@ pub overflow_mul-size-2 : goal.overflow_mul-size-2
 overflow_mul-size-2 c =
     let a = c.args in
     let look_up = c.look_up in
-    let v = c.v-1 in
     let if1 = c.if-count-eq0 in
     let q = counted active_area kinds.ShortOrLong 4
-    (subst (ValuesIn (length a.file.now) (optional active_area kinds.ShortOrLong 4)) v.given.1 look_up.ensures.1) if1.false in
+    (subst (ValuesIn (length a.file.now) (optional active_area kinds.ShortOrLong 4)) c.in-Is.is look_up.ensures.1) if1.false in
     omega (arith, q.0)
 
 pub overflow_add-place-3 : goal.overflow_add-place-3
 overflow_add-place-3 c =
     let a = c.args in
     let look_up = c.look_up in
-    let v = c.v-1 in
     let if1 = c.if-count-eq0 in
     let q = counted active_area kinds.ShortOrLong 4
-    (subst (ValuesIn (length a.file.now) (optional active_area kinds.ShortOrLong 4)) v.given.1 look_up.ensures.1) if1.false in
+    (subst (ValuesIn (length a.file.now) (optional active_area kinds.ShortOrLong 4)) c.in-Is.is look_up.ensures.1) if1.false in
     omega (arith, q.0)
 
 pub value-right-requires : goal.value-right-requires
 value-right-requires c =
     let a = c.args in
     let look_up = c.look_up in
-    let v = c.v-1 in
     let if1 = c.if-count-eq0 in
     let q = counted active_area kinds.ShortOrLong 4
-    (subst (ValuesIn (length a.file.now) (optional active_area kinds.ShortOrLong 4)) v.given.1 look_up.ensures.1) if1.false in
+    (subst (ValuesIn (length a.file.now) (optional active_area kinds.ShortOrLong 4)) c.in-Is.is look_up.ensures.1) if1.false in
     (omega (arith, q.0), q.1)
 
 pub returns : goal.returns

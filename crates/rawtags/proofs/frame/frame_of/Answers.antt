@@ -20,10 +20,9 @@ pub returns-in-Refused-dimension : goal.returns-in-Refused-dimension
 unfolding frame_reading
 returns-in-Refused-dimension c =
     let dimension = c.dimension in
-    let v = c.v-1 in
     let dimension2 = c.dimension-2 in (
       bind_refused _ _ _ _ _ (ap number_out (sym c.in-Refused-dimension.is) ∙ dimension2.ensures.0)
-          ∙ sym (bind_is _ _ _ _ (ap number_out (sym v.given.1) ∙ dimension.ensures.0)),
+          ∙ sym (bind_is _ _ _ _ (ap number_out (sym c.in-Is.is) ∙ dimension.ensures.0)),
       tt,
     )
 
@@ -31,13 +30,11 @@ pub returns-in-Refused-planes : goal.returns-in-Refused-planes
 unfolding frame_reading
 returns-in-Refused-planes c =
     let dimension = c.dimension in
-    let v = c.v-1 in
     let dimension2 = c.dimension-2 in
-    let v2 = c.v-in-Is-dimension-2-1 in
     let planes = c.planes in (
       bind_refused _ _ _ _ _ (ap number_out (sym c.in-Refused-planes.is) ∙ planes.ensures.0)
-          ∙ sym (bind_is _ _ _ _ (ap number_out (sym v.given.1) ∙ dimension.ensures.0)
-          ∙ bind_is _ _ _ _ (ap number_out (sym v2.given.1) ∙ dimension2.ensures.0)),
+          ∙ sym (bind_is _ _ _ _ (ap number_out (sym c.in-Is.is) ∙ dimension.ensures.0)
+          ∙ bind_is _ _ _ _ (ap number_out (sym c.in-Is-dimension.is) ∙ dimension2.ensures.0)),
       tt,
     )
 
@@ -45,15 +42,13 @@ pub returns : goal.returns
 unfolding frame_reading
 returns c =
     let dimension = c.dimension in
-    let v = c.v-1 in
     let dimension2 = c.dimension-2 in
-    let v2 = c.v-in-Is-dimension-2-1 in
     let planes-call = c.planes in
-    let w = subst (NumberIn dimension_range) v.given.1 dimension.ensures.1 in
-    let l = subst (NumberIn dimension_range) v2.given.1 dimension2.ensures.1 in
+    let w = subst (NumberIn dimension_range) c.in-Is.is dimension.ensures.1 in
+    let l = subst (NumberIn dimension_range) c.in-Is-dimension.is dimension2.ensures.1 in
     let s = subst PlanesIn c.in-Is-planes.is planes-call.ensures.1 in (
-      sym (bind_is _ _ _ _ (ap number_out (sym v.given.1) ∙ dimension.ensures.0)
-          ∙ bind_is _ _ _ _ (ap number_out (sym v2.given.1) ∙ dimension2.ensures.0)
+      sym (bind_is _ _ _ _ (ap number_out (sym c.in-Is.is) ∙ dimension.ensures.0)
+          ∙ bind_is _ _ _ _ (ap number_out (sym c.in-Is-dimension.is) ∙ dimension2.ensures.0)
           ∙ bind_is _ _ _ _ (ap number_out (sym c.in-Is-planes.is) ∙ planes-call.ensures.0) ∙ run_answer _ _),
       record {
         some_columns = w.legal;

@@ -29,18 +29,16 @@ pub returns-then-samples-eq0 : goal.returns-then-samples-eq0
 unfolding planes_reading
 returns-then-samples-eq0 c =
     let one = c.one in
-    let v = c.v-1 in
-    let e = bind_is _ _ _ _ (ap number_out (sym v.given.1) ∙ one.ensures.0) in
+    let e = bind_is _ _ _ _ (ap number_out (sym c.in-Is.is) ∙ one.ensures.0) in
     (sym (e ∙ simp (eq-eqb _ _ (sym c.samples_of-samples.ensures ∙ c.if-samples-eq0.true), running)), tt)
 
 pub returns : goal.returns
 unfolding planes_reading
 returns c =
     let one = c.one in
-    let v = c.v-1 in
     let s = c.samples_of-samples in
-    let z : samples_of v.given.0.0 ≡ 0 → ⊥ = λ h. c.if-samples-eq0.false (s.ensures ∙ h) in
-    let e = bind_is _ _ _ _ (ap number_out (sym v.given.1) ∙ one.ensures.0) in (
+    let z : samples_of c.in-Is.v ≡ 0 → ⊥ = λ h. c.if-samples-eq0.false (s.ensures ∙ h) in
+    let e = bind_is _ _ _ _ (ap number_out (sym c.in-Is.is) ∙ one.ensures.0) in (
       sym (e ∙ simp (ne_eqb _ _ z, pick_no, ← s.ensures) (sym c.one-2.ensures.0)),
-      one_or_three v.given.0.0 s.result s.ensures c.if-samples-eq0.false c.one-2.result c.one-2.ensures.1,
+      one_or_three c.in-Is.v s.result s.ensures c.if-samples-eq0.false c.one-2.result c.one-2.ensures.1,
     )

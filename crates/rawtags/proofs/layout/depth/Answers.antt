@@ -42,8 +42,7 @@ pub each-requires : goal.each-requires
 each-requires c =
     let a = c.args in
     let look_up = c.look_up in
-    let v = c.v-1 in
-    let q = subst (ValuesIn (length a.file.now) (required bits_per_sample kinds.Short a.samples)) v.given.1 look_up.ensures.1 in
+    let q = subst (ValuesIn (length a.file.now) (required bits_per_sample kinds.Short a.samples)) c.in-Is.is look_up.ensures.1 in
     (q.inside, λ h. inl (q.sized h))
 
 pub returns-in-Refused-each : goal.returns-in-Refused-each

@@ -11,7 +11,6 @@ use Rattle.rawtags.specs.Facts.White.{WhitesIn}
 use Rattle.rawtags.specs.LevelTags.{level_tags_reading}
 use borrow.Author.Rules.{rules}
 use Rattle.rawtags.proofs.level_tags.level_tags_of.Goals as goal
-use Rattle.rawtags.proofs.level_tags.level_tags_of.Goals.{After-black_of, After-delta_of, After-delta_of-2, After-repeat_of, After-table_of, After-white_of}
 
 pub returns-in-Refused : goal.returns-in-Refused
 unfolding level_tags_reading
@@ -22,9 +21,8 @@ pub returns-in-Refused-repeat_of : goal.returns-in-Refused-repeat_of
 unfolding level_tags_reading
 returns-in-Refused-repeat_of c =
     let table_of = c.table_of in
-    let v = c.v-1 in
     let repeat-of = c.repeat_of in record { result_value = bind_refused _ _ _ _ _ (ap repeat_out (sym c.in-Refused-repeat_of.is) ∙ repeat-of.ensures.0)
-          ∙ sym (bind_is _ _ _ _ (ap values_out (sym v.given.1) ∙ table_of.ensures.0)); level_tags_in = tt; }
+          ∙ sym (bind_is _ _ _ _ (ap values_out (sym c.in-Is.is) ∙ table_of.ensures.0)); level_tags_in = tt; }
 
 pub black_of-requires : goal.black_of-requires
 black_of-requires c =
@@ -35,12 +33,10 @@ pub returns-in-Refused-black_of : goal.returns-in-Refused-black_of
 unfolding level_tags_reading
 returns-in-Refused-black_of c =
     let table_of = c.table_of in
-    let v = c.v-1 in
     let repeat-of = c.repeat_of in
-    let v2 = c.v-in-Is-repeat_of-1 in
     let black-of = c.black_of in record { result_value = bind_refused _ _ _ _ _ (ap values_out (sym c.in-Refused-black_of.is) ∙ black-of.ensures.result_value)
-          ∙ sym (bind_is _ _ _ _ (ap values_out (sym v.given.1) ∙ table_of.ensures.0)
-          ∙ bind_is _ _ _ _ (ap repeat_out (sym v2.given.1) ∙ repeat-of.ensures.0)); level_tags_in = tt; }
+          ∙ sym (bind_is _ _ _ _ (ap values_out (sym c.in-Is.is) ∙ table_of.ensures.0)
+          ∙ bind_is _ _ _ _ (ap repeat_out (sym c.in-Is-repeat_of.is) ∙ repeat-of.ensures.0)); level_tags_in = tt; }
 
 pub delta_of-requires : goal.delta_of-requires
 delta_of-requires c =
@@ -51,15 +47,12 @@ pub returns-in-Refused-delta_of : goal.returns-in-Refused-delta_of
 unfolding level_tags_reading
 returns-in-Refused-delta_of c =
     let table_of = c.table_of in
-    let v = c.v-1 in
     let repeat-of = c.repeat_of in
-    let v2 = c.v-in-Is-repeat_of-1 in
     let black-of = c.black_of in
-    let v3 = c.v-in-Is-black_of-1 in
     let delta-of = c.delta_of in record { result_value = bind_refused _ _ _ _ _ (ap values_out (sym c.in-Refused-delta_of.is) ∙ delta-of.ensures.result_value)
-          ∙ sym (bind_is _ _ _ _ (ap values_out (sym v.given.1) ∙ table_of.ensures.0)
-          ∙ bind_is _ _ _ _ (ap repeat_out (sym v2.given.1) ∙ repeat-of.ensures.0)
-          ∙ bind_is _ _ _ _ (ap values_out (sym v3.given.1) ∙ black-of.ensures.result_value)); level_tags_in = tt; }
+          ∙ sym (bind_is _ _ _ _ (ap values_out (sym c.in-Is.is) ∙ table_of.ensures.0)
+          ∙ bind_is _ _ _ _ (ap repeat_out (sym c.in-Is-repeat_of.is) ∙ repeat-of.ensures.0)
+          ∙ bind_is _ _ _ _ (ap values_out (sym c.in-Is-black_of.is) ∙ black-of.ensures.result_value)); level_tags_in = tt; }
 
 pub delta_of-requires-2 : goal.delta_of-requires-2
 delta_of-requires-2 c =
@@ -70,18 +63,14 @@ pub returns-in-Refused-delta_of-2 : goal.returns-in-Refused-delta_of-2
 unfolding level_tags_reading
 returns-in-Refused-delta_of-2 c =
     let table_of = c.table_of in
-    let v = c.v-1 in
     let repeat-of = c.repeat_of in
-    let v2 = c.v-in-Is-repeat_of-1 in
     let black-of = c.black_of in
-    let v3 = c.v-in-Is-black_of-1 in
     let delta-of = c.delta_of in
-    let v4 = c.v-in-Is-delta_of-1 in
     let delta-of2 = c.delta_of-2 in record { result_value = bind_refused _ _ _ _ _ (ap values_out (sym c.in-Refused-delta_of-2.is) ∙ delta-of2.ensures.result_value)
-          ∙ sym (bind_is _ _ _ _ (ap values_out (sym v.given.1) ∙ table_of.ensures.0)
-          ∙ bind_is _ _ _ _ (ap repeat_out (sym v2.given.1) ∙ repeat-of.ensures.0)
-          ∙ bind_is _ _ _ _ (ap values_out (sym v3.given.1) ∙ black-of.ensures.result_value)
-          ∙ bind_is _ _ _ _ (ap values_out (sym v4.given.1) ∙ delta-of.ensures.result_value)); level_tags_in = tt; }
+          ∙ sym (bind_is _ _ _ _ (ap values_out (sym c.in-Is.is) ∙ table_of.ensures.0)
+          ∙ bind_is _ _ _ _ (ap repeat_out (sym c.in-Is-repeat_of.is) ∙ repeat-of.ensures.0)
+          ∙ bind_is _ _ _ _ (ap values_out (sym c.in-Is-black_of.is) ∙ black-of.ensures.result_value)
+          ∙ bind_is _ _ _ _ (ap values_out (sym c.in-Is-delta_of.is) ∙ delta-of.ensures.result_value)); level_tags_in = tt; }
 
 pub white_of-requires : goal.white_of-requires
 white_of-requires c =
@@ -92,41 +81,36 @@ pub returns-in-Refused-white_of : goal.returns-in-Refused-white_of
 unfolding level_tags_reading
 returns-in-Refused-white_of c =
     let table_of = c.table_of in
-    let v = c.v-1 in
     let repeat-of = c.repeat_of in
-    let v2 = c.v-in-Is-repeat_of-1 in
     let black-of = c.black_of in
-    let v3 = c.v-in-Is-black_of-1 in
     let delta-of = c.delta_of in
-    let v4 = c.v-in-Is-delta_of-1 in
     let delta-of2 = c.delta_of-2 in
-    let v5 = c.v-in-Is-delta_of-2-1 in
     let white-of = c.white_of in record { result_value = bind_refused _ _ _ _ _ (ap values_out (sym c.in-Refused-white_of.is) ∙ white-of.ensures.0)
-          ∙ sym (bind_is _ _ _ _ (ap values_out (sym v.given.1) ∙ table_of.ensures.0)
-          ∙ bind_is _ _ _ _ (ap repeat_out (sym v2.given.1) ∙ repeat-of.ensures.0)
-          ∙ bind_is _ _ _ _ (ap values_out (sym v3.given.1) ∙ black-of.ensures.result_value)
-          ∙ bind_is _ _ _ _ (ap values_out (sym v4.given.1) ∙ delta-of.ensures.result_value)
-          ∙ bind_is _ _ _ _ (ap values_out (sym v5.given.1) ∙ delta-of2.ensures.result_value)); level_tags_in = tt; }
+          ∙ sym (bind_is _ _ _ _ (ap values_out (sym c.in-Is.is) ∙ table_of.ensures.0)
+          ∙ bind_is _ _ _ _ (ap repeat_out (sym c.in-Is-repeat_of.is) ∙ repeat-of.ensures.0)
+          ∙ bind_is _ _ _ _ (ap values_out (sym c.in-Is-black_of.is) ∙ black-of.ensures.result_value)
+          ∙ bind_is _ _ _ _ (ap values_out (sym c.in-Is-delta_of.is) ∙ delta-of.ensures.result_value)
+          ∙ bind_is _ _ _ _ (ap values_out (sym c.in-Is-delta_of-2.is) ∙ delta-of2.ensures.result_value)); level_tags_in = tt; }
 
 pub returns : goal.returns
 unfolding level_tags_reading
 returns c =
-    let white = (goal.at.returns c).After-white_of in
-    let black = (goal.at.returns c).After-black_of in
-    let repeat = (goal.at.returns c).After-repeat_of in
-    let table = (goal.at.returns c).After-table_of in
-    let a = table.args in
-    let f = a.file.now in record { result_value = sym (bind_is _ _ _ _ (ap values_out (sym repeat.in-Is.is) ∙ table.table_of.ensures.0)
-          ∙ bind_is _ _ _ _ (ap repeat_out (sym black.in-Is-repeat_of.is) ∙ repeat.repeat_of.ensures.0)
-          ∙ bind_is _ _ _ _ (ap values_out (sym white.in-Is-black_of.is) ∙ black.black_of.ensures.result_value)
-          ∙ bind_is _ _ _ _ (ap values_out (sym white.in-Is-delta_of.is) ∙ white.delta_of.ensures.result_value)
-          ∙ bind_is _ _ _ _ (ap values_out (sym white.in-Is-delta_of-2.is) ∙ white.delta_of-2.ensures.result_value)
-          ∙ bind_is _ _ _ _ (ap values_out (sym c.in-Is-white_of.is) ∙ white.white_of.ensures.0)
-          ∙ run_answer _ _); level_tags_in = record {
-        (goal.at.returns c).After-table_of = subst (ValuesIn (length f) table_rule) repeat.in-Is.is table.table_of.ensures.1;
-        (goal.at.returns c).After-repeat_of = subst RepeatIn black.in-Is-repeat_of.is repeat.repeat_of.ensures.1;
-        (goal.at.returns c).After-black_of = subst (ValuesIn (length f) (black_rule black.in-Is-repeat_of.v a.samples)) white.in-Is-black_of.is black.black_of.ensures.values_in;
-        column_deltas = subst (ValuesIn (length f) (delta_rule black_level_delta_h a.columns)) white.in-Is-delta_of.is white.delta_of.ensures.values_in;
-        row_deltas = subst (ValuesIn (length f) (delta_rule black_level_delta_v a.rows)) white.in-Is-delta_of-2.is white.delta_of-2.ensures.values_in;
-        (goal.at.returns c).After-white_of = subst (WhitesIn f a.ifd.order (white_rule a.samples)) c.in-Is-white_of.is white.white_of.ensures.1;
-      }; }
+    let a = c.args in
+    let f = a.file.now in
+    record {
+      result_value = sym (bind_is _ _ _ _ (ap values_out (sym c.in-Is.is) ∙ c.table_of.ensures.0)
+          ∙ bind_is _ _ _ _ (ap repeat_out (sym c.in-Is-repeat_of.is) ∙ c.repeat_of.ensures.0)
+          ∙ bind_is _ _ _ _ (ap values_out (sym c.in-Is-black_of.is) ∙ c.black_of.ensures.result_value)
+          ∙ bind_is _ _ _ _ (ap values_out (sym c.in-Is-delta_of.is) ∙ c.delta_of.ensures.result_value)
+          ∙ bind_is _ _ _ _ (ap values_out (sym c.in-Is-delta_of-2.is) ∙ c.delta_of-2.ensures.result_value)
+          ∙ bind_is _ _ _ _ (ap values_out (sym c.in-Is-white_of.is) ∙ c.white_of.ensures.0)
+          ∙ run_answer _ _);
+      level_tags_in = record {
+        table = subst (ValuesIn (length f) table_rule) c.in-Is.is c.table_of.ensures.1;
+        repeat = subst RepeatIn c.in-Is-repeat_of.is c.repeat_of.ensures.1;
+        black = subst (ValuesIn (length f) (black_rule c.in-Is-repeat_of.v a.samples)) c.in-Is-black_of.is c.black_of.ensures.values_in;
+        column_deltas = subst (ValuesIn (length f) (delta_rule black_level_delta_h a.columns)) c.in-Is-delta_of.is c.delta_of.ensures.values_in;
+        row_deltas = subst (ValuesIn (length f) (delta_rule black_level_delta_v a.rows)) c.in-Is-delta_of-2.is c.delta_of-2.ensures.values_in;
+        white = subst (WhitesIn f a.ifd.order (white_rule a.samples)) c.in-Is-white_of.is c.white_of.ensures.1;
+      };
+    }

@@ -15,10 +15,9 @@ pub returns-in-Refused-not_carried : goal.returns-in-Refused-not_carried
 unfolding list_tag_reading
 returns-in-Refused-not_carried c =
     let not-Carried = c.not_carried in
-    let told = c.enum_told-1 in
     let not-carried2 = c.not_carried-2 in (
       bind_refused _ _ _ _ _ (ap number_out (sym c.in-Refused-not_carried.is) ∙ not-carried2.ensures)
-          ∙ sym (bind_is _ _ _ _ (ap number_out (sym told.given.1) ∙ not-Carried.ensures)),
+          ∙ sym (bind_is _ _ _ _ (ap number_out (sym c.in-Is.is) ∙ not-Carried.ensures)),
       tt,
     )
 
@@ -26,9 +25,8 @@ pub returns : goal.returns
 unfolding list_tag_reading
 returns c =
     let not-Carried = c.not_carried in
-    let told = c.enum_told-1 in
     let not-carried2 = c.not_carried-2 in (
-      c.look_up.ensures.0 ∙ sym (bind_is _ _ _ _ (ap number_out (sym told.given.1) ∙ not-Carried.ensures)
+      c.look_up.ensures.0 ∙ sym (bind_is _ _ _ _ (ap number_out (sym c.in-Is.is) ∙ not-Carried.ensures)
           ∙ bind_is _ _ _ _ (ap number_out (sym c.in-Is-not_carried.is) ∙ not-carried2.ensures)),
       c.look_up.ensures.1,
     )

@@ -14,57 +14,57 @@ use Rattle.rawtags.specs.Pattern.{cfa_pattern_reading}
 use Rattle.rawtags.proofs.PatternLaws.{bytes_inside, four_bytes}
 use borrow.Author.Rules.{rules}
 use Rattle.rawtags.proofs.pattern.cfa_pattern_of.Goals as goal
-use Rattle.rawtags.proofs.pattern.cfa_pattern_of.Goals.{In-Is-2}
-
--- the tag's values: four bytes in the file
-values : (k : In-Is-2) → let a = k.args in
-    (is k.in-Is.v ≡ run a.file.now (values_reading a.ifd (required cfa_pattern kinds.Byte 4)))
-    × (k.in-Is.v.place + 4 ≤ length a.file.now)
-values k =
-    let a = k.args in
-    let q = looked_up a.file.now a.ifd _ k.in-Is.is k.look_up.ensures in
-    (q.0, bytes_inside _ _ k.in-Is.v (exactly cfa_pattern kinds.Byte 4 q.1 (omega arith)))
 
 pub returns-in-Refused : goal.returns-in-Refused
 unfolding cfa_pattern_reading
 returns-in-Refused c =
-    let look_up = c.look_up in
-    bind_refused _ _ _ _ _ (ap values_out (sym c.in-Refused.is) ∙ look_up.ensures.0)
+    bind_refused _ _ _ _ _ (ap values_out (sym c.in-Refused.is) ∙ c.look_up.ensures.0)
 
 pub byte-a-requires : goal.byte-a-requires
 byte-a-requires c =
-    omega (arith, (values (goal.at.byte-a-requires c).In-Is-2).1)
+    let q = looked_up c.args.file.now c.args.ifd _ c.in-Is.is c.look_up.ensures in
+    let inside = bytes_inside _ _ c.in-Is.v (exactly cfa_pattern kinds.Byte 4 q.1 (omega arith)) in
+    omega (arith, inside)
 
 pub overflow_add-place : goal.overflow_add-place
 overflow_add-place c =
-    omega (arith, (values (goal.at.overflow_add-place c).In-Is-2).1)
+    let q = looked_up c.args.file.now c.args.ifd _ c.in-Is.is c.look_up.ensures in
+    let inside = bytes_inside _ _ c.in-Is.v (exactly cfa_pattern kinds.Byte 4 q.1 (omega arith)) in
+    omega (arith, inside)
 
 pub byte-b-requires : goal.byte-b-requires
 byte-b-requires c =
-    omega (arith, (values (goal.at.byte-b-requires c).In-Is-2).1)
+    let q = looked_up c.args.file.now c.args.ifd _ c.in-Is.is c.look_up.ensures in
+    let inside = bytes_inside _ _ c.in-Is.v (exactly cfa_pattern kinds.Byte 4 q.1 (omega arith)) in
+    omega (arith, inside)
 
 pub overflow_add-place-2 : goal.overflow_add-place-2
 overflow_add-place-2 c =
-    omega (arith, (values (goal.at.overflow_add-place-2 c).In-Is-2).1)
+    let q = looked_up c.args.file.now c.args.ifd _ c.in-Is.is c.look_up.ensures in
+    let inside = bytes_inside _ _ c.in-Is.v (exactly cfa_pattern kinds.Byte 4 q.1 (omega arith)) in
+    omega (arith, inside)
 
 pub byte-c-requires : goal.byte-c-requires
 byte-c-requires c =
-    omega (arith, (values (goal.at.byte-c-requires c).In-Is-2).1)
+    let q = looked_up c.args.file.now c.args.ifd _ c.in-Is.is c.look_up.ensures in
+    let inside = bytes_inside _ _ c.in-Is.v (exactly cfa_pattern kinds.Byte 4 q.1 (omega arith)) in
+    omega (arith, inside)
 
 pub overflow_add-place-3 : goal.overflow_add-place-3
 overflow_add-place-3 c =
-    omega (arith, (values (goal.at.overflow_add-place-3 c).In-Is-2).1)
+    let q = looked_up c.args.file.now c.args.ifd _ c.in-Is.is c.look_up.ensures in
+    let inside = bytes_inside _ _ c.in-Is.v (exactly cfa_pattern kinds.Byte 4 q.1 (omega arith)) in
+    omega (arith, inside)
 
 pub byte-d-requires : goal.byte-d-requires
 byte-d-requires c =
-    omega (arith, (values (goal.at.byte-d-requires c).In-Is-2).1)
+    let q = looked_up c.args.file.now c.args.ifd _ c.in-Is.is c.look_up.ensures in
+    let inside = bytes_inside _ _ c.in-Is.v (exactly cfa_pattern kinds.Byte 4 q.1 (omega arith)) in
+    omega (arith, inside)
 
 pub returns : goal.returns
 unfolding cfa_pattern_reading
 returns c =
-    let byte = c.byte-a in
-    let byte2 = c.byte-b in
-    let k = (goal.at.returns c).In-Is-2 in
-    let q = four_bytes _ _ k.in-Is.v _ _ _ byte.ensures.value byte2.ensures.value
-    c.byte-c.ensures.value _ c.byte-d.ensures.value in
-    c.places.ensures ∙ q ∙ sym (bind_is _ _ _ _ (values (goal.at.returns c).In-Is-2).0)
+    let q = looked_up c.args.file.now c.args.ifd _ c.in-Is.is c.look_up.ensures in
+    let l = four_bytes _ _ c.in-Is.v _ _ _ c.byte-a.ensures.value c.byte-b.ensures.value c.byte-c.ensures.value _ c.byte-d.ensures.value in
+    c.places.ensures ∙ l ∙ sym (bind_is _ _ _ _ q.0)

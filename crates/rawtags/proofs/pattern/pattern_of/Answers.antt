@@ -8,51 +8,32 @@ use Rattle.rawtags.specs.Facts.Pattern.{pattern_out}
 use Rattle.rawtags.proofs.PatternLaws.{pattern_dim, pattern_colours, pattern_planes, pattern_layout, pattern_is}
 use borrow.Author.Rules.{rules}
 use Rattle.rawtags.proofs.pattern.pattern_of.Goals as goal
-use Rattle.rawtags.proofs.pattern.pattern_of.Goals.{In-Is, In-Is-cfa_pattern_of-2, In-Is-plane_color_of}
-
--- what each tag left
-dim : (k : In-Is) → let a = k.args in
-    is k.in-Is.field-0 ≡ run a.file.now (repeat_dim_reading a.ifd)
-dim k = ap values_out (sym k.in-Is.is) ∙ k.repeat_dim_of.ensures
-
-colours : (k : In-Is-cfa_pattern_of-2) → let a = k.args in
-    is k.in-Is-cfa_pattern_of.p ≡ run a.file.now (cfa_pattern_reading a.ifd)
-colours k = ap pattern_out (sym k.in-Is-cfa_pattern_of.is) ∙ k.cfa_pattern_of.ensures
-
-planes : (k : In-Is-plane_color_of) → let a =
-    k.args in
-    is k.in-Is-plane_color_of.field-0 ≡ run a.file.now (plane_color_reading a.ifd)
-planes k = ap number_out (sym k.in-Is-plane_color_of.is) ∙ k.plane_color_of.ensures
 
 pub returns-in-Refused : goal.returns-in-Refused
 returns-in-Refused c =
-    let repeat-dim-of = c.repeat_dim_of in
-    pattern_dim _ _ _ _ (ap values_out (sym c.in-Refused.is) ∙ repeat-dim-of.ensures)
+    pattern_dim _ _ _ _ (ap values_out (sym c.in-Refused.is) ∙ c.repeat_dim_of.ensures)
 
 pub returns-in-Refused-cfa_pattern_of : goal.returns-in-Refused-cfa_pattern_of
 returns-in-Refused-cfa_pattern_of c =
-    let cfa-pattern-of = c.cfa_pattern_of in
-    let e = ap pattern_out (sym c.in-Refused-cfa_pattern_of.is) ∙ cfa-pattern-of.ensures in
-    pattern_colours _ _ _ (dim (goal.at.returns-in-Refused-cfa_pattern_of c).In-Is) _ _ e
+    let dim = ap values_out (sym c.in-Is.is) ∙ c.repeat_dim_of.ensures in
+    pattern_colours _ _ _ dim _ _ (ap pattern_out (sym c.in-Refused-cfa_pattern_of.is) ∙ c.cfa_pattern_of.ensures)
 
 pub returns-in-Refused-plane_color_of : goal.returns-in-Refused-plane_color_of
 returns-in-Refused-plane_color_of c =
-    let plane-color-of = c.plane_color_of in
-    let e = ap number_out (sym c.in-Refused-plane_color_of.is) ∙ plane-color-of.ensures in
-    let p = (goal.at.returns-in-Refused-plane_color_of c).In-Is-cfa_pattern_of-2 in
-    pattern_planes _ _ _ (dim (goal.at.returns-in-Refused-plane_color_of c).In-Is) _ (colours (goal.at.returns-in-Refused-plane_color_of c).In-Is-cfa_pattern_of-2) _ _ e
+    let dim = ap values_out (sym c.in-Is.is) ∙ c.repeat_dim_of.ensures in
+    let colours = ap pattern_out (sym c.in-Is-cfa_pattern_of.is) ∙ c.cfa_pattern_of.ensures in
+    pattern_planes _ _ _ dim _ colours _ _ (ap number_out (sym c.in-Refused-plane_color_of.is) ∙ c.plane_color_of.ensures)
 
 pub returns-in-Refused-cfa_layout_of : goal.returns-in-Refused-cfa_layout_of
 returns-in-Refused-cfa_layout_of c =
-    let cfa-layout-of = c.cfa_layout_of in
-    let e = ap number_out (sym c.in-Refused-cfa_layout_of.is) ∙ cfa-layout-of.ensures in
-    let q = (goal.at.returns-in-Refused-cfa_layout_of c).In-Is-plane_color_of in
-    let p = (goal.at.returns-in-Refused-cfa_layout_of c).In-Is-cfa_pattern_of-2 in
-    pattern_layout _ _ _ (dim (goal.at.returns-in-Refused-cfa_layout_of c).In-Is) _ (colours (goal.at.returns-in-Refused-cfa_layout_of c).In-Is-cfa_pattern_of-2) _ (planes (goal.at.returns-in-Refused-cfa_layout_of c).In-Is-plane_color_of) _ _ e
+    let dim = ap values_out (sym c.in-Is.is) ∙ c.repeat_dim_of.ensures in
+    let colours = ap pattern_out (sym c.in-Is-cfa_pattern_of.is) ∙ c.cfa_pattern_of.ensures in
+    let planes = ap number_out (sym c.in-Is-plane_color_of.is) ∙ c.plane_color_of.ensures in
+    pattern_layout _ _ _ dim _ colours _ planes _ _ (ap number_out (sym c.in-Refused-cfa_layout_of.is) ∙ c.cfa_layout_of.ensures)
 
 pub returns : goal.returns
 returns c =
-    let e = ap number_out (sym c.in-Is-cfa_layout_of.is) ∙ c.cfa_layout_of.ensures in
-    let q = (goal.at.returns c).In-Is-plane_color_of in
-    let p = (goal.at.returns c).In-Is-cfa_pattern_of-2 in
-    pattern_is _ _ _ (dim (goal.at.returns c).In-Is) _ (colours (goal.at.returns c).In-Is-cfa_pattern_of-2) _ (planes (goal.at.returns c).In-Is-plane_color_of) _ e
+    let dim = ap values_out (sym c.in-Is.is) ∙ c.repeat_dim_of.ensures in
+    let colours = ap pattern_out (sym c.in-Is-cfa_pattern_of.is) ∙ c.cfa_pattern_of.ensures in
+    let planes = ap number_out (sym c.in-Is-plane_color_of.is) ∙ c.plane_color_of.ensures in
+    pattern_is _ _ _ dim _ colours _ planes _ (ap number_out (sym c.in-Is-cfa_layout_of.is) ∙ c.cfa_layout_of.ensures)

@@ -3,18 +3,18 @@ use Prim.Native.Nat.{◌+◌, ◌-◌, ◌*◌, ◌≤◌}
 use native.Mathlib.Omega.{arith}
 use native.Mathlib.Nat.{min-le_right}
 use lib.ListN.{length}
-use borrow.Author.Tests.{leb-true, leb-false, not-true, not-false}
+use borrow.Author.Tests.{leb-true, leb-false}
 use borrow.Author.Rules.{rules}
 use Rattle.reading.specs.Reading.{run}
 use Rattle.directory.proofs.Entries.{OneMore, one_more}
 use Rattle.rawtags.specs.Strips.{strip_from}
 use Rattle.rawtags.proofs.Strip.{strip_bytes_fit, strip_none, strip_bytes_law, strip_outside, strip_next}
 use Rattle.rawtags.proofs.strips.check_strips.Goals as goal
-use Rattle.rawtags.proofs.strips.check_strips.Goals.{After-smaller-here, After-value-place, In-loop-left, Start}
+use Rattle.rawtags.proofs.strips.check_strips.Goals.{In-loop-left}
 
 pub loop-left-init : goal.loop-left-init
 loop-left-init c =
-    (refl, c.requires.count_in_bounds.0, c.requires.count_in_bounds_2.0.0, omega arith)
+    (refl, c.requires.count_in_bounds.0, c.requires.count_in_bounds_2.0, omega arith)
 
 -- one more offset lies in the file, and so do the others after it
 offsets : (c : In-loop-left) → let l = c.loop-left in let a = c.args in
@@ -28,14 +28,14 @@ counts c = one_more _ _ _ _ c.loop-left-test.true c.loop-left.invariant.2
 
 pub value-bytes-requires : goal.value-bytes-requires
 value-bytes-requires c =
-    let pre = c.requires in
-    ((counts (goal.at.value-bytes-requires c).In-loop-left).0, pre.count_in_bounds_2.0.1)
+    ((counts (goal.at.value-bytes-requires c).In-loop-left).0, c.requires.count_in_bounds_2.1)
 
 pub overflow_mul-here : goal.overflow_mul-here
 overflow_mul-here c =
     let m = min-le_right c.args.rows c.loop-left.rest in
     let e = c.smaller-here.ensures in
-    omega (arith, strip_bytes_fit c.smaller-here.result c.args.row (omega arith) c.requires.count_in_bounds_2.1.1)
+    let h : c.smaller-here.result ≤ 16384 = omega (arith, m, e, c.loop-left.invariant.3, c.requires.lines_bound.0) in
+    omega (arith, strip_bytes_fit c.smaller-here.result c.args.row h c.requires.lines_bound.1)
 
 pub returns-then-bytes-here : goal.returns-then-bytes-here
 returns-then-bytes-here c =
@@ -46,14 +46,14 @@ returns-then-bytes-here c =
     ∙ sym l.invariant.0
 
 pub value-place-requires : goal.value-place-requires
-value-place-requires c = let i =
-    (goal.at.value-place-requires c).In-loop-left in ((offsets i).0, i.before.before.before.requires.0.1)
+value-place-requires c =
+    ((offsets (goal.at.value-place-requires c).In-loop-left).0, c.requires.count_in_bounds.1)
 
 pub returns-then-not-inside : goal.returns-then-not-inside
 returns-then-not-inside c =
     let l = c.loop-left in
     let f = c.args.file.now in
-    let o = leb-false _ _ (sym c.inside.ensures ∙ not-true _ c.if-not-inside.true) in
+    let o = leb-false _ _ (sym c.inside.ensures ∙ c.if-not-inside.true) in
     strip_outside f _ _ _ _ _ _ _ _ _ l.left (l.left - 1) (omega arith)
     _ c.smaller-here.ensures _ c.value-bytes.ensures c.if-bytes-here.false _ c.value-place.ensures o
     ∙ sym l.invariant.0
@@ -72,13 +72,12 @@ overflow_sub-rest c =
 
 pub loop-left-preserved : goal.loop-left-preserved
 loop-left-preserved c =
-    let s = (goal.at.loop-left-preserved c).After-smaller-here in
-    let l = s.loop-left in
-    let f = s.args.file.now in
-    let i = leb-true _ _ (sym c.inside.ensures ∙ not-false _ c.if-not-inside.false) in (
+    let l = c.loop-left in
+    let f = c.args.file.now in
+    let i = leb-true _ _ (sym c.inside.ensures ∙ c.if-not-inside.false) in (
       l.invariant.0
           ∙ strip_next f _ _ _ _ _ _ _ _ _ l.left (l.left - 1) (omega arith)
-          _ s.smaller-here.ensures _ c.value-bytes.ensures c.if-bytes-here.false _ c.value-place.ensures i,
+          _ c.smaller-here.ensures _ c.value-bytes.ensures c.if-bytes-here.false _ c.value-place.ensures i,
       (offsets (goal.at.loop-left-preserved c).In-loop-left).1,
       (counts (goal.at.loop-left-preserved c).In-loop-left).1,
       omega arith,

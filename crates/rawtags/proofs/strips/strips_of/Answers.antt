@@ -53,10 +53,9 @@ pub returns-in-Refused-look_up : goal.returns-in-Refused-look_up
 unfolding strips_reading
 returns-in-Refused-look_up c =
     let look_up = c.look_up in
-    let v = c.v-1 in
     let look-up2 = c.look_up-2 in record {
       result_value = bind_refused _ _ _ _ _ (ap values_out (sym c.in-Refused-look_up.is) ∙ look-up2.ensures.0)
-          ∙ sym (bind_is _ _ _ _ (ap values_out (sym v.given.1) ∙ look_up.ensures.0));
+          ∙ sym (bind_is _ _ _ _ (ap values_out (sym c.in-Is.is) ∙ look_up.ensures.0));
       strips_in = tt;
     }
 
@@ -74,13 +73,11 @@ pub returns-in-Refused-check_strips : goal.returns-in-Refused-check_strips
 unfolding strips_reading
 returns-in-Refused-check_strips c =
     let look_up = c.look_up in
-    let v = c.v-1 in
     let look-up2 = c.look_up-2 in
-    let v2 = c.v-in-Is-look_up-2-1 in
     let check-strips = c.check_strips in record {
       result_value = bind_refused _ _ _ _ _ (ap number_out (sym c.in-Refused-check_strips.is) ∙ check-strips.ensures)
-          ∙ sym (bind_is _ _ _ _ (ap values_out (sym v.given.1) ∙ look_up.ensures.0)
-          ∙ bind_is _ _ _ _ (ap values_out (sym v2.given.1) ∙ look-up2.ensures.0));
+          ∙ sym (bind_is _ _ _ _ (ap values_out (sym c.in-Is.is) ∙ look_up.ensures.0)
+          ∙ bind_is _ _ _ _ (ap values_out (sym c.in-Is-look_up.is) ∙ look-up2.ensures.0));
       strips_in = tt;
     }
 
@@ -90,16 +87,14 @@ returns-in-Is-check_strips c =
     let a = c.args
     in
     let look_up = c.look_up in
-    let v = c.v-1 in
     let look-up2 = c.look_up-2 in
-    let v2 = c.v-in-Is-look_up-2-1 in
     let check-strips = c.check_strips in
     let k = ap number_out (sym c.in-Is-check_strips.is) ∙ check-strips.ensures in record {
-      result_value = sym (bind_is _ _ _ _ (ap values_out (sym v.given.1) ∙ look_up.ensures.0)
-          ∙ bind_is _ _ _ _ (ap values_out (sym v2.given.1) ∙ look-up2.ensures.0)
+      result_value = sym (bind_is _ _ _ _ (ap values_out (sym c.in-Is.is) ∙ look_up.ensures.0)
+          ∙ bind_is _ _ _ _ (ap values_out (sym c.in-Is-look_up.is) ∙ look-up2.ensures.0)
           ∙ bind_is _ _ _ _ (ap number_out (sym c.in-Is-check_strips.is) ∙ check-strips.ensures) ∙ run_answer _ _);
       strips_in = record {
-        placed = subst (ValuesIn (length a.file.now) (offsets_rule a.frame a.layout)) v.given.1 look_up.ensures.1;
+        placed = subst (ValuesIn (length a.file.now) (offsets_rule a.frame a.layout)) c.in-Is.is look_up.ensures.1;
         inside = λ i h. strip_in a.file.now _ _ _ _ _ _ _ _ i _ _ _ k h;
       };
     }
