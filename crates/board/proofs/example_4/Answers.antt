@@ -1,0 +1,42 @@
+use Rattle.std.proofs.Common.{◌≡◌, pos, refl, arith, rules}
+use Rattle.reading.specs.Fraction.{fraction_of}
+use Rattle.reading.specs.Number.{number_of, little_of}
+use Rattle.levels.specs.Black.{value_of, black_of, black_at}
+use Rattle.levels.specs.Level.{level_of}
+use Rattle.board.specs.Board.{board, example}
+use Rattle.board.proofs.example_4.Goals as goal
+use Rattle.board.proofs.example_4.Goals.{After-greater-m, After-short_black-b}
+
+-- B, top left, and M
+top_left : (c : After-short_black-b) → c.short_black-b.result ≡ pos 3840
+unfolding number_of little_of fraction_of value_of black_of black_at
+top_left c = c.short_black-b.ensures.value
+
+most : (c : After-greater-m) → c.greater-m.result ≡ pos 10240
+unfolding number_of little_of fraction_of value_of black_of black_at
+most c =
+    rw (c.greater-m.ensures.value, c.greater-2.ensures.value, c.greater.ensures.value)
+    (rw (c.short_black-last.ensures.value, c.short_black-below.ensures.value)
+    (rw (c.short_black-right.ensures.value, c.short_black-b.ensures.value)))
+
+pub difference-requires-2 : goal.difference-requires-2
+difference-requires-2 c =
+    rw (most (goal.at.difference-requires-2 c).After-greater-m) (omega arith)
+
+pub level-l-requires : goal.level-l-requires
+level-l-requires c =
+    let m = (goal.at.level-l-requires c).After-greater-m in
+    let b = (goal.at.level-l-requires c).After-short_black-b in
+    rw (c.difference-2.ensures.value, c.difference.ensures.value) (rw (most (goal.at.level-l-requires c).After-greater-m, top_left (goal.at.level-l-requires c).After-short_black-b)
+    (omega arith, record { whole = refl; some = omega arith; small = omega arith }))
+
+pub overflow_cast-result : goal.overflow_cast-result
+overflow_cast-result c =
+    rw (most (goal.at.overflow_cast-result c).After-greater-m) (tt, omega arith)
+
+pub returns : goal.returns
+unfolding board example level_of
+returns c =
+    let m = (goal.at.returns c).After-greater-m in
+    let b = (goal.at.returns c).After-short_black-b in
+    rw c.level-l.ensures (rw (c.difference-2.ensures.value, c.difference.ensures.value) (rw (most (goal.at.returns c).After-greater-m, top_left (goal.at.returns c).After-short_black-b)))
