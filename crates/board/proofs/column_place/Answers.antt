@@ -1,4 +1,4 @@
-use Rattle.std.proofs.Common.{ap, ◌∙◌, rules}
+use Rattle.std.proofs.Common.{ap, ◌∙◌}
 use Rattle.opcodes.specs.GainMap.{place_of, across_of, gain_map_of}
 use Rattle.opcodes.specs.declared.gain_map.Axis.{Axis}
 use Rattle.board.proofs.column_place.Goals as goal

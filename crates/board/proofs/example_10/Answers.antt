@@ -1,5 +1,4 @@
 use lib.Ieee.{add, mul, div, to_bits, of_bits, is_nan}
-use Rattle.std.proofs.Common.{rules}
 use Rattle.board.specs.Board.{board}
 use Rattle.board.proofs.Holds.{row_holds}
 use Rattle.board.proofs.example_10.Goals as goal

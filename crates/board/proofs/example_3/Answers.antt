@@ -1,4 +1,4 @@
-use Rattle.std.proofs.Common.{◌≡◌, pos, refl, arith, rules}
+use Rattle.std.proofs.Common.{◌≡◌, pos, refl, arith}
 use Rattle.reading.specs.Fraction.{fraction_of}
 use Rattle.reading.specs.Number.{number_of, little_of}
 use Rattle.levels.specs.Black.{value_of, black_of, black_at}
@@ -14,7 +14,7 @@ black c = c.parts_at-b.ensures.value
 
 pub plain_level-requires : goal.plain_level-requires
 plain_level-requires c =
-    rw (black ((goal.at.plain_level-requires c).After-parts_at-b)) (omega arith, record { whole = refl; some = omega arith; small = omega arith })
+    rw (black (goal.at.plain_level-requires c).After-parts_at-b) (omega arith, record { whole = refl; some = omega arith; small = omega arith })
 
 pub returns : goal.returns
 unfolding board number_of little_of fraction_of value_of black_of black_at

@@ -1,4 +1,4 @@
-use Rattle.std.proofs.Common.{◌≡◌, pos, refl, arith, rules}
+use Rattle.std.proofs.Common.{◌≡◌, pos, refl, arith}
 use Rattle.reading.specs.Fraction.{fraction_of}
 use Rattle.reading.specs.Number.{number_of, little_of}
 use Rattle.levels.specs.Black.{value_of, black_of, black_at}
@@ -25,9 +25,8 @@ difference-requires-2 c =
 
 pub level-l-requires : goal.level-l-requires
 level-l-requires c =
-    let m = (goal.at.level-l-requires c).After-greater-m in
-    let b = (goal.at.level-l-requires c).After-short_black-b in
-    rw (c.difference-2.ensures.value, c.difference.ensures.value) (rw (most (goal.at.level-l-requires c).After-greater-m, top_left (goal.at.level-l-requires c).After-short_black-b)
+    let place = goal.at.level-l-requires c in
+    rw (c.difference-2.ensures.value, c.difference.ensures.value) (rw (most place.After-greater-m, top_left place.After-short_black-b)
     (omega arith, record { whole = refl; some = omega arith; small = omega arith }))
 
 pub overflow_cast-result : goal.overflow_cast-result
@@ -37,6 +36,6 @@ overflow_cast-result c =
 pub returns : goal.returns
 unfolding board example level_of
 returns c =
-    let m = (goal.at.returns c).After-greater-m in
-    let b = (goal.at.returns c).After-short_black-b in
-    rw c.level-l.ensures (rw (c.difference-2.ensures.value, c.difference.ensures.value) (rw (most (goal.at.returns c).After-greater-m, top_left (goal.at.returns c).After-short_black-b)))
+    let place = goal.at.returns c in
+    rw c.level-l.ensures
+    (rw (c.difference-2.ensures.value, c.difference.ensures.value) (rw (most place.After-greater-m, top_left place.After-short_black-b)))

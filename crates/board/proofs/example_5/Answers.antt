@@ -1,4 +1,3 @@
-use Rattle.std.proofs.Common.{rules}
 use Rattle.reading.specs.Number.{number_of, little_of}
 use Rattle.levels.specs.Table.{through_of}
 use Rattle.levels.specs.Run.{run_of}

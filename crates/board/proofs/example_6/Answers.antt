@@ -1,4 +1,3 @@
-use Rattle.std.proofs.Common.{rules}
 use Rattle.board.specs.Board.{board}
 use Rattle.board.proofs.Holds.{row_holds}
 use Rattle.board.proofs.example_6.Goals as goal

@@ -1,5 +1,4 @@
 use lib.Ieee.{add, mul, le, to_bits, of_bits, is_nan}
-use Rattle.std.proofs.Common.{rules}
 use Rattle.levels.specs.Clip.{clip_of}
 use Rattle.opcodes.specs.Step.{result_of, applied_of}
 use Rattle.board.specs.Board.{board, example}

@@ -1,5 +1,4 @@
 use lib.Ieee.{add, mul, le, to_bits, of_bits, is_nan}
-use Rattle.std.proofs.Common.{rules}
 use Rattle.reading.specs.Real.{real_of}
 use Rattle.reading.specs.Number.{number_of, big_of}
 use Rattle.levels.specs.Run.{run_of}

@@ -1,4 +1,4 @@
-use Rattle.std.proofs.Common.{not, T, sym, ◌∙◌, subst, rules}
+use Rattle.std.proofs.Common.{not, T, sym, ◌∙◌, subst}
 use lib.Ieee.{is_nan}
 use Rattle.reading.specs.declared.real.Real.{Real}
 use Rattle.opcodes.specs.Step.{value_of}

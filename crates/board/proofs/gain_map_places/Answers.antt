@@ -1,4 +1,4 @@
-use Rattle.std.proofs.Common.{ap, ◌∙◌, rules}
+use Rattle.std.proofs.Common.{ap, ◌∙◌}
 use Rattle.opcodes.specs.GainMap.{whole_of, rest_of}
 use Rattle.board.specs.Board.{bits, board}
 use Rattle.board.proofs.Holds.{row_holds}

@@ -1,4 +1,4 @@
-use Rattle.std.proofs.Common.{◌≡◌, ℕ, List, ap, ◌∙◌, arith, rules}
+use Rattle.std.proofs.Common.{◌≡◌, ℕ, List, ap, ◌∙◌, arith}
 use lib.Ieee.{Float, of_bits}
 use Rattle.opcodes.specs.GainMap.{gain_map_of, gain_of}
 use Rattle.opcodes.specs.Facts.Bracket.{corners_of}

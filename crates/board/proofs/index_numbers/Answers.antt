@@ -1,4 +1,4 @@
-use Rattle.std.proofs.Common.{not, T, sym, ap, ◌∙◌, subst, rules}
+use Rattle.std.proofs.Common.{not, T, sym, ap, ◌∙◌, subst}
 use lib.Ieee.{Float, binary64, of_bits, is_nan}
 use Rattle.reading.specs.Real.{exponent_field, fraction_field}
 use Rattle.levels.proofs.Unit.{clip_clip, clip_not_nan}

@@ -1,4 +1,4 @@
-use Rattle.std.proofs.Common.{sym, ◌∙◌, rules}
+use Rattle.std.proofs.Common.{sym, ◌∙◌}
 use Rattle.board.proofs.on_row.Goals as goal
 
 pub returns-then-on : goal.returns-then-on

@@ -1,4 +1,4 @@
-use Rattle.std.proofs.Common.{ℕ, ap, arith, rules}
+use Rattle.std.proofs.Common.{ℕ, ap, arith}
 use lib.Ieee.{binary64, sub}
 use Rattle.opcodes.specs.GainMap.{float_of}
 use Rattle.opcodes.proofs.Places.{float_exact}
@@ -9,5 +9,4 @@ int_to_float-result c =
     float_exact _ (omega (arith, c.whole.ensures, c.requires.2))
 
 pub returns : goal.returns
-returns c = let p =
-    c.args.p in ap (λ (n : ℕ). sub binary64 p (float_of n)) c.whole.ensures
+returns c = ap (λ (n : ℕ). sub binary64 c.args.p (float_of n)) c.whole.ensures
