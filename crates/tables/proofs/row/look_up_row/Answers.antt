@@ -57,10 +57,13 @@ look_up_groups-requires-else-columns-eq0 c =
     (c.requires.0, c.requires.1, c.requires.3, omega arith, zero-mod c.args.columns)
 
 pub returns-then-columns-eq0 : goal.returns-then-columns-eq0
-returns-then-columns-eq0 c =
+returns-then-columns-eq0 c k h =
     let a = c.args in
+    let done = c.look_up_fours-done in
     let x = found_along a.tables.now a.first a.columns a.bytes.now in
-    ?
+    let e : length done.new.out ≡ length a.out.now = search rules in
+    let f = done.ensures.2 x (four_found a.columns c.if-columns-eq0.true a.tables.now a.first a.bytes.now) in
+    c.look_up_groups.ensures f k (omega (arith, e, h))
 
 pub returns-else-columns-eq0 : goal.returns-else-columns-eq0
 returns-else-columns-eq0 c =
