@@ -15,28 +15,34 @@ use Rattle.rawtags.proofs.level_tags.level_tags_of.Goals as goal
 pub returns-in-Refused : goal.returns-in-Refused
 unfolding level_tags_reading
 returns-in-Refused c =
-    let table_of = c.table_of in record { result_value = bind_refused _ _ _ _ _ (ap values_out (sym c.in-Refused.is) ∙ table_of.ensures.0); level_tags_in = tt; }
+    let table_of = c.table_of in record { result_value = bind_refused _ _ _ _ _ (ap values_out (sym c.in-Refused.is) ∙ table_of.ensures.0); level_tags_in = tt }
 
 pub returns-in-Refused-repeat_of : goal.returns-in-Refused-repeat_of
 unfolding level_tags_reading
 returns-in-Refused-repeat_of c =
     let table_of = c.table_of in
-    let repeat-of = c.repeat_of in record { result_value = bind_refused _ _ _ _ _ (ap repeat_out (sym c.in-Refused-repeat_of.is) ∙ repeat-of.ensures.0)
-          ∙ sym (bind_is _ _ _ _ (ap values_out (sym c.in-Is.is) ∙ table_of.ensures.0)); level_tags_in = tt; }
+    let repeat-of = c.repeat_of in record {
+      result_value = bind_refused _ _ _ _ _ (ap repeat_out (sym c.in-Refused-repeat_of.is) ∙ repeat-of.ensures.0)
+          ∙ sym (bind_is _ _ _ _ (ap values_out (sym c.in-Is.is) ∙ table_of.ensures.0));
+      level_tags_in = tt;
+    }
 
 pub black_of-requires : goal.black_of-requires
 black_of-requires c =
     let pre = c.requires in
-    let repeat-of = c.repeat_of in record { tested = pre.tested; repeat_in = (subst RepeatIn c.in-Is-repeat_of.is repeat-of.ensures.1, pre.samples_bound); }
+    let repeat-of = c.repeat_of in record { tested = pre.tested; repeat_in = (subst RepeatIn c.in-Is-repeat_of.is repeat-of.ensures.1, pre.samples_bound) }
 
 pub returns-in-Refused-black_of : goal.returns-in-Refused-black_of
 unfolding level_tags_reading
 returns-in-Refused-black_of c =
     let table_of = c.table_of in
     let repeat-of = c.repeat_of in
-    let black-of = c.black_of in record { result_value = bind_refused _ _ _ _ _ (ap values_out (sym c.in-Refused-black_of.is) ∙ black-of.ensures.result_value)
+    let black-of = c.black_of in record {
+      result_value = bind_refused _ _ _ _ _ (ap values_out (sym c.in-Refused-black_of.is) ∙ black-of.ensures.result_value)
           ∙ sym (bind_is _ _ _ _ (ap values_out (sym c.in-Is.is) ∙ table_of.ensures.0)
-          ∙ bind_is _ _ _ _ (ap repeat_out (sym c.in-Is-repeat_of.is) ∙ repeat-of.ensures.0)); level_tags_in = tt; }
+          ∙ bind_is _ _ _ _ (ap repeat_out (sym c.in-Is-repeat_of.is) ∙ repeat-of.ensures.0));
+      level_tags_in = tt;
+    }
 
 pub delta_of-requires : goal.delta_of-requires
 delta_of-requires c =
@@ -49,10 +55,13 @@ returns-in-Refused-delta_of c =
     let table_of = c.table_of in
     let repeat-of = c.repeat_of in
     let black-of = c.black_of in
-    let delta-of = c.delta_of in record { result_value = bind_refused _ _ _ _ _ (ap values_out (sym c.in-Refused-delta_of.is) ∙ delta-of.ensures.result_value)
+    let delta-of = c.delta_of in record {
+      result_value = bind_refused _ _ _ _ _ (ap values_out (sym c.in-Refused-delta_of.is) ∙ delta-of.ensures.result_value)
           ∙ sym (bind_is _ _ _ _ (ap values_out (sym c.in-Is.is) ∙ table_of.ensures.0)
           ∙ bind_is _ _ _ _ (ap repeat_out (sym c.in-Is-repeat_of.is) ∙ repeat-of.ensures.0)
-          ∙ bind_is _ _ _ _ (ap values_out (sym c.in-Is-black_of.is) ∙ black-of.ensures.result_value)); level_tags_in = tt; }
+          ∙ bind_is _ _ _ _ (ap values_out (sym c.in-Is-black_of.is) ∙ black-of.ensures.result_value));
+      level_tags_in = tt;
+    }
 
 pub delta_of-requires-2 : goal.delta_of-requires-2
 delta_of-requires-2 c =
@@ -66,11 +75,14 @@ returns-in-Refused-delta_of-2 c =
     let repeat-of = c.repeat_of in
     let black-of = c.black_of in
     let delta-of = c.delta_of in
-    let delta-of2 = c.delta_of-2 in record { result_value = bind_refused _ _ _ _ _ (ap values_out (sym c.in-Refused-delta_of-2.is) ∙ delta-of2.ensures.result_value)
+    let delta-of2 = c.delta_of-2 in record {
+      result_value = bind_refused _ _ _ _ _ (ap values_out (sym c.in-Refused-delta_of-2.is) ∙ delta-of2.ensures.result_value)
           ∙ sym (bind_is _ _ _ _ (ap values_out (sym c.in-Is.is) ∙ table_of.ensures.0)
           ∙ bind_is _ _ _ _ (ap repeat_out (sym c.in-Is-repeat_of.is) ∙ repeat-of.ensures.0)
           ∙ bind_is _ _ _ _ (ap values_out (sym c.in-Is-black_of.is) ∙ black-of.ensures.result_value)
-          ∙ bind_is _ _ _ _ (ap values_out (sym c.in-Is-delta_of.is) ∙ delta-of.ensures.result_value)); level_tags_in = tt; }
+          ∙ bind_is _ _ _ _ (ap values_out (sym c.in-Is-delta_of.is) ∙ delta-of.ensures.result_value));
+      level_tags_in = tt;
+    }
 
 pub white_of-requires : goal.white_of-requires
 white_of-requires c =
@@ -85,12 +97,15 @@ returns-in-Refused-white_of c =
     let black-of = c.black_of in
     let delta-of = c.delta_of in
     let delta-of2 = c.delta_of-2 in
-    let white-of = c.white_of in record { result_value = bind_refused _ _ _ _ _ (ap values_out (sym c.in-Refused-white_of.is) ∙ white-of.ensures.0)
+    let white-of = c.white_of in record {
+      result_value = bind_refused _ _ _ _ _ (ap values_out (sym c.in-Refused-white_of.is) ∙ white-of.ensures.0)
           ∙ sym (bind_is _ _ _ _ (ap values_out (sym c.in-Is.is) ∙ table_of.ensures.0)
           ∙ bind_is _ _ _ _ (ap repeat_out (sym c.in-Is-repeat_of.is) ∙ repeat-of.ensures.0)
           ∙ bind_is _ _ _ _ (ap values_out (sym c.in-Is-black_of.is) ∙ black-of.ensures.result_value)
           ∙ bind_is _ _ _ _ (ap values_out (sym c.in-Is-delta_of.is) ∙ delta-of.ensures.result_value)
-          ∙ bind_is _ _ _ _ (ap values_out (sym c.in-Is-delta_of-2.is) ∙ delta-of2.ensures.result_value)); level_tags_in = tt; }
+          ∙ bind_is _ _ _ _ (ap values_out (sym c.in-Is-delta_of-2.is) ∙ delta-of2.ensures.result_value));
+      level_tags_in = tt;
+    }
 
 pub returns : goal.returns
 unfolding level_tags_reading
