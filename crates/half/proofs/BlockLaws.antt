@@ -46,6 +46,10 @@ use Rattle.develop.proofs.Answers.{developed_alone, alone_is_unit, values_same, 
 use Rattle.develop.proofs.Called.{none_inside, filled_none, filled_fault, size_is}
 use Rattle.develop.proofs.Windows.{joined_at, Rows, length_rows, rows_next, window_length, values_at_law, viewed_sized}
 
+-- the k-th number of the r-th of some rows of blocks, three to a block
+abbrev pub value : (f : List ℕ) (v : View) → Half → Viewed f v → ℕ → ℕ → ℕ → ℕ → Float
+value f v m q top left r k = block_in m (alone_in f q.file) (top + r) (left + k / 3) (k % 3)
+
 -- ---- a block depends on its own four samples
 module _ (m : Half) (h : PatternIn m.pattern) (x y : ℕ → ℕ → ℕ → Float) where
   pub block_same : (i j a b : ℕ) → ((k : ℕ) → k < 4 → block_at x i j k ≡ block_at y a b k) → block_xyz m x i j ≡ block_xyz m y a b

@@ -5,7 +5,7 @@ use Rattle.chain.specs.declared.ChainAnswer.{ChainAnswer}
 use Rattle.chain.proofs.ChainLaws.{explained}
 use borrow.Author.Rules.{rules}
 use Rattle.chain.proofs.chain.Goals as goal
-use Rattle.chain.proofs.chain.Goals.{After-chain_in, After-open, In-Is-2}
+use Rattle.chain.proofs.chain.Goals.{After-open}
 
 pub chain_in-requires : goal.chain_in-requires
 chain_in-requires c =

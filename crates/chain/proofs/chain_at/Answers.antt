@@ -1,5 +1,4 @@
 use mathlib.Core.Path.{sym, ap, subst, ◌∙◌}
-use Prim.Native.Nat.{◌≤◌}
 use lib.Ieee.{Float}
 use lib.ListN.{length}
 use Rattle.levels.specs.Level.{scaled_of}
@@ -12,15 +11,7 @@ use Rattle.chain.specs.Facts.Links.{OpcodesIn, covered_of}
 use Rattle.chain.proofs.ChainLaws.{numbers_unit, room_told, opcodes_in, viewed_numbers, chain_is}
 use borrow.Author.Rules.{rules}
 use Rattle.chain.proofs.chain_at.Goals as goal
-use Rattle.chain.proofs.chain_at.Goals.{After-cover-covering, After-opcodes_of-opcodes, After-shared_slice_known-1, Start}
-
-lengths : (s : Start) → let a = s.args in
-    (32 ≤ length a.places.now) × (32 ≤ length a.ids.now) × (32 ≤ length a.«before».now) × (32 ≤ length a.after.now)
-    × (32 ≤ length a.skipped.now)
-lengths s =
-    let a = s.args in
-    room_told (length a.places.now) (length a.ids.now) (length a.«before».now) (length a.after.now)
-    (length a.skipped.now) s.requires.skipped_value
+use Rattle.chain.proofs.chain_at.Goals.{After-opcodes_of-opcodes}
 
 -- the opcodes that were found
 found : (k : After-opcodes_of-opcodes) → let a = k.args in
@@ -38,18 +29,21 @@ opcodes_of-opcodes-requires c =
 pub cover-covering-requires : goal.cover-covering-requires
 cover-covering-requires c =
     let k = (goal.at.cover-covering-requires c).After-opcodes_of-opcodes in
-    let n = k.numbers_at-numbers in
-    let s = (goal.at.cover-covering-requires c).After-shared_slice_known-1 in
-    let a = s.args in
-    let b = lengths (goal.at.cover-covering-requires c).After-shared_slice_known-1 in
+    let a = c.args in
+    let b = room_told (length a.places.now) (length a.ids.now) (length a.«before».now) (length a.after.now) (length a.skipped.now)
+    c.requires.skipped_value in
     let u = numbers_unit a.file.now a.view.picture.order a.view.picture.raw.tags _ a.spot.row.0 a.spot.column.0
-    a.spot.plane in record { opcodes_in = (found (goal.at.cover-covering-requires c).After-opcodes_of-opcodes, rw (k.scaled-x.ensures, n.ensures) u); in_bounds = (b.0, b.1, b.2, b.3) }
+    a.spot.plane in record {
+      opcodes_in = (found k, rw (c.scaled-x.ensures, c.numbers_at-numbers.ensures) u);
+      in_bounds = (b.0, b.1, b.2, b.3);
+    }
 
 pub skip-count-requires : goal.skip-count-requires
 skip-count-requires c =
-    let k = (goal.at.skip-count-requires c).After-opcodes_of-opcodes in
-    let s = (goal.at.skip-count-requires c).After-shared_slice_known-1 in
-    (found (goal.at.skip-count-requires c).After-opcodes_of-opcodes, (lengths (goal.at.skip-count-requires c).After-shared_slice_known-1).4)
+    let a = c.args in
+    let b = room_told (length a.places.now) (length a.ids.now) (length a.«before».now) (length a.after.now) (length a.skipped.now)
+    c.requires.skipped_value in
+    (found (goal.at.skip-count-requires c).After-opcodes_of-opcodes, b.4)
 
 pub returns : goal.returns
 returns c =

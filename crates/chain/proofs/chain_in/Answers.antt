@@ -5,7 +5,6 @@ use Rattle.chain.specs.declared.ChainAnswer.{ChainAnswer}
 use Rattle.chain.proofs.ChainLaws.{chain_outside, chain_short, chain_shown}
 use borrow.Author.Rules.{rules}
 use Rattle.chain.proofs.chain_in.Goals as goal
-use Rattle.chain.proofs.chain_in.Goals.{After-chain_at, After-shared_slice_known-1, After-within, Then-room}
 
 pub chain_at-requires : goal.chain_at-requires
 chain_at-requires c =

@@ -7,7 +7,6 @@ use Rattle.dng.specs.Interface.{chain_numbers_of}
 use Rattle.dng.proofs.Answered.{both, halves}
 use borrow.Author.Rules.{rules}
 use Rattle.dng.proofs.dng_chain.Goals as goal
-use Rattle.dng.proofs.dng_chain.Goals.{After-chain-found}
 
 pub chain_numbers-requires : goal.chain_numbers-requires
 chain_numbers-requires c =

@@ -4,11 +4,10 @@ use Rattle.chain.specs.Facts.Links.{reached_with}
 use Rattle.chain.proofs.LinkLaws.{Gone, gone_start, gone_read, gone_index, gone_on, gone_end}
 use borrow.Author.Rules.{rules}
 use Rattle.chain.proofs.links.cover.Goals as goal
-use Rattle.chain.proofs.links.cover.Goals.{After-next_link-reached, At-loop-reached, In-loop-reached, Start}
 
 pub loop-reached-init : goal.loop-reached-init
-loop-reached-init c = let b =
-    (goal.at.loop-reached-init c).Start in gone_start _ _ _ _ _ _ _ _ _ _ b.requires.0.0 b.requires.0.1
+loop-reached-init c =
+    gone_start _ _ _ _ _ _ _ _ _ _ c.requires.opcodes_in.0 c.requires.opcodes_in.1
 
 pub next_link-reached-requires : goal.next_link-reached-requires
 next_link-reached-requires c =

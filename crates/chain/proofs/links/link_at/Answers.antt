@@ -8,7 +8,7 @@ use Rattle.rows.proofs.Walks.{carried_in}
 use Rattle.chain.proofs.LinkLaws.{kept_long, kept_fits, link_on, link_off, link_optional, link_compulsory}
 use borrow.Author.Rules.{rules}
 use Rattle.chain.proofs.links.link_at.Goals as goal
-use Rattle.chain.proofs.links.link_at.Goals.{In-Carried, Start}
+use Rattle.chain.proofs.links.link_at.Goals.{In-Carried}
 
 -- a carried opcode
 carried : (k : In-Carried) → class.Carried ≡ class_of k.args.header

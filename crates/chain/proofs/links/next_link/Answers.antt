@@ -6,14 +6,13 @@ use Rattle.chain.specs.Facts.Links.{reached_with}
 use Rattle.chain.proofs.LinkLaws.{into_off, into_on, read_as}
 use borrow.Author.Rules.{rules}
 use Rattle.chain.proofs.links.next_link.Goals as goal
-use Rattle.chain.proofs.links.next_link.Goals.{After-link_at, After-write_link, Start}
 
 pub link_at-requires : goal.link_at-requires
 link_at-requires c =
     let a = c.args in record { opcode_read = (
         subst (OpcodeRead a.file.now a.size a.reached.at) (sym c.header_at-h.ensures.value) c.requires.opcode_read.0,
         c.requires.opcode_read.1,
-      ); x_value = c.requires.value_value.0.0; }
+      ); x_value = c.requires.value_value.0; }
 
 pub returns-in-Off : goal.returns-in-Off
 returns-in-Off c =
@@ -26,11 +25,13 @@ returns-in-Off c =
 
 pub returns-in-On : goal.returns-in-On
 returns-in-On c =
-    let k = (goal.at.returns-in-On c).After-write_link in
-    let a = k.args in
+    let a = c.args in
     let f = a.file.now in
-    let h = k.header_at-h in
-    let link = k.link-1 in
+    let h = c.header_at-h.ensures.value in
     let s = reached_with a.reached a.places.now a.ids.now a.«before».now a.after.now in
-    let w = k.write_link.ensures in record { by_index = λ i o e. rw (w.places_after.0, w.places_after.1, w.before_after.0, w.before_after.1) (into_on a.spot.row.0 a.spot.column.0 a.spot.plane o s link.given.0.0
-          (sym link.given.1 ∙ k.link_at.ensures i o (read_as f a.size a.reached.at _ _ h.ensures.value i o e))); at_value = ap (λ ((goal.at.returns-in-On c).After-write_link : Header). a.reached.at + (16 + k.length)) h.ensures.value; }
+    let w = c.write_link.ensures in record {
+      by_index = λ i o e. rw (w.places_after.0, w.places_after.1, w.before_after.0, w.before_after.1) (into_on a.spot.row.0 a.spot.column.0
+          a.spot.plane o s c.in-On.link
+          (sym c.in-On.is ∙ c.link_at.ensures i o (read_as f a.size a.reached.at _ _ h i o e)));
+      at_value = ap (λ (k : Header). a.reached.at + (16 + k.length)) h;
+    }

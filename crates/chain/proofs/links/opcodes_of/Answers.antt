@@ -2,7 +2,6 @@ use native.Mathlib.Omega.{arith}
 use Rattle.chain.proofs.LinkLaws.{opcodes_none, opcodes_some}
 use borrow.Author.Rules.{rules}
 use Rattle.chain.proofs.links.opcodes_of.Goals as goal
-use Rattle.chain.proofs.links.opcodes_of.Goals.{Start}
 
 pub returns-then-list-eq0 : goal.returns-then-list-eq0
 returns-then-list-eq0 c =

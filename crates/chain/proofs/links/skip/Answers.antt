@@ -11,7 +11,6 @@ use Rattle.chain.specs.Facts.Links.{Marked, marked, mark_into}
 use Rattle.chain.proofs.LinkLaws.{mark_of, skips_is, mark_held, marks_skipped, skipped_index}
 use borrow.Author.Rules.{rules}
 use Rattle.chain.proofs.links.skip.Goals as goal
-use Rattle.chain.proofs.links.skip.Goals.{Start}
 
 pub loop-i-init : goal.loop-i-init
 loop-i-init c =

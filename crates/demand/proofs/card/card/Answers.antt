@@ -6,7 +6,7 @@ use Rattle.demand.proofs.Demands.{meets_demand_3}
 use Rattle.demand.proofs.Accurate.{has_accurate_levels}
 use borrow.Author.Rules.{rules}
 use Rattle.demand.proofs.card.card.Goals as goal
-use Rattle.demand.proofs.card.card.Goals.{After-open, In-Is-2}
+use Rattle.demand.proofs.card.card.Goals.{After-open}
 
 pub returns-in-Refused : goal.returns-in-Refused
 returns-in-Refused c =

@@ -5,7 +5,6 @@ use Rattle.half.proofs.BlockLaws.{block_is, block_finite}
 use Rattle.half.specs.Facts.Half.{pair_of}
 use borrow.Author.Rules.{rules}
 use Rattle.half.proofs.half_window.block_at.Goals as goal
-use Rattle.half.proofs.half_window.block_at.Goals.{After-shared_slice_known-1}
 
 pub returns : goal.returns
 returns c =

@@ -13,12 +13,9 @@ use Rattle.develop.specs.Facts.View.{Viewed}
 use Rattle.develop.specs.declared.View.{View}
 use Rattle.half.specs.declared.half_window.Half.{Half}
 use Rattle.develop.proofs.Windows.{Partly, partly_start, partly_next, partly_end, from_column, part_length, viewed_sized}
-use Rattle.half.proofs.BlockLaws.{block_row_at, block_row_length}
+use Rattle.half.proofs.BlockLaws.{value, block_row_at, block_row_length}
 use Rattle.half.proofs.half_window.block_columns.Goals as goal
 use Rattle.half.proofs.half_window.block_columns.Goals.{Start}
-
-abbrev value : (f : List ℕ) (v : View) → Half → Viewed f v → ℕ → ℕ → ℕ → ℕ → Float
-value f v m q top left r k = block_in m (alone_in f q.file) (top + r) (left + k / 3) (k % 3)
 
 abbrev row : Start → ℕ
 row s = s.args.blocks.width * 3
@@ -50,11 +47,11 @@ overflow_mul-m c =
 
 pub overflow_mul-n : goal.overflow_mul-n
 overflow_mul-n c = let s =
-    (goal.at.overflow_mul-n c).Start in omega (arith, s.requires.0.2.few)
+    (goal.at.overflow_mul-n c).Start in omega (arith, s.requires.blocks_in.2.few)
 
 pub overflow_mul-a : goal.overflow_mul-a
 overflow_mul-a c = let s =
-    (goal.at.overflow_mul-a c).Start in omega (arith, (inside s).0, s.requires.0.2.inside)
+    (goal.at.overflow_mul-a c).Start in omega (arith, (inside s).0, s.requires.blocks_in.2.inside)
 
 pub loop-i-init : goal.loop-i-init
 loop-i-init c =
@@ -79,12 +76,12 @@ overflow_add-e c =
 pub overflow_add-row : goal.overflow_add-row
 overflow_add-row c = let s =
     (goal.at.overflow_add-row c).Start in omega
-    (arith, (inside s).0, (inside s).1, s.requires.0.2.inside, c.loop-i-test.true)
+    (arith, (inside s).0, (inside s).1, s.requires.blocks_in.2.inside, c.loop-i-test.true)
 
 pub overflow_add-row-in-loop-i : goal.overflow_add-row-in-loop-i
 overflow_add-row-in-loop-i c = let s =
     (goal.at.overflow_add-row-in-loop-i c).Start in omega
-    (arith, (inside s).0, (inside s).1, s.requires.0.2.inside, c.loop-i-test.true)
+    (arith, (inside s).0, (inside s).1, s.requires.blocks_in.2.inside, c.loop-i-test.true)
 
 pub offset_bounds-out-a : goal.offset_bounds-out-a
 offset_bounds-out-a c =

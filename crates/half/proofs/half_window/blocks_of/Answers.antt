@@ -11,16 +11,13 @@ use borrow.Author.Rules.{scaled_Fits}
 use Rattle.half.proofs.half_window.blocks_of.Goals as goal
 use Rattle.half.proofs.half_window.blocks_of.Goals.{In-loop-j, Start}
 
-abbrev start : In-loop-j → Start
-start k = (FIXME k).Start
-
 -- the values of a block of the two rows
 abbrev values : Start → ℕ → ℕ → ℕ → Float
 values s = block_in s.args.half (pair_of s.args.pair.now (2 * s.args.count))
 
 -- there is room for the next block's three values
-room : (k : In-loop-j) → k.loop-j.a + 3 ≤ length (start k).args.out.now
-room k = omega (arith, k.loop-j.invariant.1.begin, (start k).requires.2, k.loop-j-test.true)
+room : (k : In-loop-j) → k.loop-j.a + 3 ≤ length k.args.out.now
+room k = omega (arith, k.loop-j.invariant.1.begin, k.requires.2, k.loop-j-test.true)
 
 pub overflow_mul-width : goal.overflow_mul-width
 overflow_mul-width c =
@@ -32,47 +29,47 @@ loop-j-init c =
 
 pub block_at-v-requires : goal.block_at-v-requires
 block_at-v-requires c =
-    ((start (goal.at.block_at-v-requires c).In-loop-j).requires.0, omega (arith, c.loop-j-test.true), omega (arith, (start (goal.at.block_at-v-requires c).In-loop-j).requires.1))
+    ((goal.at.block_at-v-requires c).In-loop-j.requires.0, omega (arith, c.loop-j-test.true), omega (arith, (goal.at.block_at-v-requires c).In-loop-j.requires.1))
 
 pub offset_bounds-out-a : goal.offset_bounds-out-a
 offset_bounds-out-a c = let k =
-    (goal.at.offset_bounds-out-a c).In-loop-j in scaled_Fits _ (length (start k).args.out.now) 8 (omega (arith, room k)) (start k).well-formed.1.1.1.0.1
+    (goal.at.offset_bounds-out-a c).In-loop-j in scaled_Fits _ (length k.args.out.now) 8 (omega (arith, room k)) k.well_formed.1.1.1.0.1
 
 pub bounds-out-a : goal.bounds-out-a
 bounds-out-a c = let k =
-    (goal.at.bounds-out-a c).In-loop-j in omega (arith, room k, k.before.loop.invariant.1.same)
+    (goal.at.bounds-out-a c).In-loop-j in omega (arith, room k, k.loop-j.invariant.1.same)
 
 pub overflow_add-out : goal.overflow_add-out
 overflow_add-out c = let k =
-    (goal.at.overflow_add-out c).In-loop-j in omega (arith, room k, (start k).well-formed.1.1.1.0.1)
+    (goal.at.overflow_add-out c).In-loop-j in omega (arith, room k, k.well_formed.1.1.1.0.1)
 
 pub offset_bounds-out-a-in-loop-j : goal.offset_bounds-out-a-in-loop-j
 offset_bounds-out-a-in-loop-j c =
-    let k = (goal.at.offset_bounds-out-a-in-loop-j c).In-loop-j in scaled_Fits _ (length (start (goal.at.offset_bounds-out-a-in-loop-j c).In-loop-j).args.out.now) 8 (omega (arith, room (goal.at.offset_bounds-out-a-in-loop-j c).In-loop-j)) (start (goal.at.offset_bounds-out-a-in-loop-j c).In-loop-j).well-formed.1.1.1.0.1
+    let k = (goal.at.offset_bounds-out-a-in-loop-j c).In-loop-j in scaled_Fits _ (length (goal.at.offset_bounds-out-a-in-loop-j c).In-loop-j.args.out.now) 8 (omega (arith, room (goal.at.offset_bounds-out-a-in-loop-j c).In-loop-j)) (goal.at.offset_bounds-out-a-in-loop-j c).In-loop-j.well_formed.1.1.1.0.1
 
 pub bounds-out-a-in-loop-j : goal.bounds-out-a-in-loop-j
 bounds-out-a-in-loop-j c = let k =
-    (goal.at.bounds-out-a-in-loop-j c).In-loop-j in simp length-set (omega (arith, room k, k.before.loop.invariant.1.same))
+    (goal.at.bounds-out-a-in-loop-j c).In-loop-j in simp length-set (omega (arith, room k, k.loop-j.invariant.1.same))
 
 pub overflow_add-out-in-loop-j : goal.overflow_add-out-in-loop-j
 overflow_add-out-in-loop-j c = let k =
-    (goal.at.overflow_add-out-in-loop-j c).In-loop-j in omega (arith, room k, (start k).well-formed.1.1.1.0.1)
+    (goal.at.overflow_add-out-in-loop-j c).In-loop-j in omega (arith, room k, k.well_formed.1.1.1.0.1)
 
 pub offset_bounds-out-a-in-loop-j-2 : goal.offset_bounds-out-a-in-loop-j-2
 offset_bounds-out-a-in-loop-j-2 c =
-    let k = (goal.at.offset_bounds-out-a-in-loop-j-2 c).In-loop-j in scaled_Fits _ (length (start (goal.at.offset_bounds-out-a-in-loop-j-2 c).In-loop-j).args.out.now) 8 (omega (arith, room (goal.at.offset_bounds-out-a-in-loop-j-2 c).In-loop-j)) (start (goal.at.offset_bounds-out-a-in-loop-j-2 c).In-loop-j).well-formed.1.1.1.0.1
+    let k = (goal.at.offset_bounds-out-a-in-loop-j-2 c).In-loop-j in scaled_Fits _ (length (goal.at.offset_bounds-out-a-in-loop-j-2 c).In-loop-j.args.out.now) 8 (omega (arith, room (goal.at.offset_bounds-out-a-in-loop-j-2 c).In-loop-j)) (goal.at.offset_bounds-out-a-in-loop-j-2 c).In-loop-j.well_formed.1.1.1.0.1
 
 pub bounds-out-a-in-loop-j-2 : goal.bounds-out-a-in-loop-j-2
 bounds-out-a-in-loop-j-2 c = let k =
-    (goal.at.bounds-out-a-in-loop-j-2 c).In-loop-j in simp length-set (omega (arith, room k, k.before.loop.invariant.1.same))
+    (goal.at.bounds-out-a-in-loop-j-2 c).In-loop-j in simp length-set (omega (arith, room k, k.loop-j.invariant.1.same))
 
 pub overflow_add-a : goal.overflow_add-a
 overflow_add-a c = let k =
-    (goal.at.overflow_add-a c).In-loop-j in omega (arith, room k, (start k).well-formed.1.1.1.0.1)
+    (goal.at.overflow_add-a c).In-loop-j in omega (arith, room k, k.well_formed.1.1.1.0.1)
 
 pub overflow_add-j : goal.overflow_add-j
 overflow_add-j c = let k =
-    (goal.at.overflow_add-j c).In-loop-j in omega (arith, k.loop-test.true, (start k).well-formed.1.1.0)
+    (goal.at.overflow_add-j c).In-loop-j in omega (arith, k.loop-j-test.true, k.well_formed.1.1.0)
 
 pub loop-j-smaller : goal.loop-j-smaller
 loop-j-smaller c =
@@ -81,7 +78,7 @@ loop-j-smaller c =
 pub loop-j-preserved : goal.loop-j-preserved
 loop-j-preserved c =
     let k = (goal.at.loop-j-preserved c).In-loop-j in
-    let s = (start (goal.at.loop-j-preserved c).In-loop-j).args in (
+    let s = (goal.at.loop-j-preserved c).In-loop-j.args in (
       omega (arith, k.loop-j-test.true),
       block_stored s.half (pair_of s.pair.now (2 * s.count)) _ _ _ _ _ k.loop-j.invariant.1 (room (goal.at.loop-j-preserved c).In-loop-j) c.block_at-v.ensures.value,
     )

@@ -9,7 +9,6 @@ use Rattle.develop.specs.Facts.Fill.{number_of, Upto}
 use Rattle.develop.specs.Facts.View.{Viewed}
 use Rattle.develop.proofs.Windows.{upto_values, viewed_sized}
 use Rattle.half.proofs.half_window.fill_blocks.Goals as goal
-use Rattle.half.proofs.half_window.fill_blocks.Goals.{Start}
 
 pub loop-from-init : goal.loop-from-init
 loop-from-init c =

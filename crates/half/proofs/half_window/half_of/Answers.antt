@@ -7,10 +7,10 @@ use Rattle.colour.specs.Facts.Tags.{colour_out}
 use Rattle.half.proofs.BlockLaws.{half_not, half_uncoloured, half_unpatterned, half_is}
 use borrow.Author.Rules.{rules}
 use Rattle.half.proofs.half_window.half_of.Goals as goal
-use Rattle.half.proofs.half_window.half_of.Goals.{In-Is, In-Is-2, In-Is-pattern_of-2}
+use Rattle.half.proofs.half_window.half_of.Goals.{In-Is}
 
 -- the colour tags' answer
-colour : (k : In-Is-2) → let a = k.args in
+colour : (k : In-Is) → let a = k.args in
     is k.in-Is.c ≡ run a.file.now (colour_reading a.picture.first)
 colour k = ap colour_out (sym k.in-Is.is) ∙ k.colour_of.ensures.0
 

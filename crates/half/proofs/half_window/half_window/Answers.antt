@@ -3,7 +3,7 @@ use Rattle.half.specs.Half.{half_window_of}
 use Rattle.develop.specs.Facts.View.{OpeningIs}
 use borrow.Author.Rules.{rules}
 use Rattle.half.proofs.half_window.half_window.Goals as goal
-use Rattle.half.proofs.half_window.half_window.Goals.{After-open, In-Is-2, Start}
+use Rattle.half.proofs.half_window.half_window.Goals.{After-open}
 
 pub half_window_in-requires : goal.half_window_in-requires
 half_window_in-requires c =

@@ -7,7 +7,7 @@ use Rattle.half.specs.Facts.Half.{half_out}
 use Rattle.half.proofs.BlockLaws.{half_inverse, half_called}
 use borrow.Author.Rules.{rules}
 use Rattle.half.proofs.half_window.half_window_in.Goals as goal
-use Rattle.half.proofs.half_window.half_window_in.Goals.{After-shared_slice_known-1, In-Is-2}
+use Rattle.half.proofs.half_window.half_window_in.Goals.{In-Is-2}
 
 -- the tags' answer
 half : (k : In-Is-2) → let a = k.args in

@@ -8,7 +8,7 @@ use Rattle.develop.specs.Facts.Fill.{window_fault}
 use Rattle.half.proofs.BlockLaws.{blocks_sized, blocks_in, halved_none, halved_fault}
 use borrow.Author.Rules.{rules}
 use Rattle.half.proofs.half_window.halved_in.Goals as goal
-use Rattle.half.proofs.half_window.halved_in.Goals.{After-shared_slice_known-1, After-window_fault-number, Then-number-eq0}
+use Rattle.half.proofs.half_window.halved_in.Goals.{After-window_fault-number, Then-number-eq0}
 
 -- 13 and 14 count in blocks
 fault_is : (k : After-window_fault-number) → let a = k.args in let b = a.blocks in
