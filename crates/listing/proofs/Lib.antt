@@ -2,3 +2,4 @@ pub mod Numerals
 pub mod Lines
 pub mod Bodies
 pub mod Pieces
+pub mod Known

@@ -7,6 +7,8 @@ use Prim.Native.Nat.{ℕ, ◌+◌, ◌-◌, ◌≤◌}
 use native.Mathlib.Omega.{arith}
 use lib.ListN.{length, take, drop, length-append, length-drop, length-take}
 use lib.Seq.{take_at, drop_at, drop-drop}
+use Rattle.std.specs.Prelude.{Result, Ok, Err}
+use Rattle.std.specs.Result.{is_ok, IsErr}
 use Rattle.listing.specs.Text.{listing_of}
 use Rattle.listing.specs.Facts.Body.{Headed, rows_from}
 use Rattle.listing.specs.Pieces.{Stands, Remains, Ends}
@@ -66,3 +68,12 @@ module _ (f : List ℕ) where
         beginning = r.inside;
         whole = λ k. omega (arith, r.inside, a, length-drop at (listing_of f));
       }
+
+  -- a write that failed ends it early, whatever the error
+  pub ends_failed : {A E : Type 0} (r : Result A E) (at : ℕ) → IsErr r → Ends f at false → Ends f at (is_ok r)
+  ends_failed (Ok x) at e n = absurd (true≢false (sym e))
+  ends_failed (Err x) at e n = n
+
+  -- the first line and the rows are the listing
+  pub line_and_rows : (h : First) (text : List ℕ) → Headed f h text → take h.length text ++ rows_from f 0 ≡ listing_of f
+  line_and_rows h text q = ap (λ (line : List ℕ). line ++ rows_from f 0) q.line

@@ -1,12 +1,17 @@
 // Document 01's example 11: reads a file from standard input and prints its crop or its refusal.
 //
-// No contract can say what the operating system reads or writes: that of `io::write_all` says nothing of the bytes. So
+// No contract can say what the operating system reads or writes. So what reads and what writes goes by any reader and any writer.
 // `write_piece` alone writes, and its `requires` says which bytes it is handed: those that `listing_of` of the file has behind the
 // bytes counted so far, and counts them where the write went well. Nothing else writes, and nothing else counts. `list` promises
-// that the count does not pass the listing's end, and is at its end where no write has failed.
+// that the count does not pass the listing's end, and is at its end where no write has failed. Of a writer whose bytes are known, as
+// one over memory, it promises too that they have then grown by exactly the listing; and `read_file` that a reader's known bytes are
+// read up to the room for them.
 #![tactic(auto)]
 
-ghost use Rattle.std.specs.Prelude.{◌≡◌, not, cond, ◌∷◌, ◌++◌, ◌+◌, ◌*◌, ◌≤◌, ◌<◌, T, length, take};
+ghost use Rattle.std.specs.Prelude.{◌≡◌, not, cond, ◌∷◌, ◌++◌, ◌+◌, ◌*◌, ◌≤◌, ◌<◌, T, length, take, IfOk, OnOk};
+ghost use Rattle.std.specs.Io.{ReadsAtMost};
+ghost use Rattle.std.specs.Io.KnownBytes.{Appends, Consumes, IsAtEnd};
+ghost use Rattle.std.specs.Result.{is_ok};
 ghost use Rattle.std.specs.Float.Ieee.{is_nan};
 ghost use Rattle.rows.specs.Facts.Part.{AllInUnit, SizedIn};
 ghost use Rattle.listing.specs.Text.{decimal_of, value_text, values_text, refused_text, frame_text, crop_size, listing_of};
@@ -14,9 +19,9 @@ ghost use Rattle.listing.specs.Facts.Body.{Puts, LinesIn, lines_text, RefusedIs,
 ghost use Rattle.listing.specs.Pieces.{Stands, Remains, Ends};
 
 use develop::{Opening, View, window};
-use libc::{STDIN_FILENO, STDOUT_FILENO};
 use opcodes::grid::Size;
 use raw::front::Picture;
+use std::io::{Read, Write};
 
 // Puts a word behind the first `at` bytes of a text, and answers where it ends.
 fn put(text: &mut [u8], at: usize, word: &[u8]) -> usize
@@ -193,30 +198,36 @@ fn put_rows(
 
 // Writes the next piece of the file's listing, what it has behind the first `written` bytes, and counts it to those. Nothing else
 // writes or counts.
-fn write_piece(file: &[u8], written: &mut usize, piece: &[u8]) -> bool
+fn write_piece<W: Write>(
+    out: &mut W,
+    file: &[u8],
+    written: &mut usize,
+    piece: &[u8],
+) -> std::io::Result<()>
     requires stands { Stands file.now written.old piece.now }
     requires file_len_bound { length (listing_of file.now) < 18446744073709551616 }
-    ensures { written.new ≡ cond result (written.old + length piece.now) written.old }
+    ensures counted { written.new ≡ cond (is_ok result) (written.old + length piece.now) written.old }
+    ensures given { OnOk result (Appends (W.contents out.old) (W.contents out.new) piece.now) }
 {
     let end = *written + piece.len();
-    if !io::write_all(STDOUT_FILENO, piece) {
-        return false;
-    }
+    out.write_all(piece)?;
     *written = end;
-    true
+    Ok(())
 }
 
 // Writes the rows, a block at a time. A write that fails ends the listing.
-fn print_rows(
+fn print_rows<W: Write>(
+    out: &mut W,
     text: &mut [u8],
     values: &mut [f64],
     file: &[u8],
     view: View,
     written: &mut usize,
-) -> bool
+) -> std::io::Result<()>
     requires ready { Ready file.now view text.old values.old }
     requires remains { Remains file.now written.old (rows_from file.now 0) }
-    ensures { Ends file.now written.new result }
+    ensures ends { Ends file.now written.new (is_ok result) }
+    ensures given { OnOk result (Appends (W.contents out.old) (W.contents out.new) (rows_from file.now 0)) }
 {
     let picture = view.picture;
     let rows = picture.raw.tags.crop.rows;
@@ -224,12 +235,10 @@ fn print_rows(
     while top < rows {
         let height = block(picture, top);
         let n = put_rows(text, values, file, view, top, height);
-        if !write_piece(file, written, &text[..n]) {
-            return false;
-        }
+        write_piece(out, file, written, &text[..n])?;
         top += height;
     }
-    true
+    Ok(())
 }
 
 // A block's values: at least one row of the widest frame, 16,384 columns of three samples.
@@ -254,26 +263,44 @@ fn file_space() -> [u8; 65537]
 }
 
 // Writes a file's listing, and answers whether all of it is written.
-fn list(file: &[u8], written: &mut usize) -> bool
+fn list<W: Write>(out: &mut W, file: &[u8], written: &mut usize) -> std::io::Result<()>
     requires { written.old ≡ 0 }
-    ensures { Ends file.now written.new result }
+    ensures ends { Ends file.now written.new (is_ok result) }
+    ensures given { OnOk result (Appends (W.contents out.old) (W.contents out.new) (listing_of file.now)) }
 {
     let mut values = value_space();
     let mut text = text_space();
     let first = put_first(&mut text, file);
     let opening = first.opening;
-    if !write_piece(file, written, &text[..first.length]) {
-        return false;
-    }
+    write_piece(out, file, written, &text[..first.length])?;
     match opening {
-        Opening::Refused { number, detail } => true,
-        Opening::Is(view) => print_rows(&mut text, &mut values, file, view, written),
+        Opening::Refused { number, detail } => Ok(()),
+        Opening::Is(view) => print_rows(out, &mut text, &mut values, file, view, written),
     }
 }
 
-fn main() {
+// Reads a file until the room for it is full or the input ends, and answers how long it is.
+fn read_file<R: Read>(input: &mut R, file: &mut [u8]) -> std::io::Result<usize>
+    ensures inside { ReadsAtMost result file.new }
+    ensures bytes { IfOk result (λ n. Consumes (R.remaining input.old) (R.remaining input.new) (take n file.new)) }
+    ensures end { IfOk result (λ n. n < length file.new → IsAtEnd (R.remaining input.new)) }
+{
+    let mut n = 0;
+    while n < file.len() {
+        let more = input.read(&mut file[n..])?;
+        if more == 0 {
+            break;
+        }
+        n += more;
+    }
+    Ok(n)
+}
+
+fn main(rt: HostRuntime) -> std::io::Result<()> {
     let mut file = file_space();
-    let n = io::read_full(STDIN_FILENO, &mut file);
+    let mut input = rt.stdin();
+    let n = read_file(&mut input, &mut file)?;
+    let mut out = rt.stdout();
     let mut written = 0;
-    list(&file[..n], &mut written);
+    list(&mut out, &file[..n], &mut written)
 }
