@@ -52,7 +52,8 @@ returns-in-Refused-clause-given g c =
     let f = c.args.file.now in
     let p = c.put_first-first in
     let none : rows_from f 0 ≡ [] = subst (OpenedIs f) c.in-Refused.is p.ensures.file in
-    let e = sym (append-nil (take p.result.length p.new.text)) ∙ ap (λ (rows : List ℕ). take p.result.length p.new.text ++ rows) (sym none) ∙ line_and_rows f _ _ p.ensures in
+    let line = take p.result.length p.new.text in
+    let e = sym (append-nil line) ∙ ap (λ (rows : List ℕ). line ++ rows) (sym none) ∙ line_and_rows f _ _ p.ensures in
     subst (Appends (g.W.Write.contents c.args.out.now) (g.W.Write.contents c.write_piece.new.out)) e c.in_ok-write_piece.ensures.given
 
 pub returns-in-Is-clause-given : goal.returns-in-Is-clause-given

@@ -42,8 +42,9 @@ returns-in_err-write_piece-clause-ends g c =
     let f = c.args.file.now in
     let l = c.loop-top in
     let r = to_come f l.written l.top _ _ c.put_rows-n.ensures.height_after l.invariant.2 in
+    let piece = take c.put_rows-n.result c.put_rows-n.new.text in
     ends_failed f c.from_residual.result _ c.from_residual.ensures.0
-    (ends_early f l.written (take c.put_rows-n.result c.put_rows-n.new.text) (rows_from f (l.top + c.block-height.result)) r false _ c.in_err-write_piece.ensures.counted refl)
+    (ends_early f l.written piece (rows_from f (l.top + c.block-height.result)) r false _ c.in_err-write_piece.ensures.counted refl)
 
 pub overflow_add-top : goal.overflow_add-top
 overflow_add-top g c = omega (arith, c.block-height.ensures.1, (crop_sized _ _ c.requires.ready.2.viewed).rows)

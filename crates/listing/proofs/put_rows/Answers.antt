@@ -7,6 +7,7 @@ use lib.ListN.{length, take, drop}
 use lib.Seq.{length-take-le, take_at}
 use Rattle.rows.specs.Facts.Part.{AllInUnit}
 use Rattle.opcodes.specs.declared.grid.Size.{Size}
+use Rattle.rawtags.specs.declared.crop.Crop.{Crop}
 use Rattle.develop.specs.declared.View.{View}
 use Rattle.develop.specs.declared.Answer.{Answer}
 use Rattle.develop.specs.Calls.{window_with, window_call}
@@ -18,6 +19,9 @@ use Rattle.listing.proofs.put_rows.Goals as goal
 -- ---- the crop's size, and how many values a row and the block have
 abbrev size : View → Size
 size v = crop_size v.picture
+
+abbrev crop : View → Crop
+crop v = v.picture.raw.tags.crop
 
 abbrev width : View → ℕ
 width v = (size v).columns * (size v).samples
@@ -33,7 +37,7 @@ module _ (f : List ℕ) (v : View) (text : List ℕ) (values : List Float) (top 
   in_place = take_at xs (drop (height * width v) values) (height * width v) (k ∙ lent)
 
   module _ (a : Answer)
-      (e : window_with a xs ≡ window_call f (v.picture.raw.tags.crop.top + top) v.picture.raw.tags.crop.left height v.picture.raw.tags.crop.columns (take (height * width v) values)) where
+      (e : window_with a xs ≡ window_call f ((crop v).top + top) (crop v).left height (crop v).columns (take (height * width v) values)) where
     -- what the window's promise says of them
     blocked : AllInUnit xs × (lines_text (width v) height xs ++ rows_from f (top + height) ≡ rows_from f top)
     blocked = block_listed f v r.2 top height _ xs _ b.0 b.1 lent e
