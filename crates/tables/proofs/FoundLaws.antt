@@ -12,18 +12,17 @@ use lib.Ieee.{Float, nan}
 use lib.ListN.{length, get_or, set, take, drop, length-set}
 use Rattle.reading.specs.Bytes.{part}
 use Rattle.reading.specs.Number.{number_of}
-use Rattle.reading.specs.Reading.{run}
 use Rattle.reading.specs.declared.number.Order.{Order}
 use Rattle.reading.specs.declared.number.Order.TheVariants as order
 use Rattle.reading.proofs.Halves.{halves, one_byte}
 use Rattle.reading.proofs.Wholes.{le_or_lt}
 use Rattle.levels.specs.Level.{difference_of, level_of, scaled_of}
-use Rattle.levels.specs.Levels.{Levels, cell_for, black_for, span_of}
+use Rattle.levels.specs.Levels.{cell_for, black_for, span_of}
 use Rattle.levels.specs.Table.{table_of, through_of}
 use Rattle.levels.specs.declared.black.BlackKind.TheVariants as kind
 use Rattle.levels.proofs.Residues.{cell_same}
 use Rattle.levels.proofs.SignedOrder.{sum_same}
-use Rattle.rawtags.specs.Raw.{active_rows, active_columns}
+use Rattle.rawtags.specs.Raw.{active_rows}
 use Rattle.rawtags.specs.declared.Tags.{Tags}
 use Rattle.raw.specs.Facts.Front.{RawWithin}
 use Rattle.raw.specs.declared.front.Raw.{Raw}

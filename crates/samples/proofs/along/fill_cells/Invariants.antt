@@ -1,15 +1,11 @@
-use mathlib.Core.Path.{◌≡◌, refl}
+use mathlib.Core.Path.{◌≡◌}
 use Prim.Native.Nat.{ℕ, ◌+◌, ◌-◌, ◌*◌, ◌≤◌, ◌<◌}
-use native.Mathlib.Nat.{mul-le-mul_right, add-mul}
-use native.Mathlib.Omega.{arith}
-use borrow.Author.Rules.{rules}
 use lib.Ieee.{nan}
-use lib.ListN.{length, get_or, drop, length-take}
+use lib.ListN.{length, get_or}
 use Rattle.levels.specs.Facts.Reciprocal.{of_parts}
 use Rattle.reading.specs.Reading.{run}
 use Rattle.raw.specs.Stored.{levels_reading}
 use Rattle.samples.specs.Facts.Along.{cell_along}
-use Rattle.samples.proofs.Lines.{rows_more}
 use Rattle.samples.proofs.along.fill_cells.Given as goal
 
 abbrev pub invariant-loop-r : goal.invariant-loop-r

@@ -1,16 +1,10 @@
-use mathlib.Core.Path.{sym, ap, ◌∙◌}
-use Prim.Native.Nat.{ℕ, ◌+◌, ◌-◌, ◌/◌, ◌≤◌}
-use native.Mathlib.Nat.{div-le_self}
-use native.Mathlib.Omega.{arith}
-use borrow.Author.Rules.{rules}
+use Prim.Native.Nat.{ℕ, ◌+◌, ◌-◌, ◌/◌}
 use lib.IntN.{pos}
 use lib.ListN.{length, get_or}
 use Rattle.reading.specs.Reading.{run}
-use Rattle.levels.proofs.Fills.{Filled, fill_start, fill_step, fill_end}
+use Rattle.levels.proofs.Fills.{Filled}
 use Rattle.levels.specs.declared.black.BlackKind.TheVariants as kind
 use Rattle.raw.specs.Stored.{blacks_reading}
-use Rattle.raw.proofs.StoredLaws.{column_deltas_are}
-use Rattle.samples.proofs.Lines.{sfits32, held_short}
 use Rattle.samples.proofs.along.fill_deltas.Given as goal
 
 abbrev pub invariant-loop-i : goal.invariant-loop-i

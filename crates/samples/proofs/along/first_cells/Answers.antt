@@ -1,15 +1,11 @@
-use mathlib.Core.Path.{◌≡◌, refl, ap, ◌∙◌}
-use Prim.Native.Nat.{ℕ, ◌-◌, ◌/◌, ◌≤◌, ◌<◌}
+use mathlib.Core.Path.{refl, ap, ◌∙◌}
+use Prim.Native.Nat.{◌/◌, ◌≤◌, ◌<◌}
 use native.Mathlib.Nat.{div-le_self, mod-lt}
 use native.Mathlib.Omega.{arith}
 use borrow.Author.Rules.{rules}
 use lib.Ieee.{nan}
 use lib.ListN.{length}
 use Rattle.levels.specs.Facts.Reciprocal.{of_parts}
-use Rattle.reading.specs.Reading.{run}
-use Rattle.raw.specs.Stored.{levels_reading}
-use Rattle.samples.specs.Facts.Along.{cell_along}
-use Rattle.samples.specs.Facts.Line.{Filled}
 use Rattle.samples.proofs.Lines.{back, filled_more}
 use Rattle.samples.proofs.along.first_cells.Goals as goal
 use Rattle.samples.proofs.along.first_cells.Goals.{Start}

@@ -1,8 +1,5 @@
-use mathlib.Core.Path.{◌≡◌, refl, ap, ◌∙◌}
-use Prim.Native.Nat.{ℕ, ◌-◌, ◌/◌, ◌≤◌, ◌<◌}
-use native.Mathlib.Nat.{div-le_self, mod-lt}
-use native.Mathlib.Omega.{arith}
-use borrow.Author.Rules.{rules}
+use mathlib.Core.Path.{◌≡◌}
+use Prim.Native.Nat.{ℕ, ◌-◌, ◌≤◌}
 use lib.Ieee.{nan}
 use lib.ListN.{length}
 use Rattle.levels.specs.Facts.Reciprocal.{of_parts}
@@ -10,7 +7,6 @@ use Rattle.reading.specs.Reading.{run}
 use Rattle.raw.specs.Stored.{levels_reading}
 use Rattle.samples.specs.Facts.Along.{cell_along}
 use Rattle.samples.specs.Facts.Line.{Filled}
-use Rattle.samples.proofs.Lines.{back, filled_more}
 use Rattle.samples.proofs.along.first_cells.Given as goal
 
 abbrev pub invariant-loop-i : goal.invariant-loop-i

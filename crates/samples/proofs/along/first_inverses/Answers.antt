@@ -1,5 +1,5 @@
-use mathlib.Core.Path.{◌≡◌, refl, sym, ap, ◌∙◌}
-use Prim.Native.Nat.{ℕ, ◌-◌, ◌≤◌, ◌<◌}
+use mathlib.Core.Path.{refl, sym, ap, ◌∙◌}
+use Prim.Native.Nat.{◌≤◌, ◌<◌}
 use native.Mathlib.Nat.{mod-eq_of_lt}
 use native.Mathlib.Omega.{arith}
 use borrow.Author.Rules.{rules}
@@ -9,10 +9,8 @@ use lib.ListN.{length}
 use Rattle.reading.specs.Reading.{run}
 use Rattle.levels.specs.Levels.{span_of}
 use Rattle.levels.specs.Facts.Reciprocal.{inverse_of}
-use Rattle.raw.specs.Facts.Spans.{span_at}
 use Rattle.raw.specs.Stored.{levels_reading}
 use Rattle.raw.proofs.TagFacts.{span_in}
-use Rattle.samples.specs.Facts.Line.{Filled}
 use Rattle.samples.proofs.Lines.{back, filled_more}
 use Rattle.samples.proofs.along.first_inverses.Goals as goal
 use Rattle.samples.proofs.along.first_inverses.Goals.{Start}

@@ -2,7 +2,6 @@ use Prim.Native.Nat.{ℕ, ◌+◌, ◌*◌, ◌/◌, ◌≤◌, min}
 use native.Mathlib.Nat.{mul-le-mul, mul-pos, mul-mod_left, le-div_iff_mul-le, div-mul-le_self, mul_comm, mul-le-mul_left, le_trans}
 use native.Mathlib.Nat.{le_of_eq}
 use native.Mathlib.Omega.{arith}
-use borrow.Author.Rules.{rules}
 use Rattle.samples.proofs.along.piece.Goals as goal
 use Rattle.samples.proofs.along.piece.Goals.{Start}
 

@@ -1,8 +1,7 @@
 use mathlib.Core.Path.{◌≡◌, refl, ap, ◌∙◌, subst}
-use Prim.Native.Nat.{ℕ, ◌-◌, ◌≤◌}
+use Prim.Native.Nat.{ℕ}
 use native.Mathlib.Omega.{arith}
 use borrow.Author.Rules.{rules}
-use lib.Ieee.{Float}
 use lib.ListN.{length}
 use Rattle.levels.specs.Table.{table_of, through_of}
 use Rattle.samples.specs.Facts.Line.{Filled, number_at}

@@ -1,12 +1,8 @@
-use mathlib.Core.Path.{◌≡◌, refl, ap, ◌∙◌, subst}
-use Prim.Native.Nat.{ℕ, ◌-◌, ◌≤◌}
-use native.Mathlib.Omega.{arith}
-use borrow.Author.Rules.{rules}
+use mathlib.Core.Path.{◌≡◌}
+use Prim.Native.Nat.{◌-◌, ◌≤◌}
 use lib.Ieee.{Float}
 use lib.ListN.{length}
-use Rattle.levels.specs.Table.{table_of, through_of}
 use Rattle.samples.specs.Facts.Line.{Filled, number_at}
-use Rattle.samples.proofs.Lines.{filled_more}
 use Rattle.samples.proofs.line.fill_numbers.Given as goal
 
 abbrev pub invariant-loop-i : goal.invariant-loop-i

@@ -1,4 +1,3 @@
-use borrow.Author.Rules.{rules}
 use Rattle.samples.proofs.line.scaled_by_numbers.Goals as goal
 
 pub returns : goal.returns

@@ -2,7 +2,6 @@ use mathlib.Core.Path.{◌≡◌}
 use mathlib.Core.List.{List}
 use Prim.Native.Nat.{ℕ, ◌≤◌}
 use native.Mathlib.Omega.{arith}
-use borrow.Author.Rules.{rules}
 use Rattle.samples.specs.Facts.Line.{LineIn}
 use Rattle.samples.specs.declared.line.Line.{Line}
 use Rattle.samples.proofs.line.scaled_line.Goals as goal

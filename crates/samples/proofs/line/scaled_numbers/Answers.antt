@@ -1,12 +1,9 @@
-use mathlib.Core.Path.{◌≡◌, refl}
-use Prim.Native.Nat.{ℕ, ◌-◌, ◌≤◌, ◌<◌}
+use mathlib.Core.Path.{refl}
+use Prim.Native.Nat.{◌<◌}
 use native.Mathlib.Omega.{arith}
 use borrow.Author.Rules.{rules}
-use lib.IntN.{ℤ}
 use lib.Ieee.{nan}
-use lib.ListN.{length, get_or}
-use Rattle.levels.specs.Level.{difference_of, level_of, scaled_of}
-use Rattle.samples.specs.Facts.Line.{Filled, Levelled}
+use lib.ListN.{length}
 use Rattle.samples.proofs.Lines.{filled_more}
 use Rattle.samples.proofs.line.scaled_numbers.Goals as goal
 use Rattle.samples.proofs.line.scaled_numbers.Goals.{Start}

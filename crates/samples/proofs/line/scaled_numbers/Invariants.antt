@@ -1,13 +1,10 @@
-use mathlib.Core.Path.{◌≡◌, refl}
-use Prim.Native.Nat.{ℕ, ◌-◌, ◌≤◌, ◌<◌}
-use native.Mathlib.Omega.{arith}
-use borrow.Author.Rules.{rules}
+use mathlib.Core.Path.{◌≡◌}
+use Prim.Native.Nat.{ℕ, ◌-◌, ◌≤◌}
 use lib.IntN.{ℤ}
 use lib.Ieee.{nan}
 use lib.ListN.{length, get_or}
 use Rattle.levels.specs.Level.{difference_of, level_of, scaled_of}
 use Rattle.samples.specs.Facts.Line.{Filled, Levelled}
-use Rattle.samples.proofs.Lines.{filled_more}
 use Rattle.samples.proofs.line.scaled_numbers.Given as goal
 
 abbrev pub invariant-loop-i : goal.invariant-loop-i

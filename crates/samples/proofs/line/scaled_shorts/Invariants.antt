@@ -1,12 +1,10 @@
-use mathlib.Core.Path.{◌≡◌, refl, ◌∙◌}
-use Prim.Native.Nat.{ℕ, ◌+◌, ◌-◌, ◌*◌, ◌≤◌, ◌<◌}
-use native.Mathlib.Omega.{arith}
-use borrow.Author.Rules.{rules}
+use mathlib.Core.Path.{◌≡◌}
+use Prim.Native.Nat.{ℕ, ◌-◌, ◌≤◌}
 use lib.IntN.{ℤ}
 use lib.Ieee.{nan}
 use lib.ListN.{length}
 use Rattle.samples.specs.Facts.Line.{Filled, Levelled}
-use Rattle.samples.proofs.Lines.{filled_more, plain_value, plain_is, plain_inside, plain_value_law}
+use Rattle.samples.proofs.Lines.{plain_value}
 use Rattle.samples.proofs.line.scaled_shorts.Given as goal
 
 abbrev pub invariant-loop-i : goal.invariant-loop-i

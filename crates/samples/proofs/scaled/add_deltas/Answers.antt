@@ -1,12 +1,11 @@
-use mathlib.Core.Path.{◌≡◌, refl, ap, ◌∙◌}
-use Prim.Native.Nat.{ℕ, ◌+◌, ◌-◌, ◌≤◌, ◌<◌}
+use mathlib.Core.Path.{refl, ap, ◌∙◌}
+use Prim.Native.Nat.{◌+◌, ◌<◌}
 use native.Mathlib.Omega.{arith}
 use borrow.Author.Rules.{rules}
 use lib.IntN.{ℤ, pos}
 use lib.Ieee.{nan, binary64, add}
 use lib.ListN.{length, get_or}
 use Rattle.levels.specs.Facts.Reciprocal.{of_parts}
-use Rattle.samples.specs.Facts.Line.{Filled}
 use Rattle.samples.proofs.Lines.{sfits64_of32, held_long, filled_more}
 use Rattle.samples.proofs.scaled.add_deltas.Goals as goal
 use Rattle.samples.proofs.scaled.add_deltas.Goals.{Start}

@@ -1,13 +1,10 @@
-use mathlib.Core.Path.{◌≡◌, refl, ap, ◌∙◌}
-use Prim.Native.Nat.{ℕ, ◌+◌, ◌-◌, ◌≤◌, ◌<◌}
-use native.Mathlib.Omega.{arith}
-use borrow.Author.Rules.{rules}
-use lib.IntN.{ℤ, pos}
+use mathlib.Core.Path.{◌≡◌}
+use Prim.Native.Nat.{ℕ, ◌+◌, ◌-◌, ◌≤◌}
+use lib.IntN.{pos}
 use lib.Ieee.{nan, binary64, add}
 use lib.ListN.{length, get_or}
 use Rattle.levels.specs.Facts.Reciprocal.{of_parts}
 use Rattle.samples.specs.Facts.Line.{Filled}
-use Rattle.samples.proofs.Lines.{sfits64_of32, held_long, filled_more}
 use Rattle.samples.proofs.scaled.add_deltas.Given as goal
 
 abbrev pub invariant-loop-i : goal.invariant-loop-i

@@ -1,12 +1,12 @@
 use mathlib.Core.Path.{◌≡◌, refl, sym, ap, ◌∙◌}
-use Prim.Native.Nat.{ℕ, ◌+◌, ◌-◌, ◌≤◌, ◌<◌}
+use Prim.Native.Nat.{◌+◌, ◌-◌, ◌<◌}
 use native.Mathlib.Omega.{arith}
 use borrow.Author.Rules.{rules}
 use lib.IntN.{ℤ, pos, ◌+ℤ◌}
 use lib.Ieee.{nan}
 use lib.ListN.{length, get_or, take, drop, length-take, length-drop}
-use Rattle.samples.specs.Facts.Line.{Filled, line_value, Celled, Repeating}
-use Rattle.samples.proofs.Lines.{filled_part, line_from, value_from, Same, same_start, same_next}
+use Rattle.samples.specs.Facts.Line.{line_value}
+use Rattle.samples.proofs.Lines.{filled_part, line_from, value_from, same_start, same_next}
 use Rattle.samples.proofs.scaled.scaled_pieces.Goals as goal
 use Rattle.samples.proofs.scaled.scaled_pieces.Goals.{Start}
 

@@ -1,12 +1,10 @@
-use mathlib.Core.Path.{◌≡◌, refl, sym, ap, ◌∙◌}
-use Prim.Native.Nat.{ℕ, ◌+◌, ◌-◌, ◌≤◌, ◌<◌}
-use native.Mathlib.Omega.{arith}
-use borrow.Author.Rules.{rules}
+use mathlib.Core.Path.{◌≡◌}
+use Prim.Native.Nat.{ℕ, ◌-◌, ◌≤◌}
 use lib.IntN.{ℤ, pos, ◌+ℤ◌}
 use lib.Ieee.{nan}
-use lib.ListN.{length, get_or, take, drop, length-take, length-drop}
+use lib.ListN.{length, get_or}
 use Rattle.samples.specs.Facts.Line.{Filled, line_value, Celled, Repeating}
-use Rattle.samples.proofs.Lines.{filled_part, line_from, value_from, Same, same_start, same_next}
+use Rattle.samples.proofs.Lines.{Same}
 use Rattle.samples.proofs.scaled.scaled_pieces.Given as goal
 
 abbrev pub invariant-loop-i : goal.invariant-loop-i

@@ -1,5 +1,4 @@
 use native.Mathlib.Omega.{arith}
-use borrow.Author.Rules.{rules}
 use Rattle.samples.proofs.scaled.scaled_with_deltas.Goals as goal
 use Rattle.samples.proofs.scaled.scaled_with_deltas.Goals.{Start}
 

@@ -1,14 +1,9 @@
-use mathlib.Core.Path.{◌≡◌, refl, ap, ◌∙◌}
-use Prim.Native.Nat.{ℕ, ◌-◌, ◌≤◌, ◌<◌}
+use mathlib.Core.Path.{ap, ◌∙◌}
+use Prim.Native.Nat.{ℕ}
 use native.Mathlib.Omega.{arith}
 use borrow.Author.Rules.{rules}
-use lib.IntN.{ℤ}
 use lib.Ieee.{nan}
-use lib.ListN.{length}
 use Rattle.levels.specs.Level.{difference_of, level_of, scaled_of}
-use Rattle.levels.specs.Facts.Reciprocal.{BlackIs, InverseIs}
-use Rattle.levels.specs.Table.{table_of, through_of}
-use Rattle.samples.specs.Facts.Line.{Filled}
 use Rattle.samples.proofs.Lines.{filled_more}
 use Rattle.tables.proofs.fill.fill_values.Goals as goal
 

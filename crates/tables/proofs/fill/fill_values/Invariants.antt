@@ -1,7 +1,5 @@
-use mathlib.Core.Path.{◌≡◌, refl, ap, ◌∙◌}
-use Prim.Native.Nat.{ℕ, ◌-◌, ◌≤◌, ◌<◌}
-use native.Mathlib.Omega.{arith}
-use borrow.Author.Rules.{rules}
+use mathlib.Core.Path.{◌≡◌}
+use Prim.Native.Nat.{ℕ, ◌-◌, ◌≤◌}
 use lib.IntN.{ℤ}
 use lib.Ieee.{nan}
 use lib.ListN.{length}
@@ -9,7 +7,6 @@ use Rattle.levels.specs.Level.{difference_of, level_of, scaled_of}
 use Rattle.levels.specs.Facts.Reciprocal.{BlackIs, InverseIs}
 use Rattle.levels.specs.Table.{table_of, through_of}
 use Rattle.samples.specs.Facts.Line.{Filled}
-use Rattle.samples.proofs.Lines.{filled_more}
 use Rattle.tables.proofs.fill.fill_values.Given as goal
 
 abbrev pub invariant-loop-s : goal.invariant-loop-s

@@ -1,5 +1,4 @@
 use native.Mathlib.Omega.{arith}
-use borrow.Author.Rules.{rules}
 use Rattle.tables.proofs.row.look_up.Goals as goal
 
 pub overflow_cast-s : goal.overflow_cast-s

@@ -3,13 +3,13 @@ use Prim.Native.Nat.{ℕ, ◌+◌, ◌-◌, ◌*◌, ◌/◌, ◌≤◌, ◌<◌
 use native.Mathlib.Nat.{mul-mod_right}
 use native.Mathlib.Omega.{arith}
 use borrow.Author.Rules.{rules}
-use lib.Ieee.{Float, nan}
+use lib.Ieee.{nan}
 use lib.ListN.{length}
 use Rattle.reading.specs.Bytes.{part}
 use Rattle.reading.specs.Number.{number_of}
 use Rattle.reading.specs.declared.number.Order.TheVariants as order
 use Rattle.samples.specs.Facts.Line.{Filled}
-use Rattle.tables.specs.Facts.RowTables.{FourFound, WordIs}
+use Rattle.tables.specs.Facts.RowTables.{WordIs}
 use Rattle.tables.proofs.FoundLaws.{word_is}
 use Rattle.tables.proofs.row.look_up_fours.Goals as goal
 use Rattle.tables.proofs.row.look_up_fours.Goals.{Else-out-lt4}

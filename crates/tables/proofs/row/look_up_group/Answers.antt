@@ -1,14 +1,12 @@
 use mathlib.Core.Path.{◌≡◌, refl, sym, ◌∙◌, subst}
-use mathlib.Core.List.{[]}
-use Prim.Native.Nat.{ℕ, ◌+◌, ◌-◌, ◌≤◌, ◌<◌}
+use Prim.Native.Nat.{ℕ, ◌+◌}
 use native.Mathlib.Nat.{add-zero}
 use native.Mathlib.Omega.{arith}
 use borrow.Author.Rules.{rules}
-use lib.Ieee.{Float, nan}
-use lib.ListN.{length, get_or, set}
+use lib.Ieee.{nan}
+use lib.ListN.{set}
 use Rattle.samples.specs.Facts.Line.{Filled}
 use Rattle.samples.proofs.Lines.{filled_more}
-use Rattle.tables.specs.Facts.RowTables.{found}
 use Rattle.tables.proofs.row.look_up_group.Goals as goal
 use Rattle.tables.proofs.row.look_up_group.Goals.{Start}
 

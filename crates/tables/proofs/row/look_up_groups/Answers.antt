@@ -1,11 +1,9 @@
 use mathlib.Core.Path.{◌≡◌, refl, sym, ap, subst}
 use mathlib.Core.List.{[]}
-use Prim.Native.Nat.{ℕ, ◌+◌, ◌-◌, ◌%◌, ◌≤◌, ◌<◌}
+use Prim.Native.Nat.{ℕ, ◌+◌, ◌%◌}
 use native.Mathlib.Omega.{arith}
 use borrow.Author.Rules.{rules}
-use lib.Ieee.{nan}
-use lib.ListN.{length, get_or}
-use Rattle.samples.specs.Facts.Line.{Filled}
+use lib.ListN.{get_or}
 use Rattle.tables.specs.Facts.RowTables.{found, found_along}
 use Rattle.tables.proofs.FoundLaws.{column_of, columns_behind}
 use Rattle.tables.proofs.row.look_up_groups.Goals as goal

@@ -1,13 +1,9 @@
-use mathlib.Core.Path.{◌≡◌, refl, sym, ap, subst}
-use mathlib.Core.List.{[]}
-use Prim.Native.Nat.{ℕ, ◌+◌, ◌-◌, ◌%◌, ◌≤◌, ◌<◌}
-use native.Mathlib.Omega.{arith}
-use borrow.Author.Rules.{rules}
+use mathlib.Core.Path.{◌≡◌}
+use Prim.Native.Nat.{◌-◌, ◌%◌, ◌≤◌, ◌<◌}
 use lib.Ieee.{nan}
-use lib.ListN.{length, get_or}
+use lib.ListN.{length}
 use Rattle.samples.specs.Facts.Line.{Filled}
-use Rattle.tables.specs.Facts.RowTables.{found, found_along}
-use Rattle.tables.proofs.FoundLaws.{column_of, columns_behind}
+use Rattle.tables.specs.Facts.RowTables.{found_along}
 use Rattle.tables.proofs.row.look_up_groups.Given as goal
 
 abbrev pub invariant-loop-at : goal.invariant-loop-at

@@ -1,4 +1,4 @@
-use Rattle.std.proofs.Common.{◌≡◌, ℕ, ◌+◌, ◌*◌, ◌/◌, ◌%◌, ◌≤◌, ◌<◌, length, sym, ap, ◌∙◌, arith, rules}
+use Rattle.std.proofs.Common.{◌≡◌, ℕ, ◌*◌, ◌/◌, ◌%◌, length, ap, ◌∙◌, arith, rules}
 use native.Mathlib.Nat.{mod-lt, zero-mod}
 use Rattle.tables.specs.Facts.RowTables.{found_along}
 use Rattle.tables.proofs.FoundLaws.{four_found, fours_whole}
