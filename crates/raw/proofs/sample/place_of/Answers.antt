@@ -1,7 +1,6 @@
 use mathlib.Core.Path.{◌≡◌, sym, subst, ◌∙◌}
 use Prim.Native.Nat.{ℕ, ◌+◌, ◌/◌, ◌<◌}
 use native.Mathlib.Omega.{arith}
-use lib.ListN.{length}
 use Rattle.rawtags.specs.Strips.{strip_count}
 use Rattle.levels.proofs.Runs.{within}
 use Rattle.raw.proofs.StoredLaws.{number_in}

@@ -8,7 +8,6 @@ use lib.Signed.{le_z}
 use mir.Syntax.{w64}
 use mir.Val.{to_z, of_z}
 use mir.Facts.{to_z-of_z}
-use borrow.Author.Rules.{rules}
 use Rattle.reading.specs.Reading.{run}
 use Rattle.reading.proofs.Magnitude.{sfits64}
 use Rattle.directory.specs.Out.{Out.is}

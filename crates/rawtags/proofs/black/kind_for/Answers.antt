@@ -1,5 +1,4 @@
 use borrow.Author.Tests.{eq-eqb, ne_eqb}
-use borrow.Author.Rules.{rules}
 use Rattle.reading.proofs.Reading.{pick_yes, pick_no}
 use Rattle.rawtags.specs.Black.{kind_for}
 use Rattle.rawtags.proofs.black.kind_for.Goals as goal

@@ -1,7 +1,6 @@
 use mathlib.Core.Path.{◌≡◌, sym, ◌∙◌}
 use native.Mathlib.Omega.{arith}
 use Rattle.rawtags.proofs.WholeLaws.{rational_width, of_fraction, of_number}
-use borrow.Author.Rules.{rules}
 use Rattle.rawtags.proofs.whole.whole_number_at.Goals as goal
 use Rattle.rawtags.proofs.whole.whole_number_at.Goals.{After-long-denominator, After-long-numerator, After-value-n, Else-code-eq5, Then-code-eq5}
 
