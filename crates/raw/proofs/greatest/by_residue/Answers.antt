@@ -6,7 +6,7 @@ use mir.Facts.{to_z-of_z}
 use Rattle.levels.proofs.Fills.{fill_start, fill_step, fill_end, zeros_small}
 use borrow.Author.Rules.{rules}
 use Rattle.raw.proofs.greatest.by_residue.Goals as goal
-use Rattle.raw.proofs.greatest.by_residue.Goals.{In-loop-i, Start}
+use Rattle.raw.proofs.greatest.by_residue.Goals.{In-loop-i}
 
 pub loop-i-init : goal.loop-i-init
 loop-i-init c =

@@ -6,7 +6,6 @@ use Rattle.levels.proofs.Runs.{within}
 use Rattle.raw.proofs.StoredLaws.{number_in}
 use Rattle.raw.proofs.TagFacts.{strips_at, strip_below, sample_inside}
 use Rattle.raw.proofs.sample.place_of.Goals as goal
-use Rattle.raw.proofs.sample.place_of.Goals.{Start}
 
 sum : {a b x y : ℕ} → a ≡ x → b ≡ y → a + b ≡ x + y
 sum {a} {b} {x} {y} e h = rw (e, h)

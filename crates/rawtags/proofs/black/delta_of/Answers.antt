@@ -6,7 +6,6 @@ use Rattle.directory.specs.Facts.Tag.{values_out}
 use Rattle.directory.proofs.Tags.{looked_up}
 use Rattle.rawtags.specs.Black.{delta_rule, delta_reading}
 use Rattle.rawtags.proofs.black.delta_of.Goals as goal
-use Rattle.rawtags.proofs.black.delta_of.Goals.{In-Is-2}
 
 pub returns-in-Refused : goal.returns-in-Refused
 unfolding delta_reading

@@ -13,7 +13,6 @@ use Rattle.directory.proofs.Tags.{exactly}
 use Rattle.rawtags.specs.Strips.{offsets_rule, counts_rule, strips_reading}
 use Rattle.rawtags.proofs.Strip.{wide_fits, row_fits, some_strips, strip_in}
 use Rattle.rawtags.proofs.strips.strips_of.Goals as goal
-use Rattle.rawtags.proofs.strips.strips_of.Goals.{In-Is-2, Start}
 
 pub overflow_sub-count : goal.overflow_sub-count
 overflow_sub-count c =

@@ -1,7 +1,6 @@
 use Rattle.rawtags.specs.White.{white_reading}
 use Rattle.rawtags.proofs.BlackLaws.{whites_in}
 use Rattle.rawtags.proofs.white.white_of.Goals as goal
-use Rattle.rawtags.proofs.white.white_of.Goals.{Start}
 
 pub returns : goal.returns
 unfolding white_reading
