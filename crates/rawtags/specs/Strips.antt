@@ -1,5 +1,5 @@
 -- The strips: StripOffsets, StripByteCounts.
-use Rattle.std.specs.Prelude.{ℕ, zero, suc, ◌+◌, ◌*◌, ◌-◌, ◌/◌, min, eqb, leb, length}
+use Rattle.std.specs.Prelude.{ℕ, zero, suc, ◌+◌, ◌*◌, ◌-◌, ◌/◌, min, eqb, leb}
 use Rattle.directory.specs.Names.{strip_byte_counts, strip_offsets}
 use Rattle.reading.specs.Reading.{Reading, Reading.answer, and_then, pick, number_at}
 use Rattle.reading.specs.declared.number.Order.{Order}

@@ -1,33 +1,17 @@
-use mathlib.Core.Path.{◌≡◌, sym, ap, subst, ◌∙◌}
-use mathlib.Core.List.{List}
-use Prim.Native.Nat.{ℕ}
+use mathlib.Core.Path.{sym, ap, subst, ◌∙◌}
 use native.Mathlib.Omega.{arith}
 use lib.ListN.{length}
-use Rattle.reading.specs.Reading.{run}
-use Rattle.directory.specs.Out.{Out.is}
 use Rattle.directory.specs.Facts.Tag.{values_out, ValuesIn}
-use Rattle.directory.specs.declared.Ifd.{Ifd}
-use Rattle.directory.specs.declared.tag.Values.{Values}
-use Rattle.rawtags.specs.Frame.{frame_reading}
-use Rattle.rawtags.specs.Layout.{layout_reading}
-use Rattle.rawtags.specs.Strips.{strips_reading}
-use Rattle.rawtags.specs.Area.{area_reading}
-use Rattle.rawtags.specs.LevelTags.{level_tags_reading}
-use Rattle.rawtags.specs.Crop.{crop_reading}
 use Rattle.rawtags.specs.Lists.{list_rule}
 use Rattle.rawtags.specs.Raw.{active_rows, active_columns}
-use Rattle.rawtags.specs.Facts.Frame.{dimensions_out, DimensionsIn, DimensionsWithin}
+use Rattle.rawtags.specs.Facts.Frame.{dimensions_out, DimensionsIn}
 use Rattle.rawtags.specs.Facts.Layout.{layout_out, LayoutIn}
 use Rattle.rawtags.specs.Facts.Strips.{StripsIn}
-use Rattle.rawtags.specs.Facts.Area.{area_out, AreaIn, AreaWithin}
+use Rattle.rawtags.specs.Facts.Area.{area_out, AreaIn}
 use Rattle.rawtags.specs.Facts.LevelTags.{level_tags_out, LevelTagsIn}
 use Rattle.rawtags.specs.Facts.Crop.{crop_out, CropIn}
-use Rattle.rawtags.specs.declared.frame.Dimensions.{Dimensions}
-use Rattle.rawtags.specs.declared.layout.Layout.{Layout}
-use Rattle.rawtags.specs.declared.area.Area.{Area}
 use Rattle.rawtags.proofs.TagsLaws.{frame_refused, layout_refused, strips_refused, area_refused, level_tags_refused}
 use Rattle.rawtags.proofs.TagsLaws.{crop_refused, list_tag_refused, tags_are}
-use borrow.Author.Rules.{rules}
 use Rattle.rawtags.proofs.tags_of.Goals as goal
 
 pub returns-in-Refused : goal.returns-in-Refused

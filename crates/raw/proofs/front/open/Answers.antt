@@ -4,7 +4,6 @@ use Rattle.directory.specs.Facts.Tree.{tree_out, TreeIn}
 use Rattle.directory.proofs.Outs.{bind_refused, bind_is}
 use Rattle.raw.specs.Front.{front_reading}
 use Rattle.raw.specs.Facts.Front.{raw_out, RawIn}
-use borrow.Author.Rules.{rules}
 use Rattle.raw.proofs.front.open.Goals as goal
 
 pub returns-in-Refused : goal.returns-in-Refused

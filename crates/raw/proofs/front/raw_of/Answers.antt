@@ -7,7 +7,6 @@ use Rattle.raw.specs.Stored.{levels_reading}
 use Rattle.raw.specs.Spans.{spanned_of}
 use Rattle.raw.specs.Facts.Spans.{spans_out, SpansIn}
 use Rattle.raw.specs.Front.{raw_reading}
-use borrow.Author.Rules.{rules}
 use Rattle.raw.proofs.front.raw_of.Goals as goal
 
 pub returns-in-Refused : goal.returns-in-Refused

@@ -1,18 +1,12 @@
-use Prim.Native.Nat.{◌-◌, ◌<◌}
+use Prim.Native.Nat.{◌<◌}
 use native.Mathlib.Omega.{arith}
-use lib.ListN.{replicate}
-use lib.IntN.{pos}
 use mir.Syntax.{w64}
 use mir.Val.{SFits}
 use mir.Facts.{to_z-of_z}
-use Rattle.reading.specs.Reading.{run}
-use Rattle.levels.specs.declared.black.BlackKind.TheVariants as kind
-use Rattle.levels.specs.Facts.Residues.{greatest_delta}
-use Rattle.levels.proofs.Fills.{Filled, fill_start, fill_step, fill_end, zeros_small}
-use Rattle.raw.specs.Stored.{blacks_reading}
+use Rattle.levels.proofs.Fills.{fill_start, fill_step, fill_end, zeros_small}
 use borrow.Author.Rules.{rules}
 use Rattle.raw.proofs.greatest.by_residue.Goals as goal
-use Rattle.raw.proofs.greatest.by_residue.Goals.{In-loop-i, Start}
+use Rattle.raw.proofs.greatest.by_residue.Goals.{In-loop-i}
 
 pub loop-i-init : goal.loop-i-init
 loop-i-init c =

@@ -1,16 +1,11 @@
-use Prim.Native.Nat.{◌-◌, ◌<◌}
-use native.Mathlib.Omega.{arith}
+use Prim.Native.Nat.{◌-◌}
 use lib.ListN.{replicate}
 use lib.IntN.{pos}
-use mir.Syntax.{w64}
-use mir.Val.{SFits}
-use mir.Facts.{to_z-of_z}
 use Rattle.reading.specs.Reading.{run}
 use Rattle.levels.specs.declared.black.BlackKind.TheVariants as kind
 use Rattle.levels.specs.Facts.Residues.{greatest_delta}
-use Rattle.levels.proofs.Fills.{Filled, fill_start, fill_step, fill_end, zeros_small}
+use Rattle.levels.proofs.Fills.{Filled}
 use Rattle.raw.specs.Stored.{blacks_reading}
-use borrow.Author.Rules.{rules}
 use Rattle.raw.proofs.greatest.by_residue.Given as goal
 
 -- The invariant: the greatest deltas of the residues below i are in their places.

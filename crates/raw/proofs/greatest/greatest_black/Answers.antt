@@ -6,7 +6,6 @@ use mir.Facts.{to_z-of_z}
 use Rattle.raw.proofs.TagFacts.{greatest_black_is}
 use borrow.Author.Rules.{rules}
 use Rattle.raw.proofs.greatest.greatest_black.Goals as goal
-use Rattle.raw.proofs.greatest.greatest_black.Goals.{Start}
 
 pub greatest_by_residues-requires : goal.greatest_by_residues-requires
 greatest_by_residues-requires c =

@@ -1,14 +1,14 @@
 use mathlib.Core.Path.{◌≡◌}
-use Prim.Native.Nat.{ℕ, ◌-◌, ◌*◌, ◌/◌, ◌%◌, ◌≤◌}
+use Prim.Native.Nat.{ℕ, ◌/◌, ◌%◌}
 use native.Mathlib.Nat.{mul-le-mul, mul-pos, zero-div, zero-mod, mod-lt, div-lt_iff_lt-mul}
 use native.Mathlib.Omega.{arith}
-use lib.IntN.{ℤ, nat_abs}
+use lib.IntN.{ℤ}
 use mir.Syntax.{w64}
 use mir.Val.{SFits}
 use mir.Facts.{to_z-of_z}
 use Rattle.reading.specs.Reading.{run}
 use Rattle.levels.specs.Facts.Residues.{residue_black}
-use Rattle.levels.proofs.Maxima.{Folded, fold_start, fold_step, fold_end}
+use Rattle.levels.proofs.Maxima.{fold_start, fold_step, fold_end}
 use Rattle.raw.specs.Stored.{levels_reading}
 use borrow.Author.Rules.{rules}
 use Rattle.raw.proofs.greatest.greatest_by_residues.Goals as goal

@@ -2,7 +2,7 @@ use mathlib.Core.Path.{◌≡◌, sym}
 use Prim.Native.Nat.{ℕ, ◌+◌, ◌-◌, ◌*◌, ◌≤◌, ◌<◌}
 use native.Mathlib.Nat.{div-le_self, mul-le-mul, mul-zero}
 use native.Mathlib.Omega.{arith}
-use lib.IntN.{ℤ, pos, nat_abs}
+use lib.IntN.{ℤ, pos}
 use lib.ListN.{get_or}
 use mir.Syntax.{w64}
 use mir.Val.{SFits}
@@ -10,11 +10,10 @@ use mir.Facts.{to_z-of_z}
 use Rattle.reading.specs.Reading.{run}
 use Rattle.levels.specs.declared.black.BlackKind.TheVariants as kind
 use Rattle.levels.specs.Facts.Residues.{times_of}
-use Rattle.levels.proofs.Maxima.{Folded, fold_start, fold_step, fold_end}
+use Rattle.levels.proofs.Maxima.{fold_start, fold_step, fold_end}
 use Rattle.raw.specs.Stored.{blacks_reading}
 use Rattle.raw.proofs.StoredLaws.{greatest_delta_none, delta_inside}
 use borrow.Author.Rules.{rules}
-use Rattle.levels.specs.Facts.Black.{most_black}
 use Rattle.raw.proofs.greatest.greatest_delta.Goals as goal
 use Rattle.raw.proofs.greatest.greatest_delta.Goals.{In-loop-k, Start}
 

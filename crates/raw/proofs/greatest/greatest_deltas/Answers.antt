@@ -2,9 +2,7 @@ use Rattle.directory.specs.Names.{black_level_delta_h, black_level_delta_v}
 use native.Mathlib.Omega.{arith}
 use Rattle.raw.proofs.StoredLaws.{column_deltas_are, row_deltas_are, rows_are, columns_are, repeat_rows_are, repeat_columns_are}
 use Rattle.raw.proofs.TagFacts.{deltas_of_law}
-use borrow.Author.Rules.{rules}
 use Rattle.raw.proofs.greatest.greatest_deltas.Goals as goal
-use Rattle.raw.proofs.greatest.greatest_deltas.Goals.{Start}
 
 pub by_residue-columns-requires : goal.by_residue-columns-requires
 by_residue-columns-requires c =

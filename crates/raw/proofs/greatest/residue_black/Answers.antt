@@ -10,7 +10,6 @@ use Rattle.levels.proofs.SignedOrder.{sum_same}
 use borrow.Author.Rules.{rules}
 use Rattle.levels.specs.Facts.Black.{most_black}
 use Rattle.raw.proofs.greatest.residue_black.Goals as goal
-use Rattle.raw.proofs.greatest.residue_black.Goals.{Start}
 
 delta_fits : (z : ℤ) → nat_abs z ≤ most_black → SFits w64 z
 delta_fits z h = sfits64 z (omega arith)

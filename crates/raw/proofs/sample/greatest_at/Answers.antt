@@ -9,7 +9,6 @@ use Rattle.raw.proofs.TagFacts.{span_in}
 use Rattle.raw.proofs.SpanLaws.{span_is}
 use borrow.Author.Rules.{rules}
 use Rattle.raw.proofs.sample.greatest_at.Goals as goal
-use Rattle.raw.proofs.sample.greatest_at.Goals.{Start}
 
 pub greatest_black-requires : goal.greatest_black-requires
 greatest_black-requires c =

@@ -8,7 +8,6 @@ use Rattle.levels.specs.Level.{level_of}
 use Rattle.raw.proofs.TagFacts.{table_inside, numbers_are, span_in}
 use borrow.Author.Rules.{rules}
 use Rattle.raw.proofs.sample.numbers_at.Goals as goal
-use Rattle.raw.proofs.sample.numbers_at.Goals.{After-black_sum-black, Start}
 
 pub through-table_value-requires : goal.through-table_value-requires
 through-table_value-requires c =

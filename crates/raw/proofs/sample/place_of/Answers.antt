@@ -1,13 +1,11 @@
 use mathlib.Core.Path.{◌≡◌, sym, subst, ◌∙◌}
 use Prim.Native.Nat.{ℕ, ◌+◌, ◌/◌, ◌<◌}
 use native.Mathlib.Omega.{arith}
-use lib.ListN.{length}
 use Rattle.rawtags.specs.Strips.{strip_count}
 use Rattle.levels.proofs.Runs.{within}
 use Rattle.raw.proofs.StoredLaws.{number_in}
 use Rattle.raw.proofs.TagFacts.{strips_at, strip_below, sample_inside}
 use Rattle.raw.proofs.sample.place_of.Goals as goal
-use Rattle.raw.proofs.sample.place_of.Goals.{Start}
 
 sum : {a b x y : ℕ} → a ≡ x → b ≡ y → a + b ≡ x + y
 sum {a} {b} {x} {y} e h = rw (e, h)

@@ -1,6 +1,5 @@
 use mathlib.Core.Path.{◌≡◌}
 use native.Mathlib.Omega.{arith}
-use borrow.Author.Rules.{rules}
 use Rattle.raw.proofs.sample.sample_at.Goals as goal
 
 pub returns-then-bytes-eq1 : goal.returns-then-bytes-eq1

@@ -7,7 +7,6 @@ use Rattle.raw.specs.Stored.{numbers_reading}
 use Rattle.raw.proofs.TagFacts.{table_inside, scaled_is, stored_is, span_in}
 use borrow.Author.Rules.{rules}
 use Rattle.raw.proofs.sample.scaled_at.Goals as goal
-use Rattle.raw.proofs.sample.scaled_at.Goals.{Start}
 
 pub through-v-requires : goal.through-v-requires
 through-v-requires c =

@@ -2,7 +2,6 @@ use mathlib.Core.Path.{◌∙◌}
 use Rattle.reading.specs.Reading.{run}
 use Rattle.raw.specs.Stored.{numbers_reading}
 use Rattle.raw.proofs.TagFacts.{stored_is}
-use borrow.Author.Rules.{rules}
 use Rattle.raw.proofs.sample.stored_at.Goals as goal
 
 pub returns : goal.returns

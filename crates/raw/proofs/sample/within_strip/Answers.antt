@@ -1,7 +1,6 @@
 use Prim.Native.Nat.{◌%◌}
 use native.Mathlib.Omega.{arith}
 use Rattle.raw.proofs.TagFacts.{sample_fits, mod_below}
-use borrow.Author.Rules.{rules}
 use Rattle.raw.proofs.sample.within_strip.Goals as goal
 
 pub overflow_mul-result : goal.overflow_mul-result

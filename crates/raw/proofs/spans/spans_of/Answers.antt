@@ -8,7 +8,6 @@ use lib.Signed.{le_z}
 use mir.Syntax.{w64}
 use mir.Val.{to_z, of_z}
 use mir.Facts.{to_z-of_z}
-use borrow.Author.Rules.{rules}
 use Rattle.reading.specs.Reading.{run}
 use Rattle.reading.proofs.Magnitude.{sfits64}
 use Rattle.directory.specs.Out.{Out.is}
@@ -17,7 +16,7 @@ use Rattle.raw.specs.Stored.{levels_reading}
 use Rattle.raw.proofs.StoredLaws.{samples_are}
 use Rattle.raw.proofs.SpanLaws.{first_bad, one_plane, second_bad, third_bad, three_planes, span_in_of, spans_one, spans_three}
 use Rattle.raw.proofs.spans.spans_of.Goals as goal
-use Rattle.raw.proofs.spans.spans_of.Goals.{After-span-second, Start}
+use Rattle.raw.proofs.spans.spans_of.Goals.{Start}
 
 -- a span that the code holds is the one that it was given
 held : {z x : ℤ} → (z ≡ x) × (nat_abs z ≤ 67107840) → let v = to_z w64 (of_z w64 z) in (v ≡ x) × (nat_abs v ≤ 67107840)
@@ -55,7 +54,6 @@ pub returns-then-tags-eq1 : goal.returns-then-tags-eq1
 returns-then-tags-eq1 c =
     let span = c.span-first in
     let if1 = c.if-first-le0 in
-    let s = (goal.at.returns-then-tags-eq1 c).Start in
     let v = held span.ensures in
     let a = tested v.0 if1.false in
     (three v.0 refl refl ∙ one_plane _ a (one (goal.at.returns-then-tags-eq1 c).Start c.if-tags-eq1.true), rw c.if-tags-eq1.true (spans_one _ (span_in_of _ if1.false v.1)))
@@ -69,7 +67,6 @@ pub returns-then-second-le0 : goal.returns-then-second-le0
 returns-then-second-le0 c =
     let span = c.span-first in
     let if1 = c.if-first-le0 in
-    let s = (goal.at.returns-then-second-le0 c).Start in
     let v = held span.ensures in
     let w = held c.span-second.ensures in
     let a = tested v.0 if1.false in
@@ -82,7 +79,6 @@ span-third-requires c =
 
 pub returns-then-third-le0 : goal.returns-then-third-le0
 returns-then-third-le0 c =
-    let s = (goal.at.returns-then-third-le0 c).Start in
     let v = held c.span-first.ensures in
     let w = held c.span-second.ensures in
     let a = tested v.0 c.if-first-le0.false in

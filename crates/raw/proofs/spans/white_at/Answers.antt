@@ -8,7 +8,6 @@ use Rattle.raw.proofs.StoredLaws.{white_default, white_given}
 use Rattle.raw.proofs.TagFacts.{whites_at}
 use Rattle.directory.proofs.Entries.{wide_most}
 use Rattle.raw.proofs.spans.white_at.Goals as goal
-use Rattle.raw.proofs.spans.white_at.Goals.{Start}
 
 below_three : (p s : ℕ) → p < s → s ≤ 3 → p ≤ 2
 below_three p s h k = omega arith

@@ -9,9 +9,7 @@ use Rattle.directory.specs.declared.tag.Kinds.TheVariants as kinds
 use Rattle.directory.proofs.Tags.{counted}
 use Rattle.rawtags.specs.Area.{area_reading}
 use Rattle.rawtags.proofs.AreaLaws.{four_whole, four_is}
-use borrow.Author.Rules.{rules}
 use Rattle.rawtags.proofs.area.area_of.Goals as goal
-use Rattle.rawtags.proofs.area.area_of.Goals.{After-value-bottom, After-value-left, After-value-right, After-value-top, In-Is-2}
 
 pub returns-in-Refused : goal.returns-in-Refused
 unfolding area_reading

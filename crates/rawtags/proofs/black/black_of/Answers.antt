@@ -11,9 +11,7 @@ use Rattle.directory.specs.Facts.Tag.{values_out}
 use Rattle.directory.proofs.Tags.{looked_up}
 use Rattle.rawtags.specs.Black.{blacks_test, black_rule, black_reading}
 use Rattle.rawtags.proofs.BlackLaws.{width_for, pair_fits, cells_fit}
-use borrow.Author.Rules.{rules}
 use Rattle.rawtags.proofs.black.black_of.Goals as goal
-use Rattle.rawtags.proofs.black.black_of.Goals.{After-check_blacks, After-kind_for-kind, After-look_up, In-Is-2, Start}
 
 pub overflow_mul-cells : goal.overflow_mul-cells
 overflow_mul-cells c =

@@ -9,7 +9,6 @@ use Rattle.levels.specs.declared.black.Black.TheVariants.{Parts, Illegal, NotCar
 use Rattle.levels.proofs.Runs.{within}
 use Rattle.rawtags.specs.Black.{black_out, blacks_test}
 use Rattle.rawtags.proofs.BlackLaws.{width_most, blacks_test_law}
-use borrow.Author.Rules.{rules}
 use Rattle.rawtags.proofs.black.check_blacks.Goals as goal
 use Rattle.rawtags.proofs.black.check_blacks.Goals.{Start}
 

@@ -5,9 +5,7 @@ use Rattle.reading.proofs.Reading.{run_answer}
 use Rattle.directory.specs.Facts.Tag.{values_out}
 use Rattle.directory.proofs.Tags.{looked_up}
 use Rattle.rawtags.specs.Black.{delta_rule, delta_reading}
-use borrow.Author.Rules.{rules}
 use Rattle.rawtags.proofs.black.delta_of.Goals as goal
-use Rattle.rawtags.proofs.black.delta_of.Goals.{In-Is-2}
 
 pub returns-in-Refused : goal.returns-in-Refused
 unfolding delta_reading

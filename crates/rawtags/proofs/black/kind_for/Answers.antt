@@ -1,9 +1,7 @@
 use borrow.Author.Tests.{eq-eqb, ne_eqb}
-use borrow.Author.Rules.{rules}
 use Rattle.reading.proofs.Reading.{pick_yes, pick_no}
 use Rattle.rawtags.specs.Black.{kind_for}
 use Rattle.rawtags.proofs.black.kind_for.Goals as goal
-use Rattle.rawtags.proofs.black.kind_for.Goals.{Else-t-eq3}
 
 pub returns-then-t-eq3 : goal.returns-then-t-eq3
 unfolding kind_for

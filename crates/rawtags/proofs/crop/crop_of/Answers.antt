@@ -3,9 +3,7 @@ use Rattle.reading.proofs.Reading.{run_answer}
 use Rattle.directory.proofs.Outs.{bind_refused, bind_is}
 use Rattle.rawtags.specs.Crop.{crop_reading}
 use Rattle.rawtags.specs.Facts.Whole.{lengths_out}
-use borrow.Author.Rules.{rules}
 use Rattle.rawtags.proofs.crop.crop_of.Goals as goal
-use Rattle.rawtags.proofs.crop.crop_of.Goals.{After-lengths_of-2, In-Is-2, In-Is-lengths_of-2}
 
 pub returns-in-Refused : goal.returns-in-Refused
 unfolding crop_reading

@@ -1,6 +1,5 @@
 use mathlib.Core.Path.{sym, ◌∙◌}
 use Rattle.rawtags.proofs.CropLaws.{crop_columns, crop_rows, crop_is, crop_in}
-use borrow.Author.Rules.{rules}
 use Rattle.rawtags.proofs.crop.tested_crop.Goals as goal
 
 pub returns-then-some_inside-2 : goal.returns-then-some_inside-2

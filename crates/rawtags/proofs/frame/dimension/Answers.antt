@@ -1,5 +1,4 @@
 use Rattle.rawtags.specs.Frame.{dimension_reading}
-use borrow.Author.Rules.{rules}
 use Rattle.rawtags.proofs.frame.dimension.Goals as goal
 
 pub returns : goal.returns

@@ -7,7 +7,6 @@ use mathlib.Core.Logic.{⊎_elim}
 use Rattle.directory.specs.Facts.Tag.{NumberIn}
 use Rattle.rawtags.specs.Frame.{dimension_range, frame_reading}
 use Rattle.rawtags.specs.Facts.Frame.{PlanesIn}
-use borrow.Author.Rules.{rules}
 use Rattle.rawtags.proofs.frame.frame_of.Goals as goal
 
 pub returns-in-Refused : goal.returns-in-Refused

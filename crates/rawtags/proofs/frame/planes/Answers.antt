@@ -12,7 +12,6 @@ use Rattle.directory.specs.declared.Number.TheVariants as number
 use Rattle.rawtags.specs.Frame.{samples_of, planes_reading}
 use Rattle.rawtags.specs.Facts.Frame.{PlanesIn}
 use Rattle.rawtags.proofs.AcceptedFrame.{samples_in}
-use borrow.Author.Rules.{rules}
 use Rattle.rawtags.proofs.frame.planes.Goals as goal
 
 one_or_three : (p s : ℕ) → s ≡ samples_of p → (s ≡ 0 → ⊥) → (n : Number) → NumberIn (range 0 s s) n → PlanesIn n

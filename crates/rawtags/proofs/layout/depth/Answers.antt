@@ -13,9 +13,7 @@ use Rattle.directory.specs.declared.tag.Kinds.TheVariants as kinds
 use Rattle.directory.proofs.Entries.{one_more}
 use Rattle.rawtags.specs.Layout.{depth_reading}
 use Rattle.rawtags.proofs.Depth.{depth_other, depth_refused, depth_is}
-use borrow.Author.Rules.{rules}
 use Rattle.rawtags.proofs.layout.depth.Goals as goal
-use Rattle.rawtags.proofs.layout.depth.Goals.{After-bytes_per-bytes, After-value-bits, Else-bytes-eq0, In-Is-2}
 
 pub returns-in-Refused : goal.returns-in-Refused
 unfolding depth_reading

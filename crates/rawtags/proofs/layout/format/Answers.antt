@@ -1,5 +1,4 @@
 use Rattle.rawtags.specs.Layout.{format_reading}
-use borrow.Author.Rules.{rules}
 use Rattle.rawtags.proofs.layout.format.Goals as goal
 
 pub returns : goal.returns

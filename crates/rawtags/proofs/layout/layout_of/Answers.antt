@@ -5,7 +5,6 @@ use Rattle.reading.proofs.Reading.{run_answer}
 use Rattle.directory.specs.Tag.{range}
 use Rattle.directory.specs.Facts.Tag.{NumberIn, values_out}
 use Rattle.rawtags.specs.Layout.{layout_reading}
-use borrow.Author.Rules.{rules}
 use Rattle.rawtags.proofs.layout.layout_of.Goals as goal
 
 pub returns-in-Refused : goal.returns-in-Refused

@@ -1,5 +1,4 @@
 use Rattle.rawtags.specs.Layout.{only_one}
-use borrow.Author.Rules.{rules}
 use Rattle.rawtags.proofs.layout.only_one.Goals as goal
 
 pub returns : goal.returns

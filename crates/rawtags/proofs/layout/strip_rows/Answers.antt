@@ -1,5 +1,4 @@
 use Rattle.rawtags.specs.Layout.{strip_rows_reading}
-use borrow.Author.Rules.{rules}
 use Rattle.rawtags.proofs.layout.strip_rows.Goals as goal
 
 pub returns : goal.returns

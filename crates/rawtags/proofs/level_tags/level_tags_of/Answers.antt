@@ -9,7 +9,6 @@ use Rattle.rawtags.specs.Black.{black_rule, delta_rule}
 use Rattle.rawtags.specs.White.{table_rule, white_rule}
 use Rattle.rawtags.specs.Facts.White.{WhitesIn}
 use Rattle.rawtags.specs.LevelTags.{level_tags_reading}
-use borrow.Author.Rules.{rules}
 use Rattle.rawtags.proofs.level_tags.level_tags_of.Goals as goal
 
 pub returns-in-Refused : goal.returns-in-Refused

@@ -2,7 +2,6 @@ use mathlib.Core.Path.{sym, ap, ◌∙◌}
 use Rattle.directory.specs.Facts.Out.{number_out}
 use Rattle.directory.proofs.Outs.{bind_refused, bind_is}
 use Rattle.rawtags.specs.Lists.{list_tag_reading}
-use borrow.Author.Rules.{rules}
 use Rattle.rawtags.proofs.lists.list_of.Goals as goal
 
 pub returns-in-Refused : goal.returns-in-Refused

@@ -1,18 +1,12 @@
 use Rattle.directory.specs.Names.{cfa_pattern}
-use mathlib.Core.Path.{◌≡◌, sym, ap, ◌∙◌}
+use mathlib.Core.Path.{sym, ap, ◌∙◌}
 use native.Mathlib.Omega.{arith}
-use lib.ListN.{length}
-use Prim.Native.Nat.{◌+◌, ◌≤◌}
-use Rattle.reading.specs.Reading.{run}
-use Rattle.directory.specs.Out.{Out.is}
-use Rattle.directory.specs.Tag.{values_reading, required}
 use Rattle.directory.specs.Facts.Tag.{values_out}
 use Rattle.directory.specs.declared.tag.Kinds.TheVariants as kinds
 use Rattle.directory.proofs.Outs.{bind_refused, bind_is}
 use Rattle.directory.proofs.Tags.{looked_up, exactly}
 use Rattle.rawtags.specs.Pattern.{cfa_pattern_reading}
 use Rattle.rawtags.proofs.PatternLaws.{bytes_inside, four_bytes}
-use borrow.Author.Rules.{rules}
 use Rattle.rawtags.proofs.pattern.cfa_pattern_of.Goals as goal
 
 pub returns-in-Refused : goal.returns-in-Refused

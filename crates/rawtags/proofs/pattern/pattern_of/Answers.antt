@@ -1,12 +1,8 @@
-use mathlib.Core.Path.{◌≡◌, sym, ap, ◌∙◌}
-use Rattle.reading.specs.Reading.{run}
-use Rattle.directory.specs.Out.{Out.is}
+use mathlib.Core.Path.{sym, ap, ◌∙◌}
 use Rattle.directory.specs.Facts.Out.{number_out}
 use Rattle.directory.specs.Facts.Tag.{values_out}
-use Rattle.rawtags.specs.Pattern.{repeat_dim_reading, cfa_pattern_reading, plane_color_reading}
 use Rattle.rawtags.specs.Facts.Pattern.{pattern_out}
 use Rattle.rawtags.proofs.PatternLaws.{pattern_dim, pattern_colours, pattern_planes, pattern_layout, pattern_is}
-use borrow.Author.Rules.{rules}
 use Rattle.rawtags.proofs.pattern.pattern_of.Goals as goal
 
 pub returns-in-Refused : goal.returns-in-Refused

@@ -1,8 +1,6 @@
 use mathlib.Core.Path.{sym, ◌∙◌}
 use Rattle.rawtags.proofs.PatternLaws.{places_are, places_reds, places_greens, places_blues}
-use borrow.Author.Rules.{rules}
 use Rattle.rawtags.proofs.pattern.places.Goals as goal
-use Rattle.rawtags.proofs.pattern.places.Goals.{Then-times-eq1-2, Then-times-eq2}
 
 pub returns-then-times-eq1-2 : goal.returns-then-times-eq1-2
 returns-then-times-eq1-2 c =

@@ -1,18 +1,12 @@
 use Rattle.directory.specs.Names.{cfa_plane_color}
-use mathlib.Core.Path.{◌≡◌, sym, ap, ◌∙◌}
+use mathlib.Core.Path.{sym, ap, ◌∙◌}
 use native.Mathlib.Omega.{arith}
-use Prim.Native.Nat.{◌+◌, ◌≤◌}
-use lib.ListN.{length}
-use Rattle.reading.specs.Reading.{run}
-use Rattle.directory.specs.Out.{Out.is}
-use Rattle.directory.specs.Tag.{values_reading, optional}
-use Rattle.directory.specs.Facts.Tag.{values_out, PlacedValues}
+use Rattle.directory.specs.Facts.Tag.{values_out}
 use Rattle.directory.specs.declared.tag.Kinds.TheVariants as kinds
 use Rattle.directory.proofs.Outs.{bind_refused, bind_is}
 use Rattle.directory.proofs.Tags.{looked_up, counted}
 use Rattle.rawtags.specs.Pattern.{plane_color_reading}
 use Rattle.rawtags.proofs.PatternLaws.{bytes_inside, three_bytes, three_default}
-use borrow.Author.Rules.{rules}
 use Rattle.rawtags.proofs.pattern.plane_color_of.Goals as goal
 
 pub returns-in-Refused : goal.returns-in-Refused

@@ -1,6 +1,5 @@
 use native.Mathlib.Omega.{arith}
 use mathlib.Core.Path.{refl}
-use borrow.Author.Rules.{rules}
 use Rattle.rawtags.proofs.pattern.times.Goals as goal
 
 pub overflow_add-result : goal.overflow_add-result

@@ -1,21 +1,16 @@
 use Rattle.directory.specs.Names.{black_level_repeat_dim}
-use mathlib.Core.Path.{◌≡◌, sym, ap, subst, ◌∙◌}
+use mathlib.Core.Path.{sym, ap, subst, ◌∙◌}
 use mathlib.Core.Logic.{inl}
-use Prim.Native.Nat.{◌+◌, ◌*◌, ◌≤◌}
 use native.Mathlib.Omega.{arith}
-use lib.ListN.{length}
-use Rattle.reading.specs.Reading.{run}
-use Rattle.directory.specs.Out.{Out.is}
 use Rattle.directory.specs.Facts.Out.{number_out}
-use Rattle.directory.specs.Tag.{values_reading, optional, range}
-use Rattle.directory.specs.Facts.Tag.{values_out, NumberIn, PlacedValues}
+use Rattle.directory.specs.Tag.{range}
+use Rattle.directory.specs.Facts.Tag.{values_out, NumberIn}
 use Rattle.directory.specs.declared.Number.TheVariants as number
 use Rattle.directory.specs.declared.tag.Kinds.TheVariants as kinds
 use Rattle.directory.proofs.Outs.{bind_refused, bind_is}
 use Rattle.directory.proofs.Tags.{counted, looked_up}
 use Rattle.rawtags.specs.Repeat.{repeat_reading}
-use Rattle.rawtags.proofs.RepeatLaws.{pair_default, rows_refused, pair_out, pair_answer}
-use borrow.Author.Rules.{rules}
+use Rattle.rawtags.proofs.RepeatLaws.{pair_default, rows_refused, pair_answer}
 use Rattle.rawtags.proofs.repeat.repeat_of.Goals as goal
 
 pub returns-in-Refused : goal.returns-in-Refused

@@ -1,13 +1,10 @@
 use mathlib.Core.Path.{◌≡◌, refl, sym, ◌∙◌}
-use Prim.Native.Nat.{◌+◌, ◌-◌, ◌*◌, ◌≤◌}
+use Prim.Native.Nat.{◌-◌, ◌≤◌}
 use native.Mathlib.Omega.{arith}
 use native.Mathlib.Nat.{min-le_right}
 use lib.ListN.{length}
 use borrow.Author.Tests.{leb-true, leb-false}
-use borrow.Author.Rules.{rules}
-use Rattle.reading.specs.Reading.{run}
 use Rattle.directory.proofs.Entries.{OneMore, one_more}
-use Rattle.rawtags.specs.Strips.{strip_from}
 use Rattle.rawtags.proofs.Strip.{strip_bytes_fit, strip_none, strip_bytes_law, strip_outside, strip_next}
 use Rattle.rawtags.proofs.strips.check_strips.Goals as goal
 use Rattle.rawtags.proofs.strips.check_strips.Goals.{In-loop-left}

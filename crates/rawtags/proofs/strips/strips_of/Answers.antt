@@ -12,9 +12,7 @@ use Rattle.directory.specs.declared.tag.Kinds.TheVariants as kinds
 use Rattle.directory.proofs.Tags.{exactly}
 use Rattle.rawtags.specs.Strips.{offsets_rule, counts_rule, strips_reading}
 use Rattle.rawtags.proofs.Strip.{wide_fits, row_fits, some_strips, strip_in}
-use borrow.Author.Rules.{rules}
 use Rattle.rawtags.proofs.strips.strips_of.Goals as goal
-use Rattle.rawtags.proofs.strips.strips_of.Goals.{In-Is-2, Start}
 
 pub overflow_sub-count : goal.overflow_sub-count
 overflow_sub-count c =

@@ -1,5 +1,4 @@
 use Rattle.rawtags.specs.White.{table_reading}
-use borrow.Author.Rules.{rules}
 use Rattle.rawtags.proofs.white.table_of.Goals as goal
 
 pub returns : goal.returns

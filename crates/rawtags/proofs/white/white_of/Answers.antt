@@ -1,8 +1,6 @@
 use Rattle.rawtags.specs.White.{white_reading}
 use Rattle.rawtags.proofs.BlackLaws.{whites_in}
-use borrow.Author.Rules.{rules}
 use Rattle.rawtags.proofs.white.white_of.Goals as goal
-use Rattle.rawtags.proofs.white.white_of.Goals.{Start}
 
 pub returns : goal.returns
 unfolding white_reading

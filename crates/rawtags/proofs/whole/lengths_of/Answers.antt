@@ -1,21 +1,12 @@
-use mathlib.Core.Path.{◌≡◌, sym, ap, ◌∙◌}
-use Prim.Native.Nat.{◌+◌, ◌*◌, ◌≤◌}
+use mathlib.Core.Path.{sym, ap, ◌∙◌}
 use native.Mathlib.Omega.{arith}
-use lib.ListN.{length}
-use Rattle.reading.specs.Reading.{run}
-use Rattle.reading.specs.Facts.Number.{Wide}
-use Rattle.directory.specs.Out.{Out.is}
-use Rattle.directory.specs.Entry.{kind_width}
 use Rattle.directory.specs.Facts.Out.{number_out}
-use Rattle.directory.specs.Facts.Tag.{values_out, PlacedValues}
-use Rattle.directory.specs.Tag.{values_reading}
+use Rattle.directory.specs.Facts.Tag.{values_out}
 use Rattle.directory.specs.declared.tag.Kinds.TheVariants as kinds
-use Rattle.directory.specs.declared.tag.Values.{Values}
 use Rattle.directory.proofs.Outs.{bind_refused, bind_last}
 use Rattle.directory.proofs.Tags.{counted, looked_up}
-use Rattle.rawtags.specs.Whole.{whole_number_reading, lengths_rule, lengths_reading}
+use Rattle.rawtags.specs.Whole.{lengths_reading}
 use Rattle.rawtags.proofs.WholeLaws.{both_default, horizontal_refused, vertical_refused, both_is}
-use borrow.Author.Rules.{rules}
 use Rattle.rawtags.proofs.whole.lengths_of.Goals as goal
 
 pub returns-in-Refused : goal.returns-in-Refused

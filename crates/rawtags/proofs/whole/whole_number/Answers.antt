@@ -1,5 +1,4 @@
 use Rattle.rawtags.proofs.WholeLaws.{over_zero, quotient_is, not_whole}
-use borrow.Author.Rules.{rules}
 use Rattle.rawtags.proofs.whole.whole_number.Goals as goal
 
 pub returns-then-denominator-eq0 : goal.returns-then-denominator-eq0

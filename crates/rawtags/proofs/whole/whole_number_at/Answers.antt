@@ -1,9 +1,8 @@
 use mathlib.Core.Path.{◌≡◌, sym, ◌∙◌}
 use native.Mathlib.Omega.{arith}
 use Rattle.rawtags.proofs.WholeLaws.{rational_width, of_fraction, of_number}
-use borrow.Author.Rules.{rules}
 use Rattle.rawtags.proofs.whole.whole_number_at.Goals as goal
-use Rattle.rawtags.proofs.whole.whole_number_at.Goals.{After-long-denominator, After-long-numerator, After-value-n, Else-code-eq5, Then-code-eq5}
+use Rattle.rawtags.proofs.whole.whole_number_at.Goals.{Then-code-eq5}
 
 -- the bytes of a RATIONAL
 eight : (c : Then-code-eq5) → c.args.values.size ≡ 8
