@@ -39,15 +39,15 @@ pub struct Listings {
 }
 
 /// Where the core's program stands from the root of the repository.
-const PROGRAM: &str = "target/bin/listing";
+const PROGRAM: &str = "crates/listing/out/listing";
 
-/// The core's program; `rt check listing` makes it.
+/// The core's program; `rt run` in crates/listing makes it.
 pub fn program() -> Result<PathBuf, String> {
     let program = root().join(PROGRAM);
     if program.is_file() {
         return Ok(program);
     }
-    Err(format!("{PROGRAM} is not there: make it with `rt check listing` at the root"))
+    Err(format!("{PROGRAM} is not there: make it with `rt run` in crates/listing"))
 }
 
 /// The root of the repository.

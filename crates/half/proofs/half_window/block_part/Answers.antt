@@ -65,7 +65,7 @@ both_rows g q e =
     let b = g.requires.blocks_in.0 in
     let l = g.requires.le_width in
     let n = a.view.size.samples in
-    let i = fill_in b a.pair.now (2 * a.part.top) l.0.0 l.0.1 l.1 (rows_in b g.requires.blocks_in.2).0 q in
+    let i = fill_in b a.pair.now (2 * a.part.top) l.0 l.1 l.2 (rows_in b g.requires.blocks_in.2).0 q in
     let w = rows (2 * a.part.top) a.part in
     let u = g.fill_columns.ensures i (λ r k h b. absurd (omega (arith, zero-mul n))) in
     let z : 0 * n + 2 * a.part.width * n ≡ 2 * a.part.width * n = omega (arith, zero-mul n) in
@@ -100,8 +100,8 @@ fill_columns-requires c =
     let v = run a.file.now (levels_reading a.view.picture.order a.view.picture.raw.tags) in
     let n = a.view.picture.raw.tags.frame.samples in record {
       fill_in = (
-        fill_in b a.pair.now _ s.0.0 s.0.1 s.1 (rows_in b c.requires.blocks_in.2).0 b.file,
-        omega (arith, s.0.0),
+        fill_in b a.pair.now _ s.0 s.1 s.2 (rows_in b c.requires.blocks_in.2).0 b.file,
+        omega (arith, s.0),
         omega arith,
       );
       along_in = (

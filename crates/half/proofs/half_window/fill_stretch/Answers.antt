@@ -5,7 +5,7 @@ use borrow.Author.Rules.{rules}
 use lib.ListN.{length}
 use Rattle.develop.proofs.Windows.{viewed_sized, viewed_plain, copies_length, array_length, along_part}
 use Rattle.half.proofs.half_window.fill_stretch.Goals as goal
-use Rattle.half.proofs.half_window.fill_stretch.Goals.{After-fill_along, After-shared_slice_known-1, After-space-1, After-space-2-1, Start}
+use Rattle.half.proofs.half_window.fill_stretch.Goals.{After-fill_along, Start}
 
 fits : (n m k : ℕ) → k ≡ m → n ≤ m → n ≤ k
 fits n m k e h = omega arith
@@ -18,7 +18,7 @@ columns s =
     (omega (arith, s.requires.0.columns, s.requires.2.inside), z.columns)
 
 -- the room was given back with as many numbers
-lent : (k : After-space-2-1) → let v =
+lent : (k : After-fill_along) → let v =
     k.args.view in
     length k.fill_along.new.out ≡
     (v.picture.raw.tags.levels.repeat.rows + 1) * k.piece-q.result
@@ -34,7 +34,7 @@ overflow_mul-column c = let s =
 
 pub overflow_mul-part : goal.overflow_mul-part
 overflow_mul-part c = let s =
-    (goal.at.overflow_mul-part c).After-shared_slice_known-1 in omega (arith, s.requires.2.few)
+    (goal.at.overflow_mul-part c).Start in omega (arith, s.requires.2.few)
 
 pub piece-q-requires : goal.piece-q-requires
 piece-q-requires c =
@@ -43,7 +43,7 @@ piece-q-requires c =
 
 pub overflow_add-e : goal.overflow_add-e
 overflow_add-e c = let s =
-    (goal.at.overflow_add-e c).After-shared_slice_known-1 in omega
+    (goal.at.overflow_add-e c).Start in omega
     (arith, s.requires.0.file.picture_in.raw.tags.levels.repeat.rows)
 
 pub overflow_mul-e : goal.overflow_mul-e
@@ -56,10 +56,10 @@ slice_bounds-space-end c =
 
 pub fill_along-requires : goal.fill_along-requires
 fill_along-requires c =
-    let s = (goal.at.fill_along-requires c).After-shared_slice_known-1 in
-    let p = c.piece-q in (
-      s.requires.0.file.picture_in.raw,
-      omega (arith, (columns (goal.at.fill_along-requires c).After-shared_slice_known-1).0, (columns (goal.at.fill_along-requires c).After-shared_slice_known-1).1),
+    let p = c.piece-q in
+    let z = columns (goal.at.fill_along-requires c).Start in (
+      c.requires.0.file.picture_in.raw,
+      omega (arith, z.0, z.1),
       p.ensures.0,
       p.ensures.1,
       copies_length _ _ 1536 p.ensures.2,
@@ -80,7 +80,7 @@ block_columns-requires c =
     let m = (c.args.view.picture.raw.tags.levels.repeat.rows + 1) * p.result in record {
       blocks_in = c.requires;
       along_in = (
-        along_part _ _ _ _ m a.new.out _ (lent (goal.at.block_columns-requires c).After-space-1) y,
+        along_part _ _ _ _ m a.new.out _ (lent (goal.at.block_columns-requires c).After-fill_along) y,
         viewed_plain c.args.file.now c.args.view c.requires.0.file if1.true _ _,
       );
     }
