@@ -19,9 +19,6 @@ use Rattle.rows.proofs.Sweeps.{Swept, swept_start, swept_step, swept_end, every_
 use Rattle.rows.proofs.gain_map.sweep_gain.Goals as goal
 use Rattle.rows.proofs.gain_map.sweep_gain.Goals.{After-corners_near-corners, Start}
 
-abbrev columns_of : ℕ → ℕ → ℕ → ℕ → ℕ → ℕ → Columns
-columns_of left pitch skip first end step = record { left = left; pitch = pitch; skip = skip; first = first; end = end; step = step }
-
 pub corners_at-corners-requires : goal.corners_at-corners-requires
 corners_at-corners-requires c =
     let h = c.requires.gain_map_in in

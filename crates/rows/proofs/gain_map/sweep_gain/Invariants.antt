@@ -14,7 +14,7 @@ use Rattle.opcodes.specs.declared.gain_map.Axis.{Axis}
 use Rattle.opcodes.proofs.BracketLaws.{point_below, corners_found, corners_point, corners_own, corners_sides}
 use Rattle.rows.specs.Facts.GainMap.{column_at, times_gain}
 use Rattle.rows.specs.declared.gain_map.Columns.{Columns}
-use Rattle.rows.proofs.Gains.{column_first, column_more}
+use Rattle.rows.proofs.Gains.{columns_of, column_first, column_more}
 use Rattle.rows.proofs.Sweeps.{Swept, swept_start, swept_step, swept_end, every_tell}
 use Rattle.rows.proofs.gain_map.sweep_gain.Given as goal
 

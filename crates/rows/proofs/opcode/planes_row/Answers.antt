@@ -23,7 +23,7 @@ overflow_add-stop c =
 
 pub skipped-skip-requires : goal.skipped-skip-requires
 skipped-skip-requires c = let s =
-    (goal.at.skipped-skip-requires c).Start in (s.requires.0.0, s.requires.0.1, s.requires.0.2)
+    (goal.at.skipped-skip-requires c).Start in (s.requires.column_pitch_nonzero.0, s.requires.column_pitch_nonzero.1, s.requires.column_pitch_nonzero.2)
 
 pub first_at-first-requires : goal.first_at-first-requires
 first_at-first-requires c =
@@ -31,11 +31,11 @@ first_at-first-requires c =
 
 pub end_at-end-requires : goal.end_at-end-requires
 end_at-end-requires c = let s =
-    (goal.at.end_at-end-requires c).Start in (s.requires.0.4, s.requires.0.5)
+    (goal.at.end_at-end-requires c).Start in (s.requires.column_pitch_nonzero.4, s.requires.column_pitch_nonzero.5)
 
 pub dense-requires : goal.dense-requires
 dense-requires c = let s =
-    (goal.at.dense-requires c).Start in (omega arith, s.requires.0.7)
+    (goal.at.dense-requires c).Start in (omega arith, s.requires.column_pitch_nonzero.7)
 
 -- ---- one pass
 pub sweep_row-requires : goal.sweep_row-requires
@@ -103,7 +103,7 @@ loop-p-preserved c =
     let a = c.args in (
       omega (arith, v.invariant.0),
       omega (arith, t),
-      w.auto.1.1.1.1.1.0 ∙ v.invariant.2,
+      w.auto.out ∙ v.invariant.2,
       planes_next _ _ _ _ _ _ _ c.requires.column_pitch_nonzero.0 v.p _ _ _ _ a.out.now v.out _
           c.skipped-skip.ensures.0 c.first_at-first.ensures.0 c.end_at-end.ensures
           v.invariant.0 (omega (arith, c.requires.column_pitch_nonzero, t)) refl v.invariant.3 w.ensures,
