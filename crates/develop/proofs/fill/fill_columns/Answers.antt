@@ -14,12 +14,9 @@ use Rattle.develop.specs.Facts.Fill.{Upto}
 use Rattle.develop.specs.Facts.View.{Viewed}
 use Rattle.develop.specs.declared.View.{View}
 use Rattle.develop.proofs.Windows.{Partly, partly_start, partly_next, partly_end, from_column, part_length, viewed_sized}
-use Rattle.develop.proofs.Windows.{viewed_wide}
+use Rattle.develop.proofs.Windows.{value_of, viewed_wide}
 use Rattle.develop.proofs.fill.fill_columns.Goals as goal
 use Rattle.develop.proofs.fill.fill_columns.Goals.{Start}
-
-abbrev value : (f : List ℕ) (v : View) → Viewed f v → ℕ → ℕ → ℕ → ℕ → Float
-value f v q top left r k = alone_in f q.file (top + r) (left + k / v.size.samples) (k % v.size.samples)
 
 abbrev samples : Start → ℕ
 samples s = s.args.view.size.samples
@@ -73,7 +70,7 @@ loop-i-init c =
       refl,
       omega arith,
       omega arith,
-      λ q u. partly_start (value s.args.file.now s.args.view q w.top w.left) w.height (row (goal.at.loop-i-init c).Start) (s.args.from * samples (goal.at.loop-i-init c).Start)
+      λ q u. partly_start (value_of s.args.file.now s.args.view q w.top w.left) w.height (row (goal.at.loop-i-init c).Start) (s.args.from * samples (goal.at.loop-i-init c).Start)
           (s.args.count * samples (goal.at.loop-i-init c).Start) s.args.out.now u,
     )
 
@@ -163,7 +160,7 @@ loop-i-preserved c =
       search rules,
       omega (arith, t),
       omega (arith, add-mul l.i 1 (row (goal.at.loop-i-preserved c).Start), l.invariant.2),
-      λ q u. partly_next (value f v q s.args.window.top s.args.window.left) s.args.window.height (row (goal.at.loop-i-preserved c).Start)
+      λ q u. partly_next (value_of f v q s.args.window.top s.args.window.left) s.args.window.height (row (goal.at.loop-i-preserved c).Start)
           (s.args.from * samples (goal.at.loop-i-preserved c).Start) n l.i l.a l.out developed-part.new.out t fits l.invariant.2
           (l.invariant.0 ∙ s.requires.fill_in.0.length_is) (search rules) (l.invariant.3 q u)
           (λ k b. developed-part.ensures q k (omega (arith, z))
