@@ -45,7 +45,10 @@ pub piece-q-requires : goal.piece-q-requires
 piece-q-requires c =
     let s = (goal.at.piece-q-requires c).Start in
     let t = s.requires.fill_in.0.file.picture_in.raw.tags in
-    let r = t.levels.repeat in record { le_len = ((numbers (goal.at.piece-q-requires c).Start).0, r.some_rows, r.rows, r.some_columns, r.columns); le_samples = (t.frame.some_samples, t.frame.samples) }
+    let r = t.levels.repeat in record {
+      le_len = ((numbers s).0, r.some_rows, r.rows, r.some_columns, r.columns);
+      le_samples = (t.frame.some_samples, t.frame.samples);
+    }
 
 pub overflow_add-e : goal.overflow_add-e
 overflow_add-e c = let s =

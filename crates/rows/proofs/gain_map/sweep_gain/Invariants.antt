@@ -20,7 +20,8 @@ use Rattle.rows.proofs.gain_map.sweep_gain.Given as goal
 
 abbrev pub invariant-loop-i : goal.invariant-loop-i
 invariant-loop-i l =
-    Swept l.first l.end l.step (λ k x. times_gain l.ps l.down l.q l.width (column_at (columns_of l.left l.pitch l.skip l.first l.end l.step) k) x) l.i l.initial.out l.out
+    Swept l.first l.end l.step (λ k x. times_gain l.ps l.down l.q l.width (column_at (columns_of l.left l.pitch l.skip l.first l.end l.step) k) x) l.i
+    l.initial.out l.out
     × (l.c ≡ column_at (columns_of l.left l.pitch l.skip l.first l.end l.step) l.i) × (l.corners ≡ corners_of (gain_map_of l.ps) l.down l.q l.corners.point)
     × (l.corners.point < long_of l.ps 36)
 

@@ -11,7 +11,10 @@ low-requires c =
 pub sweep_cubic-requires : goal.sweep_cubic-requires
 sweep_cubic-requires c =
     let pre = c.requires in
-    let q = c.low.ensures c.if-low.true in record { pitch_nonzero = (pre.pitch_nonzero.0, pre.pitch_nonzero.1, pre.pitch_nonzero.2); at_in_bounds = (pre.part_in.0.coefficients q.0, q.1, pre.part_in.1) }
+    let q = c.low.ensures c.if-low.true in record {
+      pitch_nonzero = (pre.pitch_nonzero.0, pre.pitch_nonzero.1, pre.pitch_nonzero.2);
+      at_in_bounds = (pre.part_in.0.coefficients q.0, q.1, pre.part_in.1);
+    }
 
 pub step_for-requires : goal.step_for-requires
 step_for-requires c =
