@@ -26,6 +26,6 @@ returns-in-Refused-list_of c =
 
 pub returns-in-Is-list_of : goal.returns-in-Is-list_of
 returns-in-Is-list_of c =
-    list_viewed c.args.file.now _ (ap front_out (sym c.in-Is.is) ∙ c.«open».ensures.0) _ _ c.size_of-size.ensures
+    list_viewed c.args.file.now _ (ap front_out (sym c.in-Is.is) ∙ c.«open».ensures.0) _ _ c.size_of.ensures
     (subst (FrontIn c.args.file.now) c.in-Is.is c.«open».ensures.1)
     (ap list_out (sym c.in-Is-list_of.is) ∙ c.list_of.ensures)
