@@ -31,11 +31,18 @@ use Rattle.opcodes.proofs.StepLaws.{on_in, plain_listed}
 use Rattle.opcodes.proofs.BracketLaws.{gain_in_law}
 use Rattle.opcodes.proofs.GainMaps.{map_accepted, fault_map, fault_plain}
 use Rattle.rows.specs.Facts.Sweep.{planes_of, over_part}
-use Rattle.rows.specs.Facts.GainMap.{column_at, gain_line}
+use Rattle.rows.specs.Facts.GainMap.{column_at, times_gain, gain_line}
 use Rattle.rows.specs.Facts.Part.{KeptIn, PlainIn, kept_of, gained_of}
 use Rattle.samples.proofs.Eaches.{each_same, each_none}
 use Rattle.rows.proofs.GridColumns.{whole}
 use Rattle.rows.proofs.Sweeps.{every_told, line_first, line_more}
+
+-- ---- what the loops go by: the columns of the locals, and the gains along a row of map plane p
+abbrev pub columns_of : ℕ → ℕ → ℕ → ℕ → ℕ → ℕ → Columns
+columns_of left pitch skip first end step = record { left = left; pitch = pitch; skip = skip; first = first; end = end; step = step }
+
+abbrev pub along : List ℕ → Bracket → ℕ → ℕ → ℕ → ℕ → ℕ → ℕ → Float → Float
+along ps down plane width left pitch p j x = times_gain ps down (min (p - plane) (planes_in ps - 1)) width (left + j * pitch) x
 
 -- ---- the active columns of a grid's columns
 -- one of the grid is below its right end

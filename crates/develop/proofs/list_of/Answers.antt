@@ -10,12 +10,12 @@ size_of-requires c = let a =
 pub test_list-requires : goal.test_list-requires
 test_list-requires c =
     let t = c.requires.raw.tags in
-    let e = c.type_size.ensures in
-    let r : c.type_size.result.rows ≤ 16384 = rw e (omega (arith, t.area.bottom, t.frame.rows)) in
-    let k : c.type_size.result.columns ≤ 16384 = rw e (omega (arith, t.area.right, t.frame.columns)) in
+    let e = c.size_of.ensures in
+    let r : c.size_of.result.rows ≤ 16384 = rw e (omega (arith, t.area.bottom, t.frame.rows)) in
+    let k : c.size_of.result.columns ≤ 16384 = rw e (omega (arith, t.area.right, t.frame.columns)) in
     (list_inside _ _ t.list, r, k, t.list.enough)
 
 pub returns : goal.returns
 returns c =
-    let e = c.type_size.ensures in
+    let e = c.size_of.ensures in
     rw e at c.test_list.ensures

@@ -3,18 +3,17 @@ use Rattle.develop.specs.Calls.{colour_window_of}
 use Rattle.develop.specs.Facts.View.{OpeningIs}
 use borrow.Author.Rules.{rules}
 use Rattle.develop.proofs.colour_window.colour_window.Goals as goal
-use Rattle.develop.proofs.colour_window.colour_window.Goals.{After-open}
 
 pub colour_window_in-requires : goal.colour_window_in-requires
 colour_window_in-requires c =
     let a = c.args in
-    let open-call = (goal.at.colour_window_in-requires c).After-open.«open» in
+    let open-call = c.«open» in
     let f = a.file.now in
     subst (OpeningIs f) c.in-Is.is open-call.ensures
 
 pub returns-in-Refused : goal.returns-in-Refused
 returns-in-Refused c =
-    let open-call = (goal.at.returns-in-Refused c).After-open.«open» in
+    let open-call = c.«open» in
     let a = c.args in
     let o = subst (OpeningIs a.file.now) c.in-Refused.is open-call.ensures in
     ap (colour_window_of a.file.now a.top a.left a.height a.width a.out.now) o

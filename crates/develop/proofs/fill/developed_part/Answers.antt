@@ -13,7 +13,11 @@ developed_row-requires c =
     let f = c.args.file.now in
     let q = c.requires.viewed.0 in
     let r : v.size.rows ≡ active_rows v.picture.raw.tags.area = ap (λ (z : Size). z.rows) q.size in
-    let l : v.size.columns ≡ active_columns v.picture.raw.tags.area = ap (λ (z : Size). z.columns) q.size in record { raw_in = (q.picture_in.raw, omega (arith, c.requires.viewed.1), omega (arith, c.requires.viewed.2)); wide_in = (c.requires.viewed.3, c.requires.along_in.0, c.requires.along_in.1); list_read = (viewed_list f v q, viewed_sized f v q, samples_is f v q) }
+    let l : v.size.columns ≡ active_columns v.picture.raw.tags.area = ap (λ (z : Size). z.columns) q.size in record {
+      raw_in = (q.picture_in.raw, omega (arith, c.requires.viewed.1), omega (arith, c.requires.viewed.2));
+      wide_in = (c.requires.viewed.3, c.requires.along_in.0, c.requires.along_in.1);
+      list_read = (viewed_list f v q, viewed_sized f v q, samples_is f v q);
+    }
 
 pub returns : goal.returns
 returns c q =

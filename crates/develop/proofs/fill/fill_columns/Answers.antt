@@ -14,12 +14,9 @@ use Rattle.develop.specs.Facts.Fill.{Upto}
 use Rattle.develop.specs.Facts.View.{Viewed}
 use Rattle.develop.specs.declared.View.{View}
 use Rattle.develop.proofs.Windows.{Partly, partly_start, partly_next, partly_end, from_column, part_length, viewed_sized}
-use Rattle.develop.proofs.Windows.{viewed_wide}
+use Rattle.develop.proofs.Windows.{value_of, viewed_wide}
 use Rattle.develop.proofs.fill.fill_columns.Goals as goal
 use Rattle.develop.proofs.fill.fill_columns.Goals.{Start}
-
-abbrev value : (f : List ℕ) (v : View) → Viewed f v → ℕ → ℕ → ℕ → ℕ → Float
-value f v q top left r k = alone_in f q.file (top + r) (left + k / v.size.samples) (k % v.size.samples)
 
 abbrev samples : Start → ℕ
 samples s = s.args.view.size.samples
@@ -73,15 +70,15 @@ loop-i-init c =
       refl,
       omega arith,
       omega arith,
-      λ q u. partly_start (value s.args.file.now s.args.view q w.top w.left) w.height (row (goal.at.loop-i-init c).Start) (s.args.from * samples (goal.at.loop-i-init c).Start)
-          (s.args.count * samples (goal.at.loop-i-init c).Start) s.args.out.now u,
+      λ q u. partly_start (value_of s.args.file.now s.args.view q w.top w.left) w.height (row s) (s.args.from * samples s)
+          (s.args.count * samples s) s.args.out.now u,
     )
 
 pub overflow_add-e : goal.overflow_add-e
 overflow_add-e c =
     let s = (goal.at.overflow_add-e c).Start in
     let l = c.loop-i in
-    omega (arith, rows (goal.at.overflow_add-e c).Start l.i c.loop-i-test.true, part (goal.at.overflow_add-e c).Start, l.invariant.2, l.invariant.0, s.well_formed.1.1.1.1.1.1.1.0.1)
+    omega (arith, rows s l.i c.loop-i-test.true, part s, l.invariant.2, l.invariant.0, s.well_formed.1.1.1.1.1.1.1.0.1)
 
 pub overflow_add-row : goal.overflow_add-row
 overflow_add-row c =
@@ -97,13 +94,13 @@ pub offset_bounds-out-a : goal.offset_bounds-out-a
 offset_bounds-out-a c =
     let s = (goal.at.offset_bounds-out-a c).Start in
     let l = c.loop-i in
-    omega (arith, rows (goal.at.offset_bounds-out-a c).Start l.i c.loop-i-test.true, part (goal.at.offset_bounds-out-a c).Start, l.invariant.2, l.invariant.0, s.well_formed.1.1.1.1.1.1.1.0.1)
+    omega (arith, rows s l.i c.loop-i-test.true, part s, l.invariant.2, l.invariant.0, s.well_formed.1.1.1.1.1.1.1.0.1)
 
 pub slice_bounds-developed_part-end : goal.slice_bounds-developed_part-end
 slice_bounds-developed_part-end c =
     let s = (goal.at.slice_bounds-developed_part-end c).Start in
     let l = c.loop-i in
-    omega (arith, rows (goal.at.slice_bounds-developed_part-end c).Start l.i c.loop-i-test.true, part (goal.at.slice_bounds-developed_part-end c).Start, l.invariant.2, l.invariant.0, s.well_formed.1.1.1.1.1.1.1.0.1)
+    omega (arith, rows s l.i c.loop-i-test.true, part s, l.invariant.2, l.invariant.0, s.well_formed.1.1.1.1.1.1.1.0.1)
 
 pub developed_part-requires : goal.developed_part-requires
 developed_part-requires c =
@@ -111,10 +108,10 @@ developed_part-requires c =
     let l = c.loop-i in
     let f = s.args.file.now in
     let v = s.args.view in
-    let n = s.args.count * samples (goal.at.developed_part-requires c).Start in
+    let n = s.args.count * samples s in
     let w = s.requires.fill_in.0 in
     let levels = run f (levels_reading v.picture.order v.picture.raw.tags) in
-    let k = piece (goal.at.developed_part-requires c).Start l.a l.out (omega (arith, rows (goal.at.developed_part-requires c).Start l.i c.loop-i-test.true, part (goal.at.developed_part-requires c).Start, l.invariant.2, l.invariant.0)) in record {
+    let k = piece s l.a l.out (omega (arith, rows s l.i c.loop-i-test.true, part s, l.invariant.2, l.invariant.0)) in record {
       viewed = (
         w.file,
         omega (arith, w.rows, c.loop-i-test.true),
@@ -136,7 +133,7 @@ overflow_add-a c =
     let loop-test = c.loop-i-test in
     let s = (goal.at.overflow_add-a c).Start in
     let l = c.loop-i in
-    omega (arith, rows (goal.at.overflow_add-a c).Start l.i loop-test.true, part (goal.at.overflow_add-a c).Start, short (goal.at.overflow_add-a c).Start, l.invariant.2, s.well_formed.1.1.1.1.1.1.1.0.1)
+    omega (arith, rows s l.i loop-test.true, part s, short s, l.invariant.2, s.well_formed.1.1.1.1.1.1.1.0.1)
 
 pub overflow_add-i : goal.overflow_add-i
 overflow_add-i c =
@@ -156,18 +153,18 @@ loop-i-preserved c =
     let l = c.loop-i in
     let f = s.args.file.now in
     let v = s.args.view in
-    let n = s.args.count * samples (goal.at.loop-i-preserved c).Start in
+    let n = s.args.count * samples s in
     let t = c.loop-i-test.true in
-    let fits = part (goal.at.loop-i-preserved c).Start in
-    let z = piece (goal.at.loop-i-preserved c).Start l.a l.out (omega (arith, rows (goal.at.loop-i-preserved c).Start l.i t, fits, l.invariant.2, l.invariant.0)) in (
+    let fits = part s in
+    let z = piece s l.a l.out (omega (arith, rows s l.i t, fits, l.invariant.2, l.invariant.0)) in (
       search rules,
       omega (arith, t),
-      omega (arith, add-mul l.i 1 (row (goal.at.loop-i-preserved c).Start), l.invariant.2),
-      λ q u. partly_next (value f v q s.args.window.top s.args.window.left) s.args.window.height (row (goal.at.loop-i-preserved c).Start)
-          (s.args.from * samples (goal.at.loop-i-preserved c).Start) n l.i l.a l.out developed-part.new.out t fits l.invariant.2
+      omega (arith, add-mul l.i 1 (row s), l.invariant.2),
+      λ q u. partly_next (value_of f v q s.args.window.top s.args.window.left) s.args.window.height (row s)
+          (s.args.from * samples s) n l.i l.a l.out developed-part.new.out t fits l.invariant.2
           (l.invariant.0 ∙ s.requires.fill_in.0.length_is) (search rules) (l.invariant.3 q u)
           (λ k b. developed-part.ensures q k (omega (arith, z))
-          ∙ from_column (alone_in f q.file (s.args.window.top + l.i)) s.args.window.left s.args.from (samples (goal.at.loop-i-preserved c).Start) k
+          ∙ from_column (alone_in f q.file (s.args.window.top + l.i)) s.args.window.left s.args.from (samples s) k
           (viewed_sized f v q).some),
     )
 

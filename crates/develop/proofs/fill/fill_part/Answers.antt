@@ -6,7 +6,7 @@ use borrow.Author.Rules.{rules}
 use lib.ListN.{length}
 use Rattle.develop.proofs.Windows.{viewed_sized, viewed_plain, copies_length, array_length, along_part}
 use Rattle.develop.proofs.fill.fill_part.Goals as goal
-use Rattle.develop.proofs.fill.fill_part.Goals.{After-fill_along, After-shared_slice_known-1, After-space-1, After-space-2-1, Start}
+use Rattle.develop.proofs.fill.fill_part.Goals.{After-fill_along, After-space-1, After-space-2-1, Start}
 
 fits : (n m k : ℕ) → k ≡ m → n ≤ m → n ≤ k
 fits n m k e h = omega arith
@@ -39,18 +39,21 @@ overflow_add-column c =
 
 pub overflow_mul-count : goal.overflow_mul-count
 overflow_mul-count c =
-    omega (arith, (numbers (goal.at.overflow_mul-count c).After-shared_slice_known-1).1)
+    omega (arith, (numbers (goal.at.overflow_mul-count c).Start).1)
 
 pub piece-q-requires : goal.piece-q-requires
 piece-q-requires c =
-    let s = (goal.at.piece-q-requires c).After-shared_slice_known-1 in
+    let s = (goal.at.piece-q-requires c).Start in
     let t = s.requires.fill_in.0.file.picture_in.raw.tags in
-    let r = t.levels.repeat in record { le_len = ((numbers (goal.at.piece-q-requires c).After-shared_slice_known-1).0, r.some_rows, r.rows, r.some_columns, r.columns); le_samples = (t.frame.some_samples, t.frame.samples) }
+    let r = t.levels.repeat in record {
+      le_len = ((numbers s).0, r.some_rows, r.rows, r.some_columns, r.columns);
+      le_samples = (t.frame.some_samples, t.frame.samples);
+    }
 
 pub overflow_add-e : goal.overflow_add-e
 overflow_add-e c = let s =
-    (goal.at.overflow_add-e c).After-shared_slice_known-1 in omega
-    (arith, s.requires.0.0.file.picture_in.raw.tags.levels.repeat.rows)
+    (goal.at.overflow_add-e c).Start in omega
+    (arith, s.requires.fill_in.0.file.picture_in.raw.tags.levels.repeat.rows)
 
 pub overflow_mul-e : goal.overflow_mul-e
 overflow_mul-e c =
@@ -62,9 +65,9 @@ slice_bounds-space-end c =
 
 pub fill_along-requires : goal.fill_along-requires
 fill_along-requires c =
-    let s = (goal.at.fill_along-requires c).After-shared_slice_known-1 in
+    let s = (goal.at.fill_along-requires c).Start in
     let p = c.piece-q in
-    (s.requires.fill_in.0.file.picture_in.raw, column (goal.at.fill_along-requires c).After-shared_slice_known-1, p.ensures.0, p.ensures.1, copies_length _ _ 1536 p.ensures.2)
+    (s.requires.fill_in.0.file.picture_in.raw, column (goal.at.fill_along-requires c).Start, p.ensures.0, p.ensures.1, copies_length _ _ 1536 p.ensures.2)
 
 pub slice_bounds-fill_columns-end : goal.slice_bounds-fill_columns-end
 slice_bounds-fill_columns-end c =

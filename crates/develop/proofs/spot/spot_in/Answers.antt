@@ -13,13 +13,19 @@ scaled_at-x-requires c =
     let within = c.within in
     let if1 = c.if-within in
     let a = c.args in
-    let w = sym within.ensures ∙ if1.true in record { raw_in = c.requires.picture_in.raw; active_in = viewed_active a.file.now a.view c.requires a.row a.column a.plane w }
+    let w = sym within.ensures ∙ if1.true in record {
+      raw_in = c.requires.picture_in.raw;
+      active_in = viewed_active a.file.now a.view c.requires a.row a.column a.plane w;
+    }
 
 pub list_at-value-requires : goal.list_at-value-requires
 list_at-value-requires c =
     let a = c.args in
     let f = a.file.now in
-    let u = scaled_in_unit f a.view.picture.order a.view.picture.raw.tags a.row a.column a.plane in record { list_read = (viewed_list f a.view c.requires, viewed_sized f a.view c.requires); x_value = rw c.scaled_at-x.ensures u }
+    let u = scaled_in_unit f a.view.picture.order a.view.picture.raw.tags a.row a.column a.plane in record {
+      list_read = (viewed_list f a.view c.requires, viewed_sized f a.view c.requires);
+      x_value = rw c.scaled_at-x.ensures u;
+    }
 
 pub returns-then-within : goal.returns-then-within
 returns-then-within c =

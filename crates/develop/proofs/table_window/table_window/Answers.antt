@@ -3,18 +3,17 @@ use Rattle.develop.specs.Calls.{window_of}
 use Rattle.develop.specs.Facts.View.{OpeningIs}
 use borrow.Author.Rules.{rules}
 use Rattle.develop.proofs.table_window.table_window.Goals as goal
-use Rattle.develop.proofs.table_window.table_window.Goals.{After-open}
 
 pub table_window_in-requires : goal.table_window_in-requires
 table_window_in-requires c =
     let a = c.args in
-    let open-call = (goal.at.table_window_in-requires c).After-open.«open» in
+    let open-call = c.«open» in
     let f = a.file.now in
     subst (OpeningIs f) c.in-Is.is open-call.ensures
 
 pub returns-in-Refused : goal.returns-in-Refused
 returns-in-Refused c =
-    let open-call = (goal.at.returns-in-Refused c).After-open.«open» in
+    let open-call = c.«open» in
     let a = c.args in
     let o = subst (OpeningIs a.file.now) c.in-Refused.is open-call.ensures in
     ap (window_of a.file.now a.top a.left a.height a.width a.out.now) o

@@ -68,12 +68,14 @@ table_part-requires c =
 pub returns-then-down-from : goal.returns-then-down-from
 returns-then-down-from c =
     let met = (goal.at.returns-then-down-from c).After-rows_met in
-    let t = c.if-from-down.true in record { filled = λ q l u. c.table_part.ensures q; out_unchanged = λ b. absurd (omega (arith, t, place (goal.at.returns-then-down-from c).After-rows_met)) }
+    let t = c.if-from-down.true in record { filled = λ q l u. c.table_part.ensures q; out_unchanged = λ b. absurd (omega (arith, t, place met)) }
 
 pub returns-else-down-from : goal.returns-else-down-from
 returns-else-down-from c =
-    let met = (goal.at.returns-else-down-from c).After-rows_met in record { filled = λ q l u. absurd (omega (arith, c.if-down-from.false, c.if-from-down.true, place (goal.at.returns-else-down-from c).After-rows_met)); out_unchanged = λ b. refl }
+    let met = (goal.at.returns-else-down-from c).After-rows_met in
+    record { filled = λ q l u. absurd (omega (arith, c.if-down-from.false, c.if-from-down.true, place met)); out_unchanged = λ b. refl }
 
 pub returns-else-from-down : goal.returns-else-from-down
 returns-else-from-down c =
-    record { filled = λ q l u. absurd (omega (arith, c.if-from-down.false, place (goal.at.returns-else-from-down c).After-rows_met)); out_unchanged = λ b. refl }
+    let met = (goal.at.returns-else-from-down c).After-rows_met in
+    record { filled = λ q l u. absurd (omega (arith, c.if-from-down.false, place met)); out_unchanged = λ b. refl }

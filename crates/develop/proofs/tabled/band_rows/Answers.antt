@@ -68,7 +68,7 @@ band_row-requires c =
       s.requires.0,
       s.requires.1,
       t,
-      row_length (goal.at.band_row-requires c).Start l.a l.out (omega (arith, row_inside (goal.at.band_row-requires c).Start l.i t, l.invariant.2, l.invariant.0)),
+      row_length s l.a l.out (omega (arith, row_inside s l.i t, l.invariant.2, l.invariant.0)),
     )
 
 pub overflow_add-i : goal.overflow_add-i
@@ -88,7 +88,7 @@ loop-i-preserved c =
     let row = c.band_row in
     let a = s.args in
     let w = a.window in
-    let n = row_length (goal.at.loop-i-preserved c).Start l.a l.out (omega (arith, row_inside (goal.at.loop-i-preserved c).Start l.i t, l.invariant.2, l.invariant.0)) in (
+    let n = row_length s l.a l.out (omega (arith, row_inside s l.i t, l.invariant.2, l.invariant.0)) in (
       search rules,
       omega (arith, t),
       omega (arith, add-mul l.i 1 w.width, l.invariant.2),

@@ -7,11 +7,10 @@ use lib.ListN.{length}
 use Rattle.develop.proofs.Bands.{some_met, band_tables}
 use Rattle.develop.proofs.Windows.{viewed_sized}
 use Rattle.develop.proofs.tabled.fill_band.Goals as goal
-use Rattle.develop.proofs.tabled.fill_band.Goals.{After-columns_met-columns, After-raw-1, Start}
+use Rattle.develop.proofs.tabled.fill_band.Goals.{After-columns_met-columns}
 
 -- at most 64 tables
-few : (c : After-columns_met-columns) → let s = (FIXME c).Start in
-    (s.args.count * c.columns_met-columns.result ≤ 64) × (1 ≤ c.columns_met-columns.result)
+few : (c : After-columns_met-columns) → (c.args.count * c.columns_met-columns.result ≤ 64) × (1 ≤ c.columns_met-columns.result)
 few c =
     let a = c.args in
     let m = some_met a.file.now a.view a.window c.requires.0 in
@@ -50,12 +49,12 @@ fill_tables-requires c =
 
 pub band_rows-requires : goal.band_rows-requires
 band_rows-requires c =
-    let met = (goal.at.band_rows-requires c).After-raw-1 in
+    let met = (goal.at.band_rows-requires c).After-columns_met-columns in
     let a = met.args in
     let fill = c.fill_tables in
     let l : length fill.new.tables ≡ length a.tables.now = search rules in (
       met.requires.0,
       band_tables a.file.now a.view a.window met.requires.0 a.from a.count met.columns_met-columns.result _ met.columns_met-columns.ensures
-          (omega (arith, room (goal.at.band_rows-requires c).After-raw-1, l)) fill.ensures,
+          (omega (arith, room (goal.at.band_rows-requires c).After-columns_met-columns, l)) fill.ensures,
       met.requires.3,
     )

@@ -14,7 +14,10 @@ table_row-requires c =
     let v = c.args.view in
     let q = c.requires.viewed.0 in
     let r : v.size.rows ≡ active_rows v.picture.raw.tags.area = ap (λ (z : Size). z.rows) q.size in
-    let l : v.size.columns ≡ active_columns v.picture.raw.tags.area = ap (λ (z : Size). z.columns) q.size in record { raw_in = (q.picture_in.raw, omega (arith, c.requires.viewed.1), omega (arith, c.requires.viewed.2), c.requires.viewed.3); tags_value = c.requires.tags_value }
+    let l : v.size.columns ≡ active_columns v.picture.raw.tags.area = ap (λ (z : Size). z.columns) q.size in record {
+      raw_in = (q.picture_in.raw, omega (arith, c.requires.viewed.1), omega (arith, c.requires.viewed.2), c.requires.viewed.3);
+      tags_value = c.requires.tags_value;
+    }
 
 pub list_row-requires : goal.list_row-requires
 list_row-requires c =

@@ -30,7 +30,8 @@ overflow_mul-height c =
 
 pub overflow_mul-height-then-some_inside-2 : goal.overflow_mul-height-then-some_inside-2
 overflow_mul-height-then-some_inside-2 c =
-    let n : c.args.height * c.args.width * c.args.values ≤ 16384 * 16384 * 3 = mul-le-mul (product (goal.at.overflow_mul-height-then-some_inside-2 c).Then-some_inside-2) c.requires.1 in
+    let at-then-some_inside-2 = (goal.at.overflow_mul-height-then-some_inside-2 c).Then-some_inside-2 in
+    let n : c.args.height * c.args.width * c.args.values ≤ 16384 * 16384 * 3 = mul-le-mul (product at-then-some_inside-2) c.requires.1 in
     omega (arith, n)
 
 pub returns-then-len-height : goal.returns-then-len-height

@@ -8,7 +8,10 @@ use Rattle.rows.proofs.developed.developed_row.Goals.{Start}
 
 pub scaled_row-requires : goal.scaled_row-requires
 scaled_row-requires c =
-    record { raw_in = (c.requires.raw_in.0, c.requires.raw_in.1, c.requires.raw_in.2, c.requires.wide_in.0.0); along_in = (c.requires.wide_in.0.1, c.requires.wide_in.0.2) }
+    record {
+      raw_in = (c.requires.raw_in.0, c.requires.raw_in.1, c.requires.raw_in.2, c.requires.wide_in.0.0);
+      along_in = (c.requires.wide_in.0.1, c.requires.wide_in.0.2);
+    }
 
 pub list_row-requires : goal.list_row-requires
 list_row-requires c =

@@ -14,9 +14,6 @@ use Rattle.rows.proofs.GridColumns.{planes_start, planes_next, end_short, hits}
 use Rattle.rows.proofs.gain_map.gain_planes.Goals as goal
 use Rattle.rows.proofs.gain_map.gain_planes.Goals.{At-loop-p, Start}
 
-abbrev along : List ℕ → Bracket → ℕ → ℕ → ℕ → ℕ → ℕ → ℕ → Float → Float
-along ps down plane width left pitch p j x = times_gain ps down (min (p - plane) (planes_in ps - 1)) width (left + j * pitch) x
-
 -- a pitch in samples is small
 small : (pitch n : ℕ) → pitch < 0x1_0000_0000 → n ≤ 3 → pitch * n < 0x10_0000_0000
 small pitch n h k = omega (arith, mul-le-mul_left pitch k)
@@ -128,7 +125,7 @@ loop-p-preserved c =
     (g.left + j * g.column_pitch) x) v.out in (
       omega (arith, v.invariant.0),
       omega (arith, t),
-      w.auto.1.1.1.1.1.1.0 ∙ v.invariant.2,
+      w.auto.out ∙ v.invariant.2,
       planes_next (gain_line a.ps.now a.size g a.down) _ _ _ _ _ _ h.1.column_pitch v.p _ _ _ _ a.out.now v.out _
           k.ensures.0 f.ensures.0 e.ensures v.invariant.0 (omega (arith, h.1.planes, t)) refl v.invariant.3
           (w.ensures ∙ ap swept plane-for.ensures.0),

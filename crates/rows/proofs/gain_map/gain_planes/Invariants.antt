@@ -9,7 +9,7 @@ use Rattle.opcodes.specs.GainMap.{planes_in}
 use Rattle.opcodes.specs.declared.gain_map.Bracket.{Bracket}
 use Rattle.rows.specs.Facts.Sweep.{swept_of, planes_of}
 use Rattle.rows.specs.Facts.GainMap.{times_gain, gain_line}
-use Rattle.rows.proofs.Gains.{column_below}
+use Rattle.rows.proofs.Gains.{along, column_below}
 use Rattle.rows.proofs.GridColumns.{planes_start, planes_next, end_short, hits}
 use Rattle.rows.proofs.gain_map.gain_planes.Given as goal
 

@@ -36,7 +36,10 @@ gain_planes-requires c =
     let n = c.grid_at-g in
     let d = c.located-down in
     let among = subst (λ (x : Axis). BracketIn x.points d.result) c.down_axis.ensures d.ensures.1 in
-    let g = grid_in a.size a.ps.now c.requires.0 n.result n.ensures.by_index in record { sized_in = (c.requires.1, g, n.ensures.plane_bound.3, c.requires.2); gain_map_in = (map_in a.size a.ps.now c.requires.0, among) }
+    let g = grid_in a.size a.ps.now c.requires.0 n.result n.ensures.by_index in record {
+      sized_in = (c.requires.1, g, n.ensures.plane_bound.3, c.requires.2);
+      gain_map_in = (map_in a.size a.ps.now c.requires.0, among);
+    }
 
 pub returns-then-every : goal.returns-then-every
 returns-then-every c =

@@ -19,9 +19,6 @@ use Rattle.rows.proofs.Sweeps.{Swept, swept_start, swept_step, swept_end, every_
 use Rattle.rows.proofs.gain_map.sweep_gain.Goals as goal
 use Rattle.rows.proofs.gain_map.sweep_gain.Goals.{After-corners_near-corners, Start}
 
-abbrev columns_of : ℕ → ℕ → ℕ → ℕ → ℕ → ℕ → Columns
-columns_of left pitch skip first end step = record { left = left; pitch = pitch; skip = skip; first = first; end = end; step = step }
-
 pub corners_at-corners-requires : goal.corners_at-corners-requires
 corners_at-corners-requires c =
     let h = c.requires.gain_map_in in
@@ -51,14 +48,20 @@ located_near-bracket-requires c =
     let h = c.requires.gain_map_in in
     let v = c.loop-i in
     let t = every_tell _ _ _ v.i v.invariant.0.from c.loop-i-test.true v.invariant.0.point in
-    let d = corners_sides (gain_map_of a.ps.now) a.down a.q v.corners.point v.corners v.invariant.2 in record { axis_in = (subst AxisIn (sym h.1) h.0.across, omega (arith, v.invariant.1, c.requires.columns_in.0.inside v.i t), c.requires.columns_in.1); corners_in = subst (λ (x : Axis). CornersIn x v.corners) (sym h.1) (d.0, d.1, v.invariant.3) }
+    let d = corners_sides (gain_map_of a.ps.now) a.down a.q v.corners.point v.corners v.invariant.2 in record {
+      axis_in = (subst AxisIn (sym h.1) h.0.across, omega (arith, v.invariant.1, c.requires.columns_in.0.inside v.i t), c.requires.columns_in.1);
+      corners_in = subst (λ (x : Axis). CornersIn x v.corners) (sym h.1) (d.0, d.1, v.invariant.3);
+    }
 
 pub corners_near-corners-requires : goal.corners_near-corners-requires
 corners_near-corners-requires c =
     let loop = c.loop-i in
     let h = c.requires.gain_map_in in
     let t = c.located_near-bracket in
-    let k = point_below _ t.result (subst (λ (a : Axis). BracketIn a.points t.result) h.1 t.ensures.1) in record { gain_map_in = (h.0, h.2, h.3, omega (arith, k, c.point.ensures)); corners_value = loop.invariant.2 }
+    let k = point_below _ t.result (subst (λ (a : Axis). BracketIn a.points t.result) h.1 t.ensures.1) in record {
+      gain_map_in = (h.0, h.2, h.3, omega (arith, k, c.point.ensures));
+      corners_value = loop.invariant.2;
+    }
 
 pub offset_bounds-out-i : goal.offset_bounds-out-i
 offset_bounds-out-i c =

@@ -31,7 +31,10 @@ overflow_sub-bytes c =
 pub opcodes_at-requires : goal.opcodes_at-requires
 opcodes_at-requires c =
     let a = c.args in
-    let pre = c.requires in record { opcodes_read = (value_read a.file.now a.size a.at a.bytes c.if-bytes-eq0.false _ c.field.ensures.0 pre.list_read.0, pre.list_read.1); x_value = pre.x_value }
+    let pre = c.requires in record {
+      opcodes_read = (value_read a.file.now a.size a.at a.bytes c.if-bytes-eq0.false _ c.field.ensures.0 pre.list_read.0, pre.list_read.1);
+      x_value = pre.x_value;
+    }
 
 pub returns : goal.returns
 returns c =

@@ -28,10 +28,9 @@ pub returns-in-Carried : goal.returns-in-Carried
 returns-in-Carried c =
     let a = c.args in
     let classify = c.classify in
-    let told = c.enum_told-1 in
     λ i o e. c.opcode_row.ensures
     ∙ ap (λ (k : Opcode). over_part k a.row.0 a.column.0 a.size.samples a.out.now)
-    (sym (carried_is a.file.now a.size a.at a.header (sym told.given.1 ∙ classify.ensures) i o e))
+    (sym (carried_is a.file.now a.size a.at a.header (sym c.in-Carried.is ∙ classify.ensures) i o e))
 
 pub returns-in-Optional : goal.returns-in-Optional
 returns-in-Optional c =

@@ -93,7 +93,7 @@ loop-i-preserved c =
     header_at.ensures.value s) in (
       step_onward act a.file.now a.size a.count a.at a.bytes a.out.now loop.i loop.p loop.out _
           header_at.ensures.value s _ q,
-      listed-row.auto.1.1.1.1.1.1.0 ∙ loop.invariant.1,
+      listed-row.auto.out ∙ loop.invariant.1,
       subst AllInUnit (sym q) (over_units s.first a.row.0 a.column.0 a.size.samples loop.out loop.invariant.2),
     )
 

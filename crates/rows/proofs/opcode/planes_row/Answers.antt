@@ -23,19 +23,24 @@ overflow_add-stop c =
 
 pub skipped-skip-requires : goal.skipped-skip-requires
 skipped-skip-requires c = let s =
-    (goal.at.skipped-skip-requires c).Start in (s.requires.0.0, s.requires.0.1, s.requires.0.2)
+    (goal.at.skipped-skip-requires c).Start in (s.requires.column_pitch_nonzero.0, s.requires.column_pitch_nonzero.1, s.requires.column_pitch_nonzero.2)
 
 pub first_at-first-requires : goal.first_at-first-requires
-first_at-first-requires c =
-    (c.requires.column_pitch_nonzero.0, c.requires.column_pitch_nonzero.1, c.requires.column_pitch_nonzero.2, c.requires.column_pitch_nonzero.3, c.requires.column_pitch_nonzero.5)
+first_at-first-requires c = (
+  c.requires.column_pitch_nonzero.0,
+  c.requires.column_pitch_nonzero.1,
+  c.requires.column_pitch_nonzero.2,
+  c.requires.column_pitch_nonzero.3,
+  c.requires.column_pitch_nonzero.5,
+)
 
 pub end_at-end-requires : goal.end_at-end-requires
 end_at-end-requires c = let s =
-    (goal.at.end_at-end-requires c).Start in (s.requires.0.4, s.requires.0.5)
+    (goal.at.end_at-end-requires c).Start in (s.requires.column_pitch_nonzero.4, s.requires.column_pitch_nonzero.5)
 
 pub dense-requires : goal.dense-requires
 dense-requires c = let s =
-    (goal.at.dense-requires c).Start in (omega arith, s.requires.0.7)
+    (goal.at.dense-requires c).Start in (omega arith, s.requires.column_pitch_nonzero.7)
 
 -- ---- one pass
 pub sweep_row-requires : goal.sweep_row-requires
@@ -43,7 +48,11 @@ sweep_row-requires c =
     let end-at = c.end_at-end in
     let a = c.args in
     let d = c.dense.ensures c.if-dense.true in
-    let e = end-at.ensures in record { pitch_nonzero = (omega arith, omega arith, omega (arith, e, end_short a.grid.right a.column.0 a.n (length a.out.now)), c.requires.part_in.1); part_in = (part_few _ _ _ _ c.requires.part_in.0, c.requires.part_in.2); fact = (d.0, d.1) }
+    let e = end-at.ensures in record {
+      pitch_nonzero = (omega arith, omega arith, omega (arith, e, end_short a.grid.right a.column.0 a.n (length a.out.now)), c.requires.part_in.1);
+      part_in = (part_few _ _ _ _ c.requires.part_in.0, c.requires.part_in.2);
+      fact = (d.0, d.1);
+    }
 
 pub returns-then-dense : goal.returns-then-dense
 returns-then-dense c =
@@ -77,7 +86,12 @@ sweep_opcode-requires c =
     let e = c.end_at-end.ensures in
     let q : v.p < a.n = omega (arith, s.requires.column_pitch_nonzero, c.loop-p-test.true) in
     let w = end_short a.grid.right a.column.0 a.n (length a.out.now) in record {
-      pitch_nonzero = (mul-pos s.requires.column_pitch_nonzero.0 s.requires.column_pitch_nonzero.6, omega (arith, wide (goal.at.sweep_opcode-requires c).Start), omega (arith, e, w, v.invariant.2), s.requires.part_in.1);
+      pitch_nonzero = (
+        mul-pos s.requires.column_pitch_nonzero.0 s.requires.column_pitch_nonzero.6,
+        omega (arith, wide s),
+        omega (arith, e, w, v.invariant.2),
+        s.requires.part_in.1,
+      );
       part_in = (part_few _ _ _ _ s.requires.part_in.0, v.invariant.4);
       float_in = λ h k t.
           s.requires.part_in.0.column h _
@@ -103,7 +117,7 @@ loop-p-preserved c =
     let a = c.args in (
       omega (arith, v.invariant.0),
       omega (arith, t),
-      w.auto.1.1.1.1.1.0 ∙ v.invariant.2,
+      w.auto.out ∙ v.invariant.2,
       planes_next _ _ _ _ _ _ _ c.requires.column_pitch_nonzero.0 v.p _ _ _ _ a.out.now v.out _
           c.skipped-skip.ensures.0 c.first_at-first.ensures.0 c.end_at-end.ensures
           v.invariant.0 (omega (arith, c.requires.column_pitch_nonzero, t)) refl v.invariant.3 w.ensures,

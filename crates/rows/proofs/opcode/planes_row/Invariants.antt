@@ -16,7 +16,8 @@ use Rattle.rows.proofs.opcode.planes_row.Given as goal
 abbrev pub invariant-loop-p : goal.invariant-loop-p
 invariant-loop-p l =
     (l.plane ≤ l.p) × (l.p ≤ l.stop) × (length l.out ≡ length l.initial.out)
-    × (l.out ≡ planes_of (λ (_ j : ℕ) (x : Float). applied_of (step_of l.file l.at l.id l.i j) l.file x) l.left l.right l.pitch l.l l.n l.plane l.p l.initial.out) × AllInUnit l.out
+    × (l.out ≡ planes_of (λ (_ j : ℕ) (x : Float). applied_of (step_of l.file l.at l.id l.i j) l.file x) l.left l.right l.pitch l.l l.n l.plane l.p
+    l.initial.out) × AllInUnit l.out
 
 abbrev pub decreases-loop-p : goal.decreases-loop-p
 decreases-loop-p l = l.stop - l.p

@@ -19,7 +19,10 @@ Values f at j first end p = (k : ℕ) → every_of first end p k ≡ true → Fl
 pub add_columns-requires : goal.add_columns-requires
 add_columns-requires c =
     let a = c.args in
-    let v = c.requires.part_in.1 (inl c.if-id-eq11.true) in record { pitch_nonzero = (omega arith, omega arith, c.requires.pitch_nonzero.2); by_index = subst (Values a.file.now a.at a.j a.first a.end) c.if-pitch-eq1.true v }
+    let v = c.requires.float_in (inl c.if-id-eq11.true) in record {
+      pitch_nonzero = (omega arith, omega arith, c.requires.pitch_nonzero.2);
+      by_index = subst (Values a.file.now a.at a.j a.first a.end) c.if-pitch-eq1.true v;
+    }
 
 pub returns-then-pitch-eq1 : goal.returns-then-pitch-eq1
 returns-then-pitch-eq1 c =
@@ -29,7 +32,10 @@ returns-then-pitch-eq1 c =
 
 pub add_columns-requires-then-id-eq11 : goal.add_columns-requires-then-id-eq11
 add_columns-requires-then-id-eq11 c =
-    record { pitch_nonzero = (c.requires.pitch_nonzero.0, c.requires.pitch_nonzero.1, c.requires.pitch_nonzero.2); by_index = c.requires.part_in.1 (inl c.if-id-eq11.true) }
+    record {
+      pitch_nonzero = (c.requires.pitch_nonzero.0, c.requires.pitch_nonzero.1, c.requires.pitch_nonzero.2);
+      by_index = c.requires.float_in (inl c.if-id-eq11.true);
+    }
 
 pub returns-then-id-eq11 : goal.returns-then-id-eq11
 returns-then-id-eq11 c =
@@ -41,7 +47,10 @@ returns-then-id-eq11 c =
 pub scale_columns-requires : goal.scale_columns-requires
 scale_columns-requires c =
     let a = c.args in
-    let v = c.requires.part_in.1 (inr c.if-id-eq13.true) in record { pitch_nonzero = (omega arith, omega arith, c.requires.pitch_nonzero.2); by_index = subst (Values a.file.now a.at a.j a.first a.end) c.if-pitch-eq1-2.true v }
+    let v = c.requires.float_in (inr c.if-id-eq13.true) in record {
+      pitch_nonzero = (omega arith, omega arith, c.requires.pitch_nonzero.2);
+      by_index = subst (Values a.file.now a.at a.j a.first a.end) c.if-pitch-eq1-2.true v;
+    }
 
 pub returns-then-pitch-eq1-2 : goal.returns-then-pitch-eq1-2
 returns-then-pitch-eq1-2 c =
@@ -51,7 +60,10 @@ returns-then-pitch-eq1-2 c =
 
 pub scale_columns-requires-then-id-eq13 : goal.scale_columns-requires-then-id-eq13
 scale_columns-requires-then-id-eq13 c =
-    record { pitch_nonzero = (c.requires.pitch_nonzero.0, c.requires.pitch_nonzero.1, c.requires.pitch_nonzero.2); by_index = c.requires.part_in.1 (inr c.if-id-eq13.true) }
+    record {
+      pitch_nonzero = (c.requires.pitch_nonzero.0, c.requires.pitch_nonzero.1, c.requires.pitch_nonzero.2);
+      by_index = c.requires.float_in (inr c.if-id-eq13.true);
+    }
 
 pub returns-then-id-eq13 : goal.returns-then-id-eq13
 returns-then-id-eq13 c =
@@ -62,7 +74,7 @@ returns-then-id-eq13 c =
 -- ---- the others
 pub sweep_row-requires : goal.sweep_row-requires
 sweep_row-requires c =
-    record { pitch_nonzero = c.requires.pitch_nonzero; part_in = c.requires.part_in.0; fact = (c.if-id-eq11.false, c.if-id-eq13.false) }
+    record { pitch_nonzero = c.requires.pitch_nonzero; part_in = c.requires.part_in; fact = (c.if-id-eq11.false, c.if-id-eq13.false) }
 
 pub returns : goal.returns
 returns c =

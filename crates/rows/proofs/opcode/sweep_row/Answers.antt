@@ -6,26 +6,29 @@ use Rattle.rows.proofs.opcode.sweep_row.Goals.{Start}
 
 pub low-requires : goal.low-requires
 low-requires c =
-    c.requires.part_in.0.0.inside
+    c.requires.part_in.0.inside
 
 pub sweep_cubic-requires : goal.sweep_cubic-requires
 sweep_cubic-requires c =
     let pre = c.requires in
-    let q = c.low.ensures c.if-low.true in record { pitch_nonzero = (pre.pitch_nonzero.0, pre.pitch_nonzero.1, pre.pitch_nonzero.2); at_in_bounds = (pre.part_in.0.0.coefficients q.0, q.1, pre.part_in.0.1) }
+    let q = c.low.ensures c.if-low.true in record {
+      pitch_nonzero = (pre.pitch_nonzero.0, pre.pitch_nonzero.1, pre.pitch_nonzero.2);
+      at_in_bounds = (pre.part_in.0.coefficients q.0, q.1, pre.part_in.1);
+    }
 
 pub step_for-requires : goal.step_for-requires
 step_for-requires c =
     let a = c.args in
     let pre = c.requires in
-    (row_step_in a.file.now a.at a.id a.i pre.pitch_nonzero.3 pre.part_in.1.0 pre.part_in.1.1 pre.part_in.0.0, pre.pitch_nonzero.3)
+    (row_step_in a.file.now a.at a.id a.i pre.pitch_nonzero.3 pre.fact.0 pre.fact.1 pre.part_in.0, pre.pitch_nonzero.3)
 
 pub sweep_step-requires : goal.sweep_step-requires
 sweep_step-requires c =
     let a = c.args in record {
       pitch_nonzero = (c.requires.pitch_nonzero.0, c.requires.pitch_nonzero.1, c.requires.pitch_nonzero.2);
       step_in = (
-        step_held a.file.now a.at a.id a.i 0 _ c.requires.pitch_nonzero.3 c.requires.part_in.0.0 c.step_for.ensures,
-        c.requires.part_in.0.1,
+        step_held a.file.now a.at a.id a.i 0 _ c.requires.pitch_nonzero.3 c.requires.part_in.0 c.step_for.ensures,
+        c.requires.part_in.1,
       );
     }
 
