@@ -14,7 +14,12 @@ form_for-m-requires c =
     let grid-at = c.grid_at-g in
     let fit = fits_in _ _ (sym c.fits.ensures ∙ c.if-fits.true) in
     let z = c.requires in
-    let r = grid-at.ensures.plane_bound in record { top_le_bottom = (omega (arith, fit.some_rows), omega (arith, fit.rows, z.0), fit.row_pitch, r.2); left_le_right = (omega (arith, fit.some_columns), omega (arith, fit.columns, z.1), fit.column_pitch, r.3); n_bound = c.field.ensures.1 }
+    let r = grid-at.ensures.plane_bound in
+    record {
+      top_le_bottom = (omega (arith, fit.some_rows), omega (arith, fit.rows, z.0), fit.row_pitch, r.2);
+      left_le_right = (omega (arith, fit.some_columns), omega (arith, fit.columns, z.1), fit.column_pitch, r.3);
+      n_bound = c.field.ensures.1;
+    }
 
 pub exact-requires : goal.exact-requires
 exact-requires c =
@@ -60,7 +65,7 @@ returns-then-exact c =
     let h = d.if-ps-lt36.false in
     let x = sym exact.ensures ∙ c.if-exact.true in
     c.numbers_fault.ensures
-    ∙ fault_numbers a.size a.id a.ps.now h (fit (goal.at.returns-then-exact c).After-form_for-m) _ (own (goal.at.returns-then-exact c).After-form_for-m) _ d.field.ensures.0 _ d.form_for-m.ensures x _
+    ∙ fault_numbers a.size a.id a.ps.now h (fit d) _ (own d) _ d.field.ensures.0 _ d.form_for-m.ensures x _
     c.refused_in.ensures
 
 pub returns-else-exact : goal.returns-else-exact
@@ -69,7 +74,7 @@ returns-else-exact c =
     let a = d.args in
     let h = d.if-ps-lt36.false in
     let x = sym c.exact.ensures ∙ c.if-exact.false in
-    fault_inexact a.size a.id a.ps.now h (fit (goal.at.returns-else-exact c).After-form_for-m) _ (own (goal.at.returns-else-exact c).After-form_for-m) _ d.field.ensures.0 _ d.form_for-m.ensures x
+    fault_inexact a.size a.id a.ps.now h (fit d) _ (own d) _ d.field.ensures.0 _ d.form_for-m.ensures x
 
 pub returns-else-fits : goal.returns-else-fits
 returns-else-fits c =

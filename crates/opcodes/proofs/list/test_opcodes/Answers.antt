@@ -55,7 +55,11 @@ pub judge-requires : goal.judge-requires
 judge-requires c =
     let pre = c.requires in
     let loop-test = c.loop-i-test in
-    let v = c.loop-i.invariant in record { length_in_bounds = (omega (arith, v.1, c.if-rest-whole.false), pre.1, pre.2); kept_bound = (omega (arith, v.3, loop-test.true, pre.3), omega (arith, v.4, loop-test.true, pre.3)) }
+    let v = c.loop-i.invariant in
+    record {
+      length_in_bounds = (omega (arith, v.1, c.if-rest-whole.false), pre.1, pre.2);
+      kept_bound = (omega (arith, v.3, loop-test.true, pre.3), omega (arith, v.4, loop-test.true, pre.3));
+    }
 
 pub returns-in-Refused : goal.returns-in-Refused
 returns-in-Refused c =

@@ -15,16 +15,18 @@ use Rattle.samples.proofs.along.cells_row.Goals as goal
 use Rattle.samples.proofs.along.cells_row.Goals.{Start}
 
 pub overflow_mul-period : goal.overflow_mul-period
-overflow_mul-period c = let s =
-    (goal.at.overflow_mul-period c).Start in omega (arith, mul-le-mul s.requires.0.levels.repeat.columns s.requires.0.frame.samples)
+overflow_mul-period c =
+    let s = (goal.at.overflow_mul-period c).Start in
+    omega (arith, mul-le-mul s.requires.0.levels.repeat.columns s.requires.0.frame.samples)
 
 pub slice_bounds-first_cells-end : goal.slice_bounds-first_cells-end
 slice_bounds-first_cells-end c =
     omega (arith, c.smaller-n.ensures)
 
 pub repeat-requires : goal.repeat-requires
-repeat-requires c = let s =
-    (goal.at.repeat-requires c).Start in mul-pos
+repeat-requires c =
+    let s = (goal.at.repeat-requires c).Start in
+    mul-pos
     s.requires.0.levels.repeat.some_columns s.requires.1
 
 pub returns : goal.returns

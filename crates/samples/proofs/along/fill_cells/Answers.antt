@@ -28,21 +28,21 @@ pub overflow_add-e : goal.overflow_add-e
 overflow_add-e c =
     let s = (goal.at.overflow_add-e c).Start in
     let l = c.loop-r in
-    let i : l.r * s.args.q + s.args.q ≤ length s.args.out.now = inside (goal.at.overflow_add-e c).Start l.r (omega (arith, c.loop-r-test.true)) in
+    let i : l.r * s.args.q + s.args.q ≤ length s.args.out.now = inside s l.r (omega (arith, c.loop-r-test.true)) in
     omega (arith, i, l.invariant.2, s.well_formed.1.1.1.1.1.0.1)
 
 pub offset_bounds-out-a : goal.offset_bounds-out-a
 offset_bounds-out-a c =
     let s = (goal.at.offset_bounds-out-a c).Start in
     let l = c.loop-r in
-    let i : l.r * s.args.q + s.args.q ≤ length s.args.out.now = inside (goal.at.offset_bounds-out-a c).Start l.r (omega (arith, c.loop-r-test.true)) in
+    let i : l.r * s.args.q + s.args.q ≤ length s.args.out.now = inside s l.r (omega (arith, c.loop-r-test.true)) in
     omega (arith, i, l.invariant.2, s.well_formed.1.1.1.1.1.0.1)
 
 pub slice_bounds-cells_row-end : goal.slice_bounds-cells_row-end
 slice_bounds-cells_row-end c =
     let s = (goal.at.slice_bounds-cells_row-end c).Start in
     let l = c.loop-r in
-    let i : l.r * s.args.q + s.args.q ≤ length s.args.out.now = inside (goal.at.slice_bounds-cells_row-end c).Start l.r (omega (arith, c.loop-r-test.true)) in
+    let i : l.r * s.args.q + s.args.q ≤ length s.args.out.now = inside s l.r (omega (arith, c.loop-r-test.true)) in
     omega (arith, i, l.invariant.2, l.invariant.0)
 
 pub cells_row-requires : goal.cells_row-requires
@@ -57,7 +57,7 @@ loop-r-preserved c =
     let s = (goal.at.loop-r-preserved c).Start in
     let l = c.loop-r in
     let v = run s.args.file.now (levels_reading s.args.order s.args.tags) in
-    let i : l.r * s.args.q + s.args.q ≤ length s.args.out.now = inside (goal.at.loop-r-preserved c).Start l.r (omega (arith, loop-test.true)) in (
+    let i : l.r * s.args.q + s.args.q ≤ length s.args.out.now = inside s l.r (omega (arith, loop-test.true)) in (
       search rules,
       omega (arith, loop-test.true),
       omega (arith, add-mul l.r 1 s.args.q, l.invariant.2),

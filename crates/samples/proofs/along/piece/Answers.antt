@@ -52,5 +52,5 @@ returns-else-len-most c =
     let q = c.smaller-most.result in
     let e = c.smaller-most.ensures in
     let d : q / p * p ≤ q = div-mul-le_self q p in
-    let o : 1 ≤ q / p = (le-div_iff_mul-le (period (goal.at.returns-else-len-most c).Start).0).1 (omega (arith, (period (goal.at.returns-else-len-most c).Start).1)) in
-    (mul-pos o (period (goal.at.returns-else-len-most c).Start).0, omega arith, part_of _ _ _ (omega arith) m.1, λ l. mul-mod_left (q / p) p)
+    let o : 1 ≤ q / p = (le-div_iff_mul-le (period s).0).1 (omega (arith, (period s).1)) in
+    (mul-pos o (period s).0, omega arith, part_of _ _ _ (omega arith) m.1, λ l. mul-mod_left (q / p) p)

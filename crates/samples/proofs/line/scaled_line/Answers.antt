@@ -19,7 +19,11 @@ returns-then-line-ne0 c =
 
 pub scaled_shorts-requires : goal.scaled_shorts-requires
 scaled_shorts-requires c =
-    let if1 = c.if-line-ne0 in record { line_in = (c.requires.line_in.0, two c.args.line c.args.file.now _ c.requires.line_in.0 c.if-line-eq1.false, if1.false); out_in_bounds = c.requires.out_in_bounds }
+    let if1 = c.if-line-ne0 in
+    record {
+      line_in = (c.requires.line_in.0, two c.args.line c.args.file.now _ c.requires.line_in.0 c.if-line-eq1.false, if1.false);
+      out_in_bounds = c.requires.out_in_bounds;
+    }
 
 pub returns-then-line-eq1 : goal.returns-then-line-eq1
 returns-then-line-eq1 c =

@@ -21,19 +21,19 @@ pub overflow_mul-i : goal.overflow_mul-i
 overflow_mul-i c =
     let s = (goal.at.overflow_mul-i c).Start in
     let l = c.loop-i in
-    omega (arith, inside (goal.at.overflow_mul-i c).Start l.i (omega (arith, c.loop-i-test.true, l.invariant.0)), s.well_formed.1.0.1)
+    omega (arith, inside s l.i (omega (arith, c.loop-i-test.true, l.invariant.0)), s.well_formed.1.0.1)
 
 pub overflow_add-place : goal.overflow_add-place
 overflow_add-place c =
     let s = (goal.at.overflow_add-place c).Start in
     let l = c.loop-i in
-    omega (arith, inside (goal.at.overflow_add-place c).Start l.i (omega (arith, c.loop-i-test.true, l.invariant.0)), s.well_formed.1.0.1)
+    omega (arith, inside s l.i (omega (arith, c.loop-i-test.true, l.invariant.0)), s.well_formed.1.0.1)
 
 pub short-v-requires : goal.short-v-requires
 short-v-requires c =
     let s = (goal.at.short-v-requires c).Start in
     let l = c.loop-i in
-    omega (arith, inside (goal.at.short-v-requires c).Start l.i (omega (arith, c.loop-i-test.true, l.invariant.0)))
+    omega (arith, inside s l.i (omega (arith, c.loop-i-test.true, l.invariant.0)))
 
 pub loop-i-preserved : goal.loop-i-preserved
 loop-i-preserved c =

@@ -16,7 +16,7 @@ part s = let n = length s.args.out.now in length-take-le (n - 0) s.args.room.now
 pub fill_numbers-requires : goal.fill_numbers-requires
 fill_numbers-requires c =
     let s = (goal.at.fill_numbers-requires c).Start in
-    subst (LineIn s.args.file.now s.args.line) (sym (part (goal.at.fill_numbers-requires c).Start)) s.requires.line_in.0
+    subst (LineIn s.args.file.now s.args.line) (sym (part s)) s.requires.line_in.0
 
 pub scaled_numbers-requires : goal.scaled_numbers-requires
 scaled_numbers-requires c =

@@ -16,24 +16,29 @@ two : (s : Start) → (s.args.bytes ≡ 1 → ⊥) → s.args.bytes ≡ 2
 two s h = omega (arith, s.requires.1, s.requires.2)
 
 pub overflow_add-place : goal.overflow_add-place
-overflow_add-place c = let s =
-    (goal.at.overflow_add-place c).Start in omega (arith, inside s 1 c.if-bytes-eq1.true, s.well_formed.0.1)
+overflow_add-place c =
+    let s = (goal.at.overflow_add-place c).Start in
+    omega (arith, inside s 1 c.if-bytes-eq1.true, s.well_formed.0.1)
 
 pub byte-requires : goal.byte-requires
-byte-requires c = let s =
-    (goal.at.byte-requires c).Start in omega (arith, inside s 1 c.if-bytes-eq1.true)
+byte-requires c =
+    let s = (goal.at.byte-requires c).Start in
+    omega (arith, inside s 1 c.if-bytes-eq1.true)
 
 pub overflow_mul-i : goal.overflow_mul-i
-overflow_mul-i c = let s =
-    (goal.at.overflow_mul-i c).Start in omega (arith, inside s 2 (two s c.if-bytes-eq1.false), s.well_formed.0.1)
+overflow_mul-i c =
+    let s = (goal.at.overflow_mul-i c).Start in
+    omega (arith, inside s 2 (two s c.if-bytes-eq1.false), s.well_formed.0.1)
 
 pub overflow_add-place-else-bytes-eq1 : goal.overflow_add-place-else-bytes-eq1
-overflow_add-place-else-bytes-eq1 c = let s =
-    (goal.at.overflow_add-place-else-bytes-eq1 c).Start in omega (arith, inside s 2 (two s c.if-bytes-eq1.false), s.well_formed.0.1)
+overflow_add-place-else-bytes-eq1 c =
+    let s = (goal.at.overflow_add-place-else-bytes-eq1 c).Start in
+    omega (arith, inside s 2 (two s c.if-bytes-eq1.false), s.well_formed.0.1)
 
 pub short-requires : goal.short-requires
-short-requires c = let s =
-    (goal.at.short-requires c).Start in omega (arith, inside s 2 (two s c.if-bytes-eq1.false))
+short-requires c =
+    let s = (goal.at.short-requires c).Start in
+    omega (arith, inside s 2 (two s c.if-bytes-eq1.false))
 
 pub returns-then-bytes-eq1 : goal.returns-then-bytes-eq1
 returns-then-bytes-eq1 c =

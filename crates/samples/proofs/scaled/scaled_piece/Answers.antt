@@ -20,7 +20,10 @@ none xs k h = get_or-eq_default xs (pos 0) (omega arith)
 
 pub scaled_line-requires : goal.scaled_line-requires
 scaled_line-requires c =
-    record { line_in = (c.requires.line_in.0, omega (arith, c.requires.line_in.1, c.requires.line_in.2)); out_in_bounds = (c.requires.line_in.1, omega (arith, c.requires.line_in.1, c.requires.line_in.3)) }
+    record {
+      line_in = (c.requires.line_in.0, omega (arith, c.requires.line_in.1, c.requires.line_in.2));
+      out_in_bounds = (c.requires.line_in.1, omega (arith, c.requires.line_in.1, c.requires.line_in.3));
+    }
 
 pub slice_bounds-add_deltas-end : goal.slice_bounds-add_deltas-end
 slice_bounds-add_deltas-end c =
@@ -34,7 +37,14 @@ add_deltas-requires c =
 pub scaled_line-requires-else-deltas-eq0 : goal.scaled_line-requires-else-deltas-eq0
 scaled_line-requires-else-deltas-eq0 c =
     let if1 = c.if-deltas-eq0 in
-    let l = c.requires.small.2 (some _ if1.false) in record { line_in = (c.requires.line_in.0, omega (arith, c.requires.line_in.1, c.requires.line_in.2)); out_in_bounds = (fits _ (length c.args.sums.now) _ (search rules) (omega (arith, c.requires.line_in.1)), omega (arith, c.requires.line_in.1, c.requires.line_in.3)) }
+    let l = c.requires.small.2 (some _ if1.false) in
+    record {
+      line_in = (c.requires.line_in.0, omega (arith, c.requires.line_in.1, c.requires.line_in.2));
+      out_in_bounds = (
+        fits _ (length c.args.sums.now) _ (search rules) (omega (arith, c.requires.line_in.1)),
+        omega (arith, c.requires.line_in.1, c.requires.line_in.3),
+      );
+    }
 
 pub returns-then-deltas-eq0 : goal.returns-then-deltas-eq0
 returns-then-deltas-eq0 c =

@@ -39,7 +39,11 @@ scaled_piece-requires c =
         c.requires.line_in.2,
         c.requires.line_in.3,
       );
-      small = (c.requires.small.0, λ h. omega (arith, n, e, c.requires.small.1 h, l.invariant.0, l.invariant.2), λ h. omega (arith, c.requires.small.2 h, l.invariant.1));
+      small = (
+        c.requires.small.0,
+        λ h. omega (arith, n, e, c.requires.small.1 h, l.invariant.0, l.invariant.2),
+        λ h. omega (arith, c.requires.small.2 h, l.invariant.1),
+      );
     }
 
 pub loop-i-smaller : goal.loop-i-smaller

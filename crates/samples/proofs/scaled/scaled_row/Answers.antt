@@ -43,54 +43,62 @@ ends s =
     )
 
 pub overflow_mul-first : goal.overflow_mul-first
-overflow_mul-first c = let s =
-    (goal.at.overflow_mul-first c).Start in omega (arith, (ends s).0, (ends s).1, s.well_formed.1.1.1.1.1.0.1)
+overflow_mul-first c =
+    let s = (goal.at.overflow_mul-first c).Start in
+    omega (arith, (ends s).0, (ends s).1, s.well_formed.1.1.1.1.1.0.1)
 
 pub overflow_mul-last : goal.overflow_mul-last
-overflow_mul-last c = let s =
-    (goal.at.overflow_mul-last c).Start in omega (arith, (ends s).0, (ends s).1, s.well_formed.1.1.1.1.1.0.1)
+overflow_mul-last c =
+    let s = (goal.at.overflow_mul-last c).Start in
+    omega (arith, (ends s).0, (ends s).1, s.well_formed.1.1.1.1.1.0.1)
 
 pub overflow_add-first : goal.overflow_add-first
 overflow_add-first c =
-    let s = (goal.at.overflow_add-first c).Start in omega (arith, (ends (goal.at.overflow_add-first c).Start).0, (ends (goal.at.overflow_add-first c).Start).1, s.well_formed.1.1.1.1.1.0.1)
+    let s = (goal.at.overflow_add-first c).Start in
+    omega (arith, (ends s).0, (ends s).1, s.well_formed.1.1.1.1.1.0.1)
 
 pub offset_bounds-along-first : goal.offset_bounds-along-first
 offset_bounds-along-first c =
-    let s = (goal.at.offset_bounds-along-first c).Start in omega (arith, (ends (goal.at.offset_bounds-along-first c).Start).0, (ends (goal.at.offset_bounds-along-first c).Start).1, s.well_formed.1.1.1.1.1.0.1)
+    let s = (goal.at.offset_bounds-along-first c).Start in
+    omega (arith, (ends s).0, (ends s).1, s.well_formed.1.1.1.1.1.0.1)
 
 pub slice_bounds-scaled_with_deltas-end : goal.slice_bounds-scaled_with_deltas-end
 slice_bounds-scaled_with_deltas-end c =
-    let s = (goal.at.slice_bounds-scaled_with_deltas-end c).Start in omega (arith, (ends (goal.at.slice_bounds-scaled_with_deltas-end c).Start).0, (ends (goal.at.slice_bounds-scaled_with_deltas-end c).Start).1, s.well_formed.1.1.1.1.1.0.1)
+    let s = (goal.at.slice_bounds-scaled_with_deltas-end c).Start in
+    omega (arith, (ends s).0, (ends s).1, s.well_formed.1.1.1.1.1.0.1)
 
 pub overflow_add-last : goal.overflow_add-last
 overflow_add-last c =
-    let s = (goal.at.overflow_add-last c).Start in omega (arith, (ends (goal.at.overflow_add-last c).Start).0, (ends (goal.at.overflow_add-last c).Start).1, s.well_formed.1.1.1.1.1.0.1)
+    let s = (goal.at.overflow_add-last c).Start in
+    omega (arith, (ends s).0, (ends s).1, s.well_formed.1.1.1.1.1.0.1)
 
 pub offset_bounds-along-last : goal.offset_bounds-along-last
 offset_bounds-along-last c =
-    let s = (goal.at.offset_bounds-along-last c).Start in omega (arith, (ends (goal.at.offset_bounds-along-last c).Start).0, (ends (goal.at.offset_bounds-along-last c).Start).1, s.well_formed.1.1.1.1.1.0.1)
+    let s = (goal.at.offset_bounds-along-last c).Start in
+    omega (arith, (ends s).0, (ends s).1, s.well_formed.1.1.1.1.1.0.1)
 
 pub slice_bounds-scaled_with_deltas-end-2 : goal.slice_bounds-scaled_with_deltas-end-2
 slice_bounds-scaled_with_deltas-end-2 c =
-    let s = (goal.at.slice_bounds-scaled_with_deltas-end-2 c).Start in omega (arith, (ends (goal.at.slice_bounds-scaled_with_deltas-end-2 c).Start).0, (ends (goal.at.slice_bounds-scaled_with_deltas-end-2 c).Start).1, s.well_formed.1.1.1.1.1.0.1)
+    let s = (goal.at.slice_bounds-scaled_with_deltas-end-2 c).Start in
+    omega (arith, (ends s).0, (ends s).1, s.well_formed.1.1.1.1.1.0.1)
 
 pub scaled_with_deltas-requires : goal.scaled_with_deltas-requires
 scaled_with_deltas-requires c =
     let Line-of = c.line_of-line in
     let s = (goal.at.scaled_with_deltas-requires c).Start in
     let along = s.args.along.now in
-    let q = piece (goal.at.scaled_with_deltas-requires c).Start in
-    let a = s.args.row.0 % rows (goal.at.scaled_with_deltas-requires c).Start * q in
-    let z = rows (goal.at.scaled_with_deltas-requires c).Start * q in
+    let q = piece s in
+    let a = s.args.row.0 % rows s * q in
+    let z = rows s * q in
     let m : length (take (a + q - a) (drop a along)) ≡ q = omega
-    (arith, length-take (a + q - a) (drop a along), length-drop a along, (ends (goal.at.scaled_with_deltas-requires c).Start).0) in
+    (arith, length-take (a + q - a) (drop a along), length-drop a along, (ends s).0) in
     let k : length (take (z + q - z) (drop z along)) ≡ q = omega
-    (arith, length-take (z + q - z) (drop z along), length-drop z along, (ends (goal.at.scaled_with_deltas-requires c).Start).1) in record {
+    (arith, length-take (z + q - z) (drop z along), length-drop z along, (ends s).1) in record {
       line_in = (
         row_inside s.args.raw.tags s.requires.raw_in.0.tags.frame.some_samples s.args.file.now s.args.order
             s.requires.raw_in.0.tags s.args.row.0 s.args.column.0 s.requires.raw_in.1 _ Line-of.ensures _ s.requires.raw_in.3,
-        omega (arith, (ends (goal.at.scaled_with_deltas-requires c).Start).2),
-        omega (arith, (ends (goal.at.scaled_with_deltas-requires c).Start).3),
+        omega (arith, (ends s).2),
+        omega (arith, (ends s).3),
         omega arith,
       );
       small = (s.requires.along_in.1.small, s.requires.along_in.1.long);

@@ -41,7 +41,12 @@ long-word-requires c =
 
 pub loop-j-init : goal.loop-j-init
 loop-j-init c =
-    (refl, omega arith, word_at (goal.at.loop-j-init c).Else-out-lt4 0 c.long-word.result (omega (arith, c.if-out-lt4.false, c.requires)) c.long-word.ensures, λ x f k h. absurd (omega arith))
+    let e = (goal.at.loop-j-init c).Else-out-lt4 in (
+      refl,
+      omega arith,
+      word_at e 0 c.long-word.result (omega (arith, c.if-out-lt4.false, c.requires)) c.long-word.ensures,
+      λ x f k h. absurd (omega arith),
+    )
 
 pub overflow_mul-j : goal.overflow_mul-j
 overflow_mul-j c =
@@ -83,7 +88,7 @@ loop-j-preserved c =
     let z : 4 * l.j + 4 ≡ 4 * (l.j + 1) = omega arith in (
       search rules,
       omega (arith, t),
-      subst (λ (n : ℕ). WordIs next.result f n) z (word_at (goal.at.loop-j-preserved c).Else-out-lt4 (4 * l.j + 4) next.result (behind (goal.at.loop-j-preserved c).Else-out-lt4 l.j t).1 next.ensures),
+      subst (λ (n : ℕ). WordIs next.result f n) z (word_at e (4 * l.j + 4) next.result (behind e l.j t).1 next.ensures),
       λ x h. subst (λ (n : ℕ). Filled nan x n four.new.out) z
           (four.ensures x f l.invariant.2 (h l.j) (l.invariant.3 x h)),
     )

@@ -10,8 +10,9 @@ use Rattle.tables.proofs.row.look_up_groups.Goals as goal
 use Rattle.tables.proofs.row.look_up_groups.Goals.{Start}
 
 pub loop-at-init : goal.loop-at-init
-loop-at-init c = let s =
-    (goal.at.loop-at-init c).Start in (refl, s.requires.3, λ h. s.requires.4, λ f. f)
+loop-at-init c =
+    let s = (goal.at.loop-at-init c).Start in
+    (refl, s.requires.3, λ h. s.requires.4, λ f. f)
 
 pub look_up_group-requires : goal.look_up_group-requires
 look_up_group-requires c =

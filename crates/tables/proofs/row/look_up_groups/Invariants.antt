@@ -9,7 +9,8 @@ use Rattle.tables.proofs.row.look_up_groups.Given as goal
 abbrev pub invariant-loop-at : goal.invariant-loop-at
 invariant-loop-at l =
     (length l.out ≡ length l.initial.out) × (l.at ≤ length l.initial.out) × (l.at < length l.initial.out → l.at % l.columns ≡ 0)
-    × (Filled nan (found_along l.tables l.first l.columns l.bytes) l.from l.initial.out → Filled nan (found_along l.tables l.first l.columns l.bytes) l.at l.out)
+    × (Filled nan (found_along l.tables l.first l.columns l.bytes) l.from l.initial.out
+    → Filled nan (found_along l.tables l.first l.columns l.bytes) l.at l.out)
 
 abbrev pub decreases-loop-at : goal.decreases-loop-at
 decreases-loop-at l = length l.initial.out - l.at

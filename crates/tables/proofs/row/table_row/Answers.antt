@@ -32,7 +32,7 @@ look_up_row-requires c =
     let n = length a.out.now in
     let e = line.smaller-columns.ensures in
     let q = line.requires.raw_in.0.tags.levels.repeat in (
-      omega (arith, length-take (p + n - p) (drop p f), length-drop p f, inside (goal.at.look_up_row-requires c).After-line_of-line),
+      omega (arith, length-take (p + n - p) (drop p f), length-drop p f, inside line),
       omega (arith, e, q.some_columns, line.requires.tags_value.1),
       omega (arith, e, q.columns),
       omega (arith, e, line.requires.tags_value.2.inside, ap (λ (m : ℕ). min m n) (repeat_columns_are f a.order a.raw.tags)),
