@@ -58,6 +58,6 @@ pub record Worked : Type 0 where
   pub reads_both : run_of (λ (i : ℕ). reads (trace entries (crop_reading (ifd classic Little 2 0) 3 5)) i) 1 20 20 ≡ replicate 20 true
 
 pub worked : Worked
-unfolding run trace reads run_of and_then pick number_at number_of little_of bind kind_of plain_of kind_width entry_of find_from whole_reading value_reading tested_reading
-    absent_of values_reading whole_number_of whole_number_reading both_reading lengths_reading crop_of crop_reading
+unfolding run trace reads run_of and_then pick number_at number_of little_of bind kind_of plain_of kind_width entry_of find_from whole_reading value_reading
+    tested_reading absent_of values_reading whole_number_of whole_number_reading both_reading lengths_reading crop_of crop_reading
 worked = record { both = refl; defaults = refl; edge = refl; refusals = refl; outside = refl; origin_alone = refl; reads_both = refl }

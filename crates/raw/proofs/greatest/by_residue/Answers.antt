@@ -21,7 +21,11 @@ occurs c =
 
 pub greatest_delta-requires : goal.greatest_delta-requires
 greatest_delta-requires c =
-    let h = c.requires.n_bound in record { deltas_of = c.requires.deltas_of; n_bound = (h.0, omega (arith, h.1), omega (arith, h.2), omega (arith, (occurs (goal.at.greatest_delta-requires c).In-loop-i).0)) }
+    let h = c.requires.n_bound in
+    record {
+      deltas_of = c.requires.deltas_of;
+      n_bound = (h.0, omega (arith, h.1), omega (arith, h.2), omega (arith, (occurs (goal.at.greatest_delta-requires c).In-loop-i).0));
+    }
 
 pub bounds-found-i : goal.bounds-found-i
 bounds-found-i c =

@@ -25,7 +25,11 @@ delta s k =
 
 pub returns-then-deltas-eq0 : goal.returns-then-deltas-eq0
 returns-then-deltas-eq0 c =
-    let a = c.args in record { value = sym (greatest_delta_none a.file.now a.order a.deltas a.n a.step a.first c.requires.deltas_of c.if-deltas-eq0.true); result_bound = omega arith }
+    let a = c.args in
+    record {
+      value = sym (greatest_delta_none a.file.now a.order a.deltas a.n a.step a.first c.requires.deltas_of c.if-deltas-eq0.true);
+      result_bound = omega arith;
+    }
 
 -- there are no more deltas than rows or columns, and each that is asked for is there
 few_of : (n step first : ℕ) → n ≤ 16384 → first < n → times_of n step first ≤ 16384

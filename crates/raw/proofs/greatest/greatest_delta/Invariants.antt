@@ -12,7 +12,8 @@ use Rattle.raw.proofs.greatest.greatest_delta.Given as goal
 -- The invariant: the greatest of the deltas before the k-th, and those from it on, make the greatest of all.
 abbrev pub invariant-loop-k : goal.invariant-loop-k
 invariant-loop-k l =
-    Folded (λ (k : ℕ). get_or (run l.file (blacks_reading l.order kind.SignedRational l.deltas)) (l.first + l.step * k) (pos 0)) (times_of l.n l.step l.first) l.k
+    Folded (λ (k : ℕ). get_or (run l.file (blacks_reading l.order kind.SignedRational l.deltas)) (l.first + l.step * k) (pos 0))
+    (times_of l.n l.step l.first) l.k
     l.best
     × (nat_abs l.best ≤ most_black)
 

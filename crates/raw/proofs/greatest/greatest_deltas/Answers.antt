@@ -6,11 +6,19 @@ use Rattle.raw.proofs.greatest.greatest_deltas.Goals as goal
 
 pub by_residue-columns-requires : goal.by_residue-columns-requires
 by_residue-columns-requires c =
-    let h = c.requires in record { deltas_of = deltas_of_law c.args.file.now black_level_delta_h _ _ h.levels.column_deltas; n_bound = (omega (arith, h.area.right, h.frame.columns), h.levels.repeat.some_columns, h.levels.repeat.columns) }
+    let h = c.requires in
+    record {
+      deltas_of = deltas_of_law c.args.file.now black_level_delta_h _ _ h.levels.column_deltas;
+      n_bound = (omega (arith, h.area.right, h.frame.columns), h.levels.repeat.some_columns, h.levels.repeat.columns);
+    }
 
 pub by_residue-rows-requires : goal.by_residue-rows-requires
 by_residue-rows-requires c =
-    let h = c.requires in record { deltas_of = deltas_of_law c.args.file.now black_level_delta_v _ _ h.levels.row_deltas; n_bound = (omega (arith, h.area.bottom, h.frame.rows), h.levels.repeat.some_rows, h.levels.repeat.rows) }
+    let h = c.requires in
+    record {
+      deltas_of = deltas_of_law c.args.file.now black_level_delta_v _ _ h.levels.row_deltas;
+      n_bound = (omega (arith, h.area.bottom, h.frame.rows), h.levels.repeat.some_rows, h.levels.repeat.rows);
+    }
 
 pub returns : goal.returns
 returns c =

@@ -37,4 +37,7 @@ returns c =
     let fr : SFits w64 row.result = search rules in
     let e = rw (to_z-of_z fc, to_z-of_z fd, to_z-of_z fr) at c.black_sum.ensures.value in
     let g = black_for_law a.file.now a.order a.tags a.row.0 a.column.0 a.plane in
-    rw (to_z-of_z fb) record { value = e ∙ sum_same cell.ensures.value column.ensures.value row.ensures.value ∙ sym g; result_bound = c.black_sum.ensures.result_bound }
+    rw (to_z-of_z fb) record {
+      value = e ∙ sum_same cell.ensures.value column.ensures.value row.ensures.value ∙ sym g;
+      result_bound = c.black_sum.ensures.result_bound;
+    }

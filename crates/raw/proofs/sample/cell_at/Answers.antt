@@ -32,7 +32,11 @@ returns-then-cells-eq0 c =
     let f = a.file.now in
     let b = t.levels.black in
     let h = s.requires.0.levels.black in
-    let e = black_none f a.order (kind_for b.kind) b (λ k. (h.typed k).1 ∙ width_for _ (h.typed k).0) c.if-cells-eq0.true _ in record { value = sym (cell_for_law f a.order t a.row.0 a.column.0 a.plane ∙ e); result_bound = omega arith }
+    let e = black_none f a.order (kind_for b.kind) b (λ k. (h.typed k).1 ∙ width_for _ (h.typed k).0) c.if-cells-eq0.true _ in
+    record {
+      value = sym (cell_for_law f a.order t a.row.0 a.column.0 a.plane ∙ e);
+      result_bound = omega arith;
+    }
 
 pub overflow_mul-i : goal.overflow_mul-i
 overflow_mul-i c =

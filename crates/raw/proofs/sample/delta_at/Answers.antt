@@ -13,7 +13,11 @@ use Rattle.raw.proofs.sample.delta_at.Goals as goal
 pub returns-then-deltas-eq0 : goal.returns-then-deltas-eq0
 returns-then-deltas-eq0 c =
     let a = c.args in
-    let pre = c.requires in record { value = sym (black_none a.file.now a.order kind.SignedRational a.deltas (λ s. (pre.1 s).0) c.if-deltas-eq0.true a.i); result_bound = omega arith }
+    let pre = c.requires in
+    record {
+      value = sym (black_none a.file.now a.order kind.SignedRational a.deltas (λ s. (pre.1 s).0) c.if-deltas-eq0.true a.i);
+      result_bound = omega arith;
+    }
 
 pub overflow_mul-size : goal.overflow_mul-size
 overflow_mul-size c =

@@ -48,7 +48,11 @@ pub within_strip-requires : goal.within_strip-requires
 within_strip-requires c =
     let pre = c.requires in
     let f = pre.tags_in.frame in
-    let l = pre.tags_in.layout in record { width_bound = (f.columns, f.samples, l.bytes, l.some_rows); row_bound = (omega (arith, pre.row_lt_length.0, f.rows), pre.row_lt_length.1, pre.row_lt_length.2) }
+    let l = pre.tags_in.layout in
+    record {
+      width_bound = (f.columns, f.samples, l.bytes, l.some_rows);
+      row_bound = (omega (arith, pre.row_lt_length.0, f.rows), pre.row_lt_length.1, pre.row_lt_length.2);
+    }
 
 pub overflow_add-result : goal.overflow_add-result
 overflow_add-result c =

@@ -55,13 +55,19 @@ returns-then-tags-eq1 c =
     let span = c.span-first in
     let if1 = c.if-first-le0 in
     let v = held span.ensures in
-    let a = tested v.0 if1.false in
-    (three v.0 refl refl ∙ one_plane _ a (one (goal.at.returns-then-tags-eq1 c).Start c.if-tags-eq1.true), rw c.if-tags-eq1.true (spans_one _ (span_in_of _ if1.false v.1)))
+    let a = tested v.0 if1.false in (
+      three v.0 refl refl ∙ one_plane _ a (one (goal.at.returns-then-tags-eq1 c).Start c.if-tags-eq1.true),
+      rw c.if-tags-eq1.true (spans_one _ (span_in_of _ if1.false v.1)),
+    )
 
 pub span-second-requires : goal.span-second-requires
 span-second-requires c =
     let greatest-deltas = c.greatest_deltas-deltas in
-    let s = (goal.at.span-second-requires c).Start in record { tags_in = (s.requires, omega (arith, more (goal.at.span-second-requires c).Start c.if-tags-eq1.false)); greatest_in = greatest-deltas.ensures }
+    let s = (goal.at.span-second-requires c).Start in
+    record {
+      tags_in = (s.requires, omega (arith, more (goal.at.span-second-requires c).Start c.if-tags-eq1.false));
+      greatest_in = greatest-deltas.ensures;
+    }
 
 pub returns-then-second-le0 : goal.returns-then-second-le0
 returns-then-second-le0 c =
@@ -75,7 +81,11 @@ returns-then-second-le0 c =
 pub span-third-requires : goal.span-third-requires
 span-third-requires c =
     let greatest-deltas = c.greatest_deltas-deltas in
-    let s = (goal.at.span-third-requires c).Start in record { tags_in = (s.requires, omega (arith, more (goal.at.span-third-requires c).Start c.if-tags-eq1.false)); greatest_in = greatest-deltas.ensures }
+    let s = (goal.at.span-third-requires c).Start in
+    record {
+      tags_in = (s.requires, omega (arith, more (goal.at.span-third-requires c).Start c.if-tags-eq1.false));
+      greatest_in = greatest-deltas.ensures;
+    }
 
 pub returns-then-third-le0 : goal.returns-then-third-le0
 returns-then-third-le0 c =

@@ -45,7 +45,11 @@ returns-in-Refused-check_blacks c =
     let o = c.args.ifd.order in
     let e = ap (λ (k : BlackKind). run c.args.file.now (blacks_test o black_level k v.size v.count v.place))
     c.kind_for-kind.ensures in
-    let k = ap number_out (sym c.in-Refused-check_blacks.is) ∙ c.check_blacks.ensures ∙ e in record { result_value = bind_refused _ _ _ _ _ k ∙ sym (bind_is _ _ _ _ g); values_in = tt }
+    let k = ap number_out (sym c.in-Refused-check_blacks.is) ∙ c.check_blacks.ensures ∙ e in
+    record {
+      result_value = bind_refused _ _ _ _ _ k ∙ sym (bind_is _ _ _ _ g);
+      values_in = tt;
+    }
 
 pub returns-in-Is-check_blacks : goal.returns-in-Is-check_blacks
 unfolding black_reading
@@ -56,4 +60,8 @@ returns-in-Is-check_blacks c =
     let v = c.in-Is.v in
     let g = looked_up f a.ifd (black_rule a.repeat a.samples) c.in-Is.is c.look_up.ensures in
     let e = ap (λ (k : BlackKind). run f (blacks_test o black_level k v.size v.count v.place)) c.kind_for-kind.ensures in
-    let k = ap number_out (sym c.in-Is-check_blacks.is) ∙ c.check_blacks.ensures ∙ e in record { result_value = sym (bind_is _ _ _ _ g.0 ∙ bind_is _ _ _ _ k ∙ run_answer _ _); values_in = g.1 }
+    let k = ap number_out (sym c.in-Is-check_blacks.is) ∙ c.check_blacks.ensures ∙ e in
+    record {
+      result_value = sym (bind_is _ _ _ _ g.0 ∙ bind_is _ _ _ _ k ∙ run_answer _ _);
+      values_in = g.1;
+    }

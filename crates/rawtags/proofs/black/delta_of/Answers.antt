@@ -22,11 +22,19 @@ pub returns-in-Refused-check_blacks : goal.returns-in-Refused-check_blacks
 unfolding delta_reading
 returns-in-Refused-check_blacks c =
     let check-blacks = c.check_blacks in
-    let k = ap number_out (sym c.in-Refused-check_blacks.is) ∙ check-blacks.ensures in record { result_value = bind_refused _ _ _ _ _ k ∙ sym (bind_is _ _ _ _ (ap values_out (sym c.in-Is.is) ∙ c.look_up.ensures.0)); values_in = tt }
+    let k = ap number_out (sym c.in-Refused-check_blacks.is) ∙ check-blacks.ensures in
+    record {
+      result_value = bind_refused _ _ _ _ _ k ∙ sym (bind_is _ _ _ _ (ap values_out (sym c.in-Is.is) ∙ c.look_up.ensures.0));
+      values_in = tt;
+    }
 
 pub returns-in-Is-check_blacks : goal.returns-in-Is-check_blacks
 unfolding delta_reading
 returns-in-Is-check_blacks c =
     let a = c.args in
     let q = looked_up a.file.now a.ifd (delta_rule a.tag a.many) c.in-Is.is c.look_up.ensures in
-    let k = ap number_out (sym c.in-Is-check_blacks.is) ∙ c.check_blacks.ensures in record { result_value = sym (bind_is _ _ _ _ q.0 ∙ bind_is _ _ _ _ k ∙ run_answer _ _); values_in = q.1 }
+    let k = ap number_out (sym c.in-Is-check_blacks.is) ∙ c.check_blacks.ensures in
+    record {
+      result_value = sym (bind_is _ _ _ _ q.0 ∙ bind_is _ _ _ _ k ∙ run_answer _ _);
+      values_in = q.1;
+    }

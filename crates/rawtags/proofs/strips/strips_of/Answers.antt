@@ -65,7 +65,12 @@ check_strips-requires c =
     let z = some_strips c.args.frame.length c.args.layout.rows in
     let n = length c.args.file.now in
     let o = subst (ValuesIn n (offsets_rule c.args.frame c.args.layout)) c.in-Is.is c.look_up.ensures.1 in
-    let b = subst (ValuesIn n (counts_rule c.args.frame c.args.layout)) c.in-Is-look_up.is look-up2.ensures.1 in record { count_in_bounds = exactly strip_offsets kinds.ShortOrLong _ o z; count_in_bounds_2 = exactly strip_byte_counts kinds.ShortOrLong _ b z; lines_bound = (f.rows, row_fits _ _ _ f.columns f.samples l.bytes) }
+    let b = subst (ValuesIn n (counts_rule c.args.frame c.args.layout)) c.in-Is-look_up.is look-up2.ensures.1 in
+    record {
+      count_in_bounds = exactly strip_offsets kinds.ShortOrLong _ o z;
+      count_in_bounds_2 = exactly strip_byte_counts kinds.ShortOrLong _ b z;
+      lines_bound = (f.rows, row_fits _ _ _ f.columns f.samples l.bytes);
+    }
 
 pub returns-in-Refused-check_strips : goal.returns-in-Refused-check_strips
 unfolding strips_reading
