@@ -13,4 +13,7 @@ packed-requires c =
 pub returns : goal.returns
 returns c =
     let e = c.spot-answer.ensures in
-    let n = both (ap (λ (s : SpotAnswer). s.number) e) (ap (λ (s : SpotAnswer). s.detail) e) in record { value = c.packed.ensures ∙ n; value_after = ap (λ (s : SpotAnswer). s.value) e }
+    let n = both (ap (λ (s : SpotAnswer). s.number) e) (ap (λ (s : SpotAnswer). s.detail) e) in record {
+      value = c.packed.ensures ∙ n;
+      value_after = ap (λ (s : SpotAnswer). s.value) e;
+    }

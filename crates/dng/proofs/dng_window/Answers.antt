@@ -12,4 +12,7 @@ packed-requires c =
 
 pub returns : goal.returns
 returns c =
-    let e = c.window-answer.ensures in record { value = c.packed.ensures ∙ both (ap (λ (s : Window). s.number) e) (ap (λ (s : Window). s.detail) e); out_after = ap (λ (s : Window). s.slice) e }
+    let e = c.window-answer.ensures in record {
+      value = c.packed.ensures ∙ both (ap (λ (s : Window). s.number) e) (ap (λ (s : Window). s.detail) e);
+      out_after = ap (λ (s : Window). s.slice) e;
+    }
