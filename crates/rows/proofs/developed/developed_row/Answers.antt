@@ -1,6 +1,5 @@
 use mathlib.Core.Path.{sym, subst}
 use native.Mathlib.Omega.{arith}
-use borrow.Author.Rules.{rules}
 use Rattle.rows.specs.Facts.Part.{AllInUnit}
 use Rattle.rows.proofs.Through.{part_units, part_developed}
 use Rattle.rows.proofs.developed.developed_row.Goals as goal
