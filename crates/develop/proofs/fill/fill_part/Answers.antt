@@ -3,7 +3,6 @@ use Prim.Native.Nat.{ℕ, ◌+◌, ◌*◌, ◌≤◌}
 use native.Mathlib.Nat.{mul-le-mul, mul-pos}
 use native.Mathlib.Omega.{arith}
 use borrow.Author.Rules.{rules}
-use lib.ListN.{length}
 use Rattle.develop.proofs.Windows.{viewed_sized, viewed_plain, copies_length, array_length, along_part}
 use Rattle.develop.proofs.fill.fill_part.Goals as goal
 use Rattle.develop.proofs.fill.fill_part.Goals.{Start}
