@@ -3,7 +3,6 @@ use native.Mathlib.Omega.{arith}
 use Rattle.raw.specs.Facts.Front.{front_out, FrontIn}
 use Rattle.opcodes.specs.Facts.OpcodeList.{list_out}
 use Rattle.develop.proofs.Views.{front_refused, list_refused, list_viewed}
-use borrow.Author.Rules.{rules}
 use Rattle.develop.proofs.open.Goals as goal
 
 pub returns-in-Refused : goal.returns-in-Refused

@@ -1,7 +1,6 @@
 use mathlib.Core.Path.{ap, subst}
 use Rattle.develop.specs.Calls.{colour_window_of}
 use Rattle.develop.specs.Facts.View.{OpeningIs}
-use borrow.Author.Rules.{rules}
 use Rattle.develop.proofs.colour_window.colour_window.Goals as goal
 
 pub colour_window_in-requires : goal.colour_window_in-requires

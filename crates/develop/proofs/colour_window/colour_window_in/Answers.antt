@@ -1,7 +1,6 @@
 use mathlib.Core.Path.{sym, ap, ◌∙◌}
 use Rattle.colour.specs.Facts.Tags.{colour_out}
 use Rattle.develop.proofs.Called.{colour_tags, colour_mosaic}
-use borrow.Author.Rules.{rules}
 use Rattle.develop.proofs.colour_window.colour_window_in.Goals as goal
 use Rattle.develop.proofs.colour_window.colour_window_in.Goals.{In-Is-2, Start, Then-size-eq3}
 

@@ -2,7 +2,6 @@ use mathlib.Core.Path.{sym, ◌∙◌}
 use native.Mathlib.Omega.{arith}
 use Rattle.develop.proofs.Windows.{viewed_sized}
 use Rattle.develop.proofs.Called.{fill_in, coloured_none, coloured_fault}
-use borrow.Author.Rules.{rules}
 use Rattle.develop.proofs.colour_window.coloured_in.Goals as goal
 use Rattle.develop.proofs.colour_window.coloured_in.Goals.{Start, Then-number-eq0}
 

@@ -1,6 +1,5 @@
 use native.Mathlib.Nat.{le-div_iff_mul-le, div-mul-le_self}
 use native.Mathlib.Omega.{arith}
-use borrow.Author.Rules.{rules}
 use Rattle.develop.proofs.fill.columns_at_once.Goals as goal
 use Rattle.develop.proofs.fill.columns_at_once.Goals.{Start}
 

@@ -1,6 +1,5 @@
 use mathlib.Core.Path.{◌≡◌, ap}
 use native.Mathlib.Omega.{arith}
-use borrow.Author.Rules.{rules}
 use Rattle.rawtags.specs.Raw.{active_rows, active_columns}
 use Rattle.opcodes.specs.declared.grid.Size.{Size}
 use Rattle.develop.proofs.Windows.{viewed_sized, viewed_list, viewed_read, viewed_part, samples_is}

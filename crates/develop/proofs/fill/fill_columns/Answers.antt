@@ -1,5 +1,5 @@
 use mathlib.Core.Path.{◌≡◌, refl, sym, ap, ◌∙◌, subst}
-use Prim.Native.Nat.{ℕ, ◌+◌, ◌-◌, ◌*◌, ◌/◌, ◌%◌, ◌≤◌, ◌<◌}
+use Prim.Native.Nat.{ℕ, ◌+◌, ◌-◌, ◌*◌, ◌≤◌, ◌<◌}
 use native.Mathlib.Nat.{add-mul, mul-le-mul, mul-le-mul_right}
 use native.Mathlib.Omega.{arith}
 use borrow.Author.Rules.{rules}
@@ -10,10 +10,7 @@ use Rattle.reading.specs.Reading.{run}
 use Rattle.raw.specs.Stored.{levels_reading}
 use Rattle.samples.specs.Facts.Along.{AlongIn, DeltasIn}
 use Rattle.develop.specs.Calls.{alone_in}
-use Rattle.develop.specs.Facts.Fill.{Upto}
-use Rattle.develop.specs.Facts.View.{Viewed}
-use Rattle.develop.specs.declared.View.{View}
-use Rattle.develop.proofs.Windows.{Partly, partly_start, partly_next, partly_end, from_column, part_length, viewed_sized}
+use Rattle.develop.proofs.Windows.{partly_start, partly_next, partly_end, from_column, part_length, viewed_sized}
 use Rattle.develop.proofs.Windows.{value_of, viewed_wide}
 use Rattle.develop.proofs.fill.fill_columns.Goals as goal
 use Rattle.develop.proofs.fill.fill_columns.Goals.{Start}

@@ -3,10 +3,9 @@ use Prim.Native.Nat.{ℕ, ◌+◌, ◌*◌, ◌≤◌}
 use native.Mathlib.Nat.{mul-le-mul, mul-pos}
 use native.Mathlib.Omega.{arith}
 use borrow.Author.Rules.{rules}
-use lib.ListN.{length}
 use Rattle.develop.proofs.Windows.{viewed_sized, viewed_plain, copies_length, array_length, along_part}
 use Rattle.develop.proofs.fill.fill_part.Goals as goal
-use Rattle.develop.proofs.fill.fill_part.Goals.{After-fill_along, After-space-1, After-space-2-1, Start}
+use Rattle.develop.proofs.fill.fill_part.Goals.{Start}
 
 fits : (n m k : ℕ) → k ≡ m → n ≤ m → n ≤ k
 fits n m k e h = omega arith
@@ -22,13 +21,6 @@ numbers s =
     let z = viewed_sized s.args.file.now s.args.view s.requires.fill_in.0.file in
     let w : s.args.count ≤ 16384 = omega (arith, s.requires.fill_in.0.columns, z.columns, s.requires.fill_in.2) in
     (mul-pos s.requires.fill_in.1 z.some, omega (arith, mul-le-mul w z.few))
-
--- the room was given back with as many numbers
-lent : (k : After-space-2-1) → let v =
-    k.args.view in
-    length k.fill_along.new.out ≡
-    (v.picture.raw.tags.levels.repeat.rows + 1) * k.piece-q.result
-lent k = search rules
 
 some : (n : ℕ) → (n ≡ 0 → ⊥) → 1 ≤ n
 some n h = omega arith
@@ -84,7 +76,7 @@ fill_columns-requires c =
       fill_in = (c.requires.fill_in.0, c.requires.fill_in.1, c.requires.fill_in.2);
       along_in = (
         along_part _ _ _ _ ((c.args.view.picture.raw.tags.levels.repeat.rows + 1) * p.result) a.new.out _
-            (lent (goal.at.fill_columns-requires c).After-space-1) y,
+            (search rules) y,
         viewed_plain c.args.file.now c.args.view c.requires.fill_in.0.file if1.true _ _,
       );
     }
@@ -103,7 +95,7 @@ fill_with_deltas-requires c =
     let y = a.ensures (c.args.count * c.args.view.size.samples) p.ensures.3 in record {
       fill_in = (c.requires.fill_in.0, c.requires.fill_in.1, c.requires.fill_in.2, c.requires.samples_bound (some _ if1.false));
       along_in = along_part _ _ _ _ ((c.args.view.picture.raw.tags.levels.repeat.rows + 1) * p.result) a.new.out _
-          (lent (goal.at.fill_with_deltas-requires c).After-fill_along) y;
+          (search rules) y;
     }
 
 pub returns-then-raw-eq0 : goal.returns-then-raw-eq0

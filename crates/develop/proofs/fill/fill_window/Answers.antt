@@ -1,11 +1,10 @@
 use mathlib.Core.Path.{◌≡◌, refl, ◌∙◌, subst}
-use Prim.Native.Nat.{ℕ, ◌+◌, ◌-◌, ◌*◌, ◌≤◌, ◌<◌}
+use Prim.Native.Nat.{ℕ, ◌+◌, ◌*◌, ◌<◌}
 use native.Mathlib.Nat.{zero-mul, add-mul, mul-le-mul_right, le_trans}
 use native.Mathlib.Omega.{arith}
 use borrow.Author.Rules.{rules}
-use lib.ListN.{length}
 use Rattle.develop.specs.Calls.{alone_in}
-use Rattle.develop.specs.Facts.Fill.{FillIn, number_of, Upto}
+use Rattle.develop.specs.Facts.Fill.{number_of, Upto}
 use Rattle.develop.proofs.Windows.{upto_values, viewed_sized, fill_same}
 use Rattle.develop.proofs.fill.fill_window.Goals as goal
 use Rattle.develop.proofs.fill.fill_window.Goals.{Start}

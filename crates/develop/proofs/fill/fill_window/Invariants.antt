@@ -1,12 +1,8 @@
-use mathlib.Core.Path.{◌≡◌, refl, ◌∙◌, subst}
-use Prim.Native.Nat.{ℕ, ◌+◌, ◌-◌, ◌*◌, ◌≤◌, ◌<◌}
-use native.Mathlib.Nat.{zero-mul, add-mul, mul-le-mul_right, le_trans}
-use native.Mathlib.Omega.{arith}
-use borrow.Author.Rules.{rules}
+use mathlib.Core.Path.{◌≡◌}
+use Prim.Native.Nat.{◌-◌, ◌*◌, ◌≤◌}
 use lib.ListN.{length}
 use Rattle.develop.specs.Calls.{alone_in}
 use Rattle.develop.specs.Facts.Fill.{FillIn, number_of, Upto}
-use Rattle.develop.proofs.Windows.{upto_values, viewed_sized, fill_same}
 use Rattle.develop.proofs.fill.fill_window.Given as goal
 
 abbrev pub invariant-loop-from : goal.invariant-loop-from

@@ -2,7 +2,6 @@ use mathlib.Core.Path.{ap, subst}
 use lib.Ieee.{of_bits}
 use Rattle.develop.specs.Calls.{spot_of}
 use Rattle.develop.specs.Facts.View.{OpeningIs}
-use borrow.Author.Rules.{rules}
 use Rattle.develop.proofs.spot.spot.Goals as goal
 
 pub spot_in-requires : goal.spot_in-requires

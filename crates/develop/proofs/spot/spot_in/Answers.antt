@@ -4,7 +4,6 @@ use Rattle.rows.proofs.Through.{scaled_in_unit}
 use Rattle.develop.proofs.Windows.{viewed_sized, viewed_read, viewed_list}
 use Rattle.develop.proofs.Called.{viewed_active, spot_viewed, spot_outside}
 use lib.Ieee.{of_bits}
-use borrow.Author.Rules.{rules}
 use Rattle.develop.proofs.spot.spot_in.Goals as goal
 use Rattle.develop.proofs.spot.spot_in.Goals.{After-shared_slice_known-1, After-within-arg-1}
 

@@ -8,9 +8,8 @@ use mathlib.Core.List.{List}
 use lib.Ieee.{Float}
 use Rattle.develop.specs.Calls.{alone_in}
 use Rattle.develop.specs.Facts.Fill.{number_of}
-use Rattle.develop.specs.Facts.Tabled.{rows_met, RowsUpto}
-use Rattle.develop.specs.Facts.View.{Viewed}
-use Rattle.develop.proofs.Bands.{Banded, banded_start, banded_next, banded_end}
+use Rattle.develop.specs.Facts.Tabled.{rows_met}
+use Rattle.develop.proofs.Bands.{banded_start, banded_next, banded_end}
 use Rattle.develop.proofs.Windows.{part_length, viewed_sized}
 use Rattle.develop.proofs.tabled.band_rows.Goals as goal
 use Rattle.develop.proofs.tabled.band_rows.Goals.{Start}

@@ -1,17 +1,11 @@
-use mathlib.Core.Path.{◌≡◌, refl, sym, ap, ◌∙◌}
-use Prim.Native.Nat.{ℕ, ◌+◌, ◌-◌, ◌*◌, ◌≤◌, ◌<◌}
-use native.Mathlib.Nat.{zero-mul, add-mul, mul-le-mul_right}
-use native.Mathlib.Omega.{arith}
-use borrow.Author.Rules.{rules}
-use lib.ListN.{length, take, drop}
-use mathlib.Core.List.{List}
-use lib.Ieee.{Float}
+use mathlib.Core.Path.{◌≡◌}
+use Prim.Native.Nat.{◌-◌, ◌*◌, ◌≤◌}
+use lib.ListN.{length}
 use Rattle.develop.specs.Calls.{alone_in}
 use Rattle.develop.specs.Facts.Fill.{number_of}
 use Rattle.develop.specs.Facts.Tabled.{rows_met, RowsUpto}
 use Rattle.develop.specs.Facts.View.{Viewed}
-use Rattle.develop.proofs.Bands.{Banded, banded_start, banded_next, banded_end}
-use Rattle.develop.proofs.Windows.{part_length, viewed_sized}
+use Rattle.develop.proofs.Bands.{Banded}
 use Rattle.develop.proofs.tabled.band_rows.Given as goal
 
 abbrev pub invariant-loop-i : goal.invariant-loop-i

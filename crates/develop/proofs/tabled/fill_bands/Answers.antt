@@ -1,13 +1,11 @@
 use mathlib.Core.Path.{◌≡◌, refl, ap, ◌∙◌, subst}
-use Prim.Native.Nat.{ℕ, ◌+◌, ◌-◌, ◌*◌, ◌/◌, ◌≤◌, ◌<◌}
+use Prim.Native.Nat.{ℕ, ◌*◌, ◌/◌, ◌≤◌}
 use native.Mathlib.Nat.{mul-le-mul_right, div-mul-le_self, le-div_iff_mul-le}
 use native.Mathlib.Omega.{arith}
 use borrow.Author.Rules.{rules}
-use lib.ListN.{length}
 use Rattle.develop.specs.Calls.{alone_in}
 use Rattle.develop.specs.Facts.Fill.{number_of}
-use Rattle.develop.specs.Facts.Tabled.{rows_met, columns_met, RowsUpto}
-use Rattle.develop.specs.Facts.View.{Viewed}
+use Rattle.develop.specs.Facts.Tabled.{rows_met, RowsUpto}
 use Rattle.develop.proofs.Bands.{some_met, one_sample, rows_values}
 use Rattle.develop.proofs.tabled.fill_bands.Goals as goal
 use Rattle.develop.proofs.tabled.fill_bands.Goals.{After-columns_met-columns, Start}

@@ -1,14 +1,10 @@
-use mathlib.Core.Path.{◌≡◌, refl, ap, ◌∙◌, subst}
-use Prim.Native.Nat.{ℕ, ◌+◌, ◌-◌, ◌*◌, ◌/◌, ◌≤◌, ◌<◌}
-use native.Mathlib.Nat.{mul-le-mul_right, div-mul-le_self, le-div_iff_mul-le}
-use native.Mathlib.Omega.{arith}
-use borrow.Author.Rules.{rules}
+use mathlib.Core.Path.{◌≡◌}
+use Prim.Native.Nat.{◌-◌, ◌≤◌}
 use lib.ListN.{length}
 use Rattle.develop.specs.Calls.{alone_in}
 use Rattle.develop.specs.Facts.Fill.{number_of}
-use Rattle.develop.specs.Facts.Tabled.{rows_met, columns_met, RowsUpto}
+use Rattle.develop.specs.Facts.Tabled.{rows_met, RowsUpto}
 use Rattle.develop.specs.Facts.View.{Viewed}
-use Rattle.develop.proofs.Bands.{some_met, one_sample, rows_values}
 use Rattle.develop.proofs.tabled.fill_bands.Given as goal
 
 abbrev pub invariant-loop-from : goal.invariant-loop-from

@@ -1,6 +1,5 @@
 use mathlib.Core.Path.{sym, ◌∙◌}
 use native.Mathlib.Omega.{arith}
-use borrow.Author.Rules.{rules}
 use Rattle.develop.proofs.Bands.{some_met, tabled_window, tabled_length}
 use Rattle.develop.proofs.Windows.{viewed_sized}
 use Rattle.develop.proofs.tabled.fill_tabled.Goals as goal

@@ -1,7 +1,6 @@
 use Prim.Native.Nat.{◌/◌, ◌≤◌}
 use native.Mathlib.Nat.{div-le_self, mul-le-mul}
 use native.Mathlib.Omega.{arith}
-use borrow.Author.Rules.{rules}
 use Rattle.develop.proofs.tabled.pays.Goals as goal
 use Rattle.develop.proofs.tabled.pays.Goals.{Start}
 

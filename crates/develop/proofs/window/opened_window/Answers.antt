@@ -1,7 +1,6 @@
 use mathlib.Core.Path.{refl, sym, ◌∙◌}
 use Rattle.develop.proofs.Windows.{viewed_sized}
 use Rattle.develop.proofs.Called.{fill_in, window_none, window_fault_law}
-use borrow.Author.Rules.{rules}
 use Rattle.develop.proofs.window.opened_window.Goals as goal
 use Rattle.develop.proofs.window.opened_window.Goals.{Start, Then-fault-eq0}
 

@@ -1,7 +1,6 @@
 use mathlib.Core.Path.{ap, subst}
 use Rattle.develop.specs.Calls.{window_of}
 use Rattle.develop.specs.Facts.View.{OpeningIs}
-use borrow.Author.Rules.{rules}
 use Rattle.develop.proofs.window.window.Goals as goal
 
 pub opened_window-requires : goal.opened_window-requires

@@ -7,7 +7,6 @@ use Rattle.reading.proofs.Bytes.{some_inside_law}
 use Rattle.opcodes.specs.declared.grid.Size.{Size}
 use Rattle.rows.specs.Facts.Part.{SizedIn}
 use Rattle.develop.proofs.Called.{rows_inside, columns_inside, fault_none, fault_length, fault_rows, fault_columns}
-use borrow.Author.Rules.{rules}
 use Rattle.develop.proofs.window.window_fault.Goals as goal
 use Rattle.develop.proofs.window.window_fault.Goals.{Start, Then-some_inside-2}
 

@@ -2,7 +2,6 @@ use mathlib.Core.Path.{sym, ◌∙◌}
 use native.Mathlib.Omega.{arith}
 use Rattle.opcodes.proofs.StepLaws.{on_in}
 use Rattle.rows.proofs.Gains.{map_grid, at_on, at_off, map_in, enough, grid_in}
-use borrow.Author.Rules.{rules}
 use Rattle.rows.proofs.gain_map.gain_at.Goals as goal
 use Rattle.rows.proofs.gain_map.gain_at.Goals.{Start}
 

@@ -1,12 +1,10 @@
 use mathlib.Core.Path.{◌≡◌, refl, ap, ◌∙◌, subst}
 use mathlib.Core.List.{List}
-use Prim.Native.Nat.{ℕ, ◌+◌, ◌-◌, ◌*◌, ◌/◌, ◌≤◌, ◌<◌, min}
+use Prim.Native.Nat.{ℕ, ◌+◌, ◌-◌, ◌*◌, ◌/◌, ◌≤◌, ◌<◌}
 use native.Mathlib.Nat.{mul-le-mul_left, mul-pos}
 use native.Mathlib.Omega.{arith}
 use lib.Ieee.{Float}
 use lib.ListN.{length}
-use Rattle.opcodes.specs.GainMap.{planes_in}
-use Rattle.opcodes.specs.declared.gain_map.Bracket.{Bracket}
 use Rattle.rows.specs.Facts.Sweep.{swept_of, planes_of}
 use Rattle.rows.specs.Facts.GainMap.{times_gain, gain_line}
 use Rattle.rows.proofs.Gains.{column_below}

@@ -1,16 +1,8 @@
-use mathlib.Core.Path.{◌≡◌, refl, ap, ◌∙◌, subst}
-use mathlib.Core.List.{List}
-use Prim.Native.Nat.{ℕ, ◌+◌, ◌-◌, ◌*◌, ◌/◌, ◌≤◌, ◌<◌, min}
-use native.Mathlib.Nat.{mul-le-mul_left, mul-pos}
-use native.Mathlib.Omega.{arith}
-use lib.Ieee.{Float}
+use mathlib.Core.Path.{◌≡◌}
+use Prim.Native.Nat.{◌-◌, ◌≤◌}
 use lib.ListN.{length}
-use Rattle.opcodes.specs.GainMap.{planes_in}
-use Rattle.opcodes.specs.declared.gain_map.Bracket.{Bracket}
-use Rattle.rows.specs.Facts.Sweep.{swept_of, planes_of}
-use Rattle.rows.specs.Facts.GainMap.{times_gain, gain_line}
-use Rattle.rows.proofs.Gains.{along, column_below}
-use Rattle.rows.proofs.GridColumns.{planes_start, planes_next, end_short, hits}
+use Rattle.rows.specs.Facts.Sweep.{planes_of}
+use Rattle.rows.proofs.Gains.{along}
 use Rattle.rows.proofs.gain_map.gain_planes.Given as goal
 
 abbrev pub invariant-loop-p : goal.invariant-loop-p

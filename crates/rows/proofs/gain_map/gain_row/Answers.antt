@@ -4,7 +4,6 @@ use Rattle.opcodes.specs.Facts.Bracket.{AxisIn, BracketOf, BracketIn}
 use Rattle.opcodes.specs.declared.gain_map.Axis.{Axis}
 use Rattle.rows.proofs.Sweeps.{every_told}
 use Rattle.rows.proofs.Gains.{map_grid, row_on, row_off, map_in, enough, grid_in}
-use borrow.Author.Rules.{rules}
 use Rattle.rows.proofs.gain_map.gain_row.Goals as goal
 use Rattle.rows.proofs.gain_map.gain_row.Goals.{After-located-down, Start}
 

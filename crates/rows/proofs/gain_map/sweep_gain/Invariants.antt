@@ -1,21 +1,11 @@
-use mathlib.Core.Path.{◌≡◌, sym, ap, ◌∙◌, subst}
-use Prim.Native.Nat.{ℕ, ◌-◌, ◌*◌, ◌<◌}
-use native.Mathlib.Omega.{arith}
-use mir.Syntax.{w64}
-use mir.Val.{Fits}
-use lib.Ieee.{Float, nan, binary64, mul}
-use lib.ListN.{length, get_or}
-use borrow.Author.Rules.{scaled_Fits, rules}
-use Rattle.levels.specs.Clip.{clip_of}
+use mathlib.Core.Path.{◌≡◌}
+use Prim.Native.Nat.{◌-◌, ◌<◌}
 use Rattle.opcodes.specs.Grid.{long_of}
 use Rattle.opcodes.specs.GainMap.{gain_map_of}
-use Rattle.opcodes.specs.Facts.Bracket.{AxisIn, BracketOf, BracketIn, corners_of, CornersIn}
-use Rattle.opcodes.specs.declared.gain_map.Axis.{Axis}
-use Rattle.opcodes.proofs.BracketLaws.{point_below, corners_found, corners_point, corners_own, corners_sides}
+use Rattle.opcodes.specs.Facts.Bracket.{corners_of}
 use Rattle.rows.specs.Facts.GainMap.{column_at, times_gain}
-use Rattle.rows.specs.declared.gain_map.Columns.{Columns}
-use Rattle.rows.proofs.Gains.{columns_of, column_first, column_more}
-use Rattle.rows.proofs.Sweeps.{Swept, swept_start, swept_step, swept_end, every_tell}
+use Rattle.rows.proofs.Gains.{columns_of}
+use Rattle.rows.proofs.Sweeps.{Swept}
 use Rattle.rows.proofs.gain_map.sweep_gain.Given as goal
 
 abbrev pub invariant-loop-i : goal.invariant-loop-i

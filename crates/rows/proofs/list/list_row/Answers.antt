@@ -4,7 +4,6 @@ use native.Mathlib.Omega.{arith}
 use Rattle.opcodes.specs.Opcode.{Opcode}
 use Rattle.rows.specs.Facts.ListPart.{alone_part}
 use Rattle.rows.proofs.Walks.{absent_is, value_is, value_read, part_folded}
-use borrow.Author.Rules.{rules}
 use Rattle.rows.proofs.list.list_row.Goals as goal
 
 pub returns-then-bytes-eq0 : goal.returns-then-bytes-eq0

@@ -2,7 +2,6 @@ use mathlib.Core.Path.{sym, ap, ◌∙◌}
 use native.Mathlib.Omega.{arith}
 use Rattle.opcodes.specs.Opcode.{Opcode, opcode_at}
 use Rattle.rows.proofs.Walks.{carried_in, carried_is, optional_is, compulsory_not}
-use borrow.Author.Rules.{rules}
 use Rattle.rows.proofs.list.listed_at.Goals as goal
 
 pub overflow_add-at : goal.overflow_add-at

@@ -3,7 +3,6 @@ use native.Mathlib.Omega.{arith}
 use Rattle.opcodes.specs.Opcode.{Opcode}
 use Rattle.rows.specs.Facts.Sweep.{over_part}
 use Rattle.rows.proofs.Walks.{carried_in, carried_is, optional_is, compulsory_not, none_over}
-use borrow.Author.Rules.{rules}
 use Rattle.rows.proofs.list.listed_row.Goals as goal
 
 pub overflow_add-at : goal.overflow_add-at

@@ -1,14 +1,11 @@
 use mathlib.Core.Path.{◌≡◌, ap, ◌∙◌}
-use Prim.Native.Nat.{◌-◌}
 use native.Mathlib.Omega.{arith}
 use lib.Ieee.{Float}
-use lib.ListN.{length}
 use Rattle.opcodes.specs.Opcode.{Opcode, opcode_at}
-use Rattle.levels.specs.Clip.{clip_of}
 use Rattle.opcodes.specs.declared.list.Header.{Header}
 use Rattle.opcodes.proofs.Frames.{at_unit}
 use Rattle.opcodes.proofs.Listing.{head_at}
-use Rattle.rows.proofs.Walks.{Progress, walk_start, walk_next, step_read, step_reads, step_onward, walk_end, alone_folded}
+use Rattle.rows.proofs.Walks.{walk_start, walk_next, step_read, step_reads, step_onward, walk_end, alone_folded}
 use Rattle.rows.proofs.list.opcodes_at.Goals as goal
 
 pub loop-i-init : goal.loop-i-init

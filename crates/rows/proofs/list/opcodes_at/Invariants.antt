@@ -1,14 +1,8 @@
-use mathlib.Core.Path.{◌≡◌, ap, ◌∙◌}
+use mathlib.Core.Path.{◌≡◌}
 use Prim.Native.Nat.{◌-◌}
-use native.Mathlib.Omega.{arith}
-use lib.Ieee.{Float}
-use lib.ListN.{length}
 use Rattle.opcodes.specs.Opcode.{Opcode, opcode_at}
 use Rattle.levels.specs.Clip.{clip_of}
-use Rattle.opcodes.specs.declared.list.Header.{Header}
-use Rattle.opcodes.proofs.Frames.{at_unit}
-use Rattle.opcodes.proofs.Listing.{head_at}
-use Rattle.rows.proofs.Walks.{Progress, walk_start, walk_next, step_read, step_reads, step_onward, walk_end, alone_folded}
+use Rattle.rows.proofs.Walks.{Progress}
 use Rattle.rows.proofs.list.opcodes_at.Given as goal
 
 abbrev pub invariant-loop-i : goal.invariant-loop-i

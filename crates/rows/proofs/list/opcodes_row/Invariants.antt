@@ -1,16 +1,10 @@
-use mathlib.Core.Path.{◌≡◌, refl, sym, ap, ◌∙◌, subst}
-use mathlib.Core.List.{List}
+use mathlib.Core.Path.{◌≡◌}
 use Prim.Native.Nat.{◌-◌}
-use native.Mathlib.Omega.{arith}
-use lib.Ieee.{Float}
 use lib.ListN.{length}
 use Rattle.opcodes.specs.Opcode.{Opcode}
-use Rattle.opcodes.specs.declared.list.Header.{Header}
-use Rattle.opcodes.proofs.Listing.{head_at}
 use Rattle.rows.specs.Facts.Sweep.{over_part}
 use Rattle.rows.specs.Facts.Part.{AllInUnit}
-use Rattle.rows.proofs.Overs.{over_units}
-use Rattle.rows.proofs.Walks.{Progress, walk_start, walk_next, step_read, step_reads, step_onward, walk_end, part_folded}
+use Rattle.rows.proofs.Walks.{Progress}
 use Rattle.rows.proofs.list.opcodes_row.Given as goal
 
 abbrev pub invariant-loop-i : goal.invariant-loop-i

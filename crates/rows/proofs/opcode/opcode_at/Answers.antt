@@ -13,7 +13,6 @@ use Rattle.rows.specs.Facts.Part.{gained_of}
 use Rattle.rows.proofs.Parts.{enough, step_held}
 use Rattle.rows.proofs.Overs.{read_fits, on_part, on_step, at_on, at_off}
 use Rattle.rows.proofs.Gains.{kept_plain, kept_gained, gained_kept}
-use borrow.Author.Rules.{rules}
 use Rattle.rows.proofs.opcode.opcode_at.Goals as goal
 use Rattle.rows.proofs.opcode.opcode_at.Goals.{Start}
 

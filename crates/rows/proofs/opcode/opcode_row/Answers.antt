@@ -12,7 +12,6 @@ use Rattle.rows.proofs.Sweeps.{every_told}
 use Rattle.rows.proofs.Parts.{enough}
 use Rattle.rows.proofs.Overs.{read_fits, row_part, row_on, row_off}
 use Rattle.rows.proofs.Gains.{kept_plain, kept_gained, gained_kept}
-use borrow.Author.Rules.{rules}
 use Rattle.rows.proofs.opcode.opcode_row.Goals as goal
 use Rattle.rows.proofs.opcode.opcode_row.Goals.{Start, Then-every}
 

@@ -1,5 +1,5 @@
 use mathlib.Core.Path.{◌≡◌, refl, sym, ◌∙◌, subst}
-use Prim.Native.Nat.{ℕ, ◌+◌, ◌-◌, ◌*◌, ◌≤◌, ◌<◌}
+use Prim.Native.Nat.{ℕ, ◌+◌, ◌*◌, ◌<◌}
 use native.Mathlib.Omega.{arith}
 use lib.ListN.{length}
 use lib.Ieee.{Float}
@@ -10,7 +10,6 @@ use Rattle.rows.specs.Facts.Sweep.{planes_of}
 use Rattle.rows.proofs.GridColumns.{planes_start, planes_next, planes_dense, end_short, hits}
 use Rattle.rows.proofs.Parts.{part_few, swept_units, applied_row}
 use Rattle.rows.specs.Facts.Part.{AllInUnit}
-use borrow.Author.Rules.{rules}
 use Rattle.rows.proofs.opcode.planes_row.Goals as goal
 use Rattle.rows.proofs.opcode.planes_row.Goals.{After-end_at-end, After-first_at-first, At-loop-p, Start, Then-dense}
 

@@ -1,16 +1,11 @@
-use mathlib.Core.Path.{◌≡◌, refl, sym, ◌∙◌, subst}
-use Prim.Native.Nat.{ℕ, ◌+◌, ◌-◌, ◌*◌, ◌≤◌, ◌<◌}
-use native.Mathlib.Omega.{arith}
+use mathlib.Core.Path.{◌≡◌}
+use Prim.Native.Nat.{ℕ, ◌-◌, ◌≤◌}
 use lib.ListN.{length}
 use lib.Ieee.{Float}
-use native.Mathlib.Nat.{mul-le-mul_left, mul-pos}
 use Rattle.opcodes.specs.Step.{applied_of}
 use Rattle.opcodes.specs.Facts.StepAt.{step_of}
 use Rattle.rows.specs.Facts.Sweep.{planes_of}
-use Rattle.rows.proofs.GridColumns.{planes_start, planes_next, planes_dense, end_short, hits}
-use Rattle.rows.proofs.Parts.{part_few, swept_units, applied_row}
 use Rattle.rows.specs.Facts.Part.{AllInUnit}
-use borrow.Author.Rules.{rules}
 use Rattle.rows.proofs.opcode.planes_row.Given as goal
 
 abbrev pub invariant-loop-p : goal.invariant-loop-p

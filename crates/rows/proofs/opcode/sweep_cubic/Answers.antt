@@ -3,7 +3,6 @@ use Prim.Native.Nat.{ℕ, ◌+◌}
 use native.Mathlib.Omega.{arith}
 use Rattle.opcodes.specs.Grid.{long_of}
 use Rattle.rows.proofs.Parts.{swept_cubic}
-use borrow.Author.Rules.{rules}
 use Rattle.rows.proofs.opcode.sweep_cubic.Goals as goal
 
 pub overflow_add-at : goal.overflow_add-at

@@ -7,7 +7,6 @@ use native.Mathlib.Omega.{arith}
 use Rattle.opcodes.specs.Grid.{every_of}
 use Rattle.opcodes.specs.Facts.StepAt.{FloatIn}
 use Rattle.rows.proofs.Parts.{swept_row, swept_11, swept_13}
-use borrow.Author.Rules.{rules}
 use Rattle.rows.proofs.opcode.sweep_opcode.Goals as goal
 use Rattle.rows.proofs.opcode.sweep_opcode.Goals.{Else-id-eq13, Else-pitch-eq1, Else-pitch-eq1-2, Start, Then-pitch-eq1, Then-pitch-eq1-2}
 

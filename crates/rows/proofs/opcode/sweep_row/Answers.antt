@@ -1,6 +1,5 @@
 use mathlib.Core.Path.{refl, sym}
 use Rattle.rows.proofs.Parts.{row_step_in, step_held, swept_is, swept_polynomial}
-use borrow.Author.Rules.{rules}
 use Rattle.rows.proofs.opcode.sweep_row.Goals as goal
 use Rattle.rows.proofs.opcode.sweep_row.Goals.{Start}
 

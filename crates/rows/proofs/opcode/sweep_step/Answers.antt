@@ -2,7 +2,6 @@ use mathlib.Core.Path.{refl, subst}
 use Rattle.opcodes.specs.Step.{result_of, applied_of}
 use Rattle.opcodes.specs.Facts.Step.{StepIn}
 use Rattle.rows.proofs.Parts.{swept_is}
-use borrow.Author.Rules.{rules}
 use Rattle.rows.proofs.opcode.sweep_step.Goals as goal
 use Rattle.rows.proofs.opcode.sweep_step.Goals.{Start}
 

@@ -1,12 +1,7 @@
-use Prim.Native.Nat.{◌-◌, ◌*◌}
-use native.Mathlib.Omega.{arith}
-use mir.Syntax.{w64}
-use mir.Val.{Fits}
+use Prim.Native.Nat.{◌-◌}
 use lib.Ieee.{binary64, add}
-use lib.ListN.{length}
-use borrow.Author.Rules.{scaled_Fits, rules}
 use Rattle.levels.specs.Clip.{clip_of}
-use Rattle.rows.proofs.Sweeps.{Swept, swept_start, swept_step, swept_end}
+use Rattle.rows.proofs.Sweeps.{Swept}
 use Rattle.rows.proofs.sweep.add_number.Given as goal
 
 abbrev pub invariant-loop-i : goal.invariant-loop-i

@@ -1,13 +1,11 @@
-use mathlib.Core.List.{[], ◌∷◌}
-use Prim.Native.Nat.{◌-◌, ◌*◌}
+use Prim.Native.Nat.{◌*◌}
 use native.Mathlib.Omega.{arith}
 use mir.Syntax.{w64}
 use mir.Val.{Fits}
 use lib.ListN.{length}
-use borrow.Author.Rules.{scaled_Fits, rules}
-use Rattle.levels.specs.Clip.{clip_of}
+use borrow.Author.Rules.{scaled_Fits}
 use Rattle.opcodes.specs.Step.{horner_of}
-use Rattle.rows.proofs.Sweeps.{Swept, swept_start, swept_step, swept_end}
+use Rattle.rows.proofs.Sweeps.{swept_start, swept_step, swept_end}
 use Rattle.rows.proofs.sweep.cubic.Goals as goal
 
 pub loop-i-init : goal.loop-i-init

@@ -3,7 +3,6 @@ use Prim.Native.Nat.{ℕ, ◌-◌, ◌*◌, min, zero-le}
 use native.Mathlib.Omega.{arith}
 use native.Mathlib.Nat.{zero-mul, min-eq_left, min-eq_right, mul-le-mul_left}
 use Rattle.rows.specs.Facts.Sweep.{end_of}
-use borrow.Author.Rules.{rules}
 use Rattle.rows.proofs.sweep.end_at.Goals as goal
 
 pub returns-then-right-l : goal.returns-then-right-l

@@ -3,7 +3,6 @@ use native.Mathlib.Omega.{arith}
 use native.Mathlib.Nat.{mul-le-mul_left}
 use Rattle.rows.specs.Facts.Sweep.{first_of}
 use Rattle.rows.proofs.GridColumns.{skip_high}
-use borrow.Author.Rules.{rules}
 use Rattle.rows.proofs.sweep.first_at.Goals as goal
 use Rattle.rows.proofs.sweep.first_at.Goals.{After-skipped-skip}
 

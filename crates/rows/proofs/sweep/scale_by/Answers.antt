@@ -1,12 +1,10 @@
-use Prim.Native.Nat.{◌-◌, ◌*◌}
+use Prim.Native.Nat.{◌*◌}
 use native.Mathlib.Omega.{arith}
 use mir.Syntax.{w64}
 use mir.Val.{Fits}
-use lib.Ieee.{binary64, mul}
 use lib.ListN.{length}
-use borrow.Author.Rules.{scaled_Fits, rules}
-use Rattle.levels.specs.Clip.{clip_of}
-use Rattle.rows.proofs.Sweeps.{Swept, swept_start, swept_step, swept_end}
+use borrow.Author.Rules.{scaled_Fits}
+use Rattle.rows.proofs.Sweeps.{swept_start, swept_step, swept_end}
 use Rattle.rows.proofs.sweep.scale_by.Goals as goal
 
 pub loop-i-init : goal.loop-i-init

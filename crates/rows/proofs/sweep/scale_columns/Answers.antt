@@ -5,10 +5,10 @@ use mir.Syntax.{w64}
 use mir.Val.{Fits}
 use lib.Ieee.{Float, nan, binary64, mul}
 use lib.ListN.{length, get_or}
-use borrow.Author.Rules.{scaled_Fits, rules}
+use borrow.Author.Rules.{scaled_Fits}
 use Rattle.levels.specs.Clip.{clip_of}
 use Rattle.opcodes.specs.Facts.StepAt.{float_at, FloatIn}
-use Rattle.rows.proofs.Sweeps.{Swept, swept_start, swept_step, swept_end, every_tell, line_first, line_more}
+use Rattle.rows.proofs.Sweeps.{swept_start, swept_step, swept_end, every_tell, line_first, line_more}
 use Rattle.rows.proofs.sweep.scale_columns.Goals as goal
 use Rattle.rows.proofs.sweep.scale_columns.Goals.{In-loop-i, Start}
 

@@ -1,14 +1,9 @@
-use mathlib.Core.Path.{◌≡◌, sym, ap, ◌∙◌, subst}
-use Prim.Native.Nat.{◌+◌, ◌-◌, ◌*◌, ◌/◌, ◌<◌}
-use native.Mathlib.Omega.{arith}
-use mir.Syntax.{w64}
-use mir.Val.{Fits}
-use lib.Ieee.{Float, nan, binary64, mul}
-use lib.ListN.{length, get_or}
-use borrow.Author.Rules.{scaled_Fits, rules}
+use mathlib.Core.Path.{◌≡◌}
+use Prim.Native.Nat.{◌+◌, ◌-◌, ◌/◌}
+use lib.Ieee.{binary64, mul}
 use Rattle.levels.specs.Clip.{clip_of}
-use Rattle.opcodes.specs.Facts.StepAt.{float_at, FloatIn}
-use Rattle.rows.proofs.Sweeps.{Swept, swept_start, swept_step, swept_end, every_tell, line_first, line_more}
+use Rattle.opcodes.specs.Facts.StepAt.{float_at}
+use Rattle.rows.proofs.Sweeps.{Swept}
 use Rattle.rows.proofs.sweep.scale_columns.Given as goal
 
 abbrev pub invariant-loop-i : goal.invariant-loop-i

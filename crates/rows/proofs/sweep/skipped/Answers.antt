@@ -3,7 +3,6 @@ use Prim.Native.Nat.{◌+◌, ◌-◌, ◌<◌}
 use native.Mathlib.Omega.{arith}
 use native.Mathlib.Nat.{div-eq_of_lt, zero-mul, div-mul-le_self}
 use Rattle.rows.specs.Facts.Sweep.{skip_of}
-use borrow.Author.Rules.{rules}
 use Rattle.rows.proofs.sweep.skipped.Goals as goal
 
 pub returns-then-l-left : goal.returns-then-l-left

@@ -1,14 +1,7 @@
-use mathlib.Core.Path.{sym, subst}
-use Prim.Native.Nat.{◌-◌, ◌*◌, ◌<◌}
-use native.Mathlib.Omega.{arith}
-use mir.Syntax.{w64}
-use mir.Val.{Fits}
-use lib.ListN.{length}
-use borrow.Author.Rules.{scaled_Fits}
+use Prim.Native.Nat.{◌-◌}
 use Rattle.levels.specs.Clip.{clip_of}
-use Rattle.levels.proofs.Unit.{unit}
 use Rattle.opcodes.specs.Step.{mapped_of, table_at}
-use Rattle.rows.proofs.Sweeps.{Swept, swept_start, swept_step, swept_end}
+use Rattle.rows.proofs.Sweeps.{Swept}
 use Rattle.rows.proofs.sweep.table.Given as goal
 
 abbrev pub invariant-loop-i : goal.invariant-loop-i
