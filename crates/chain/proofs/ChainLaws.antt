@@ -41,7 +41,8 @@ use Rattle.develop.proofs.Views.{open_inverse}
 use Rattle.develop.proofs.Answers.{developed_alone, active_within}
 use Rattle.develop.proofs.Called.{within_is}
 use Rattle.chain.specs.Links.{opcode_id, is_skipped}
-use Rattle.chain.specs.Chain.{chain_of, Slices, slices, Chained, chained_with, room_for, room_in, refused_chain, id_of, after_of, shown_of, chain_in, chain_call}
+use Rattle.chain.specs.Chain.{chain_of, Slices, slices, Chained, chained_with, room_for, room_in, refused_chain}
+use Rattle.chain.specs.Chain.{id_of, after_of, shown_of, chain_in, chain_call}
 use Rattle.chain.specs.Explained.{Explains, Explained}
 use Rattle.chain.specs.Facts.Links.{OpcodesIn, OpcodesOf, Covered, covered_of, Marked, skipped_of}
 use Rattle.chain.specs.declared.links.Opcodes.{Opcodes}

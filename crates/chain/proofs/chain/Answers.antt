@@ -17,7 +17,10 @@ returns-in-Refused c =
     let a = c.args in
     let f = a.file.now in
     let old = slices a.places.now a.ids.now a.«before».now a.after.now a.skipped.now in
-    let o = subst (OpeningIs f) c.in-Refused.is (goal.at.returns-in-Refused c).After-open.«open».ensures in record { skipped_after = ap (λ (x : ChainAnswer). chained_with x old) c.refused.ensures ∙ ap (chain_in f a.row a.column a.plane old) o; explained = explained f a.row a.column a.plane }
+    let o = subst (OpeningIs f) c.in-Refused.is (goal.at.returns-in-Refused c).After-open.«open».ensures in record {
+      skipped_after = ap (λ (x : ChainAnswer). chained_with x old) c.refused.ensures ∙ ap (chain_in f a.row a.column a.plane old) o;
+      explained = explained f a.row a.column a.plane;
+    }
 
 pub returns-in-Is : goal.returns-in-Is
 returns-in-Is c =

@@ -9,7 +9,10 @@ use Rattle.chain.proofs.chain_in.Goals as goal
 pub chain_at-requires : goal.chain_at-requires
 chain_at-requires c =
     let a = c.args in
-    let i = sym c.within.ensures ∙ c.if-within.true in record { viewed = (c.requires, viewed_active a.file.now a.view c.requires a.spot.row.0 a.spot.column.0 a.spot.plane i); skipped_value = sym c.room.ensures ∙ c.if-room.true }
+    let i = sym c.within.ensures ∙ c.if-within.true in record {
+      viewed = (c.requires, viewed_active a.file.now a.view c.requires a.spot.row.0 a.spot.column.0 a.spot.plane i);
+      skipped_value = sym c.room.ensures ∙ c.if-room.true;
+    }
 
 pub returns-then-room : goal.returns-then-room
 returns-then-room c =

@@ -19,7 +19,8 @@ chain_numbers-requires c =
 pub packed-requires : goal.packed-requires
 packed-requires c =
     let e = c.chain-found.ensures.skipped_after in
-    halves (ap (λ (x : Chained). x.answer.number) e) (ap (λ (x : Chained). x.answer.detail) e) (chain_fits _ _ _ _ _)
+    let h = halves (ap (λ (x : Chained). x.answer.number) e) (ap (λ (x : Chained). x.answer.detail) e) (chain_fits _ _ _ _ _) in
+    record { number_bound = h.0; detail_bound = h.1 }
 
 pub returns : goal.returns
 returns c =

@@ -8,7 +8,8 @@ use Rattle.dng.proofs.dng_table_window.Goals as goal
 pub packed-requires : goal.packed-requires
 packed-requires c =
     let e = c.table_window-answer.ensures in
-    halves (ap (λ (s : Window). s.number) e) (ap (λ (s : Window). s.detail) e) (window_fits _ _ _ _ _ _)
+    let h = halves (ap (λ (s : Window). s.number) e) (ap (λ (s : Window). s.detail) e) (window_fits _ _ _ _ _ _) in
+    record { number_bound = h.0; detail_bound = h.1 }
 
 pub returns : goal.returns
 returns c =

@@ -24,15 +24,17 @@ next_link-reached-requires c =
 
 pub loop-reached-smaller : goal.loop-reached-smaller
 loop-reached-smaller c =
-    let e = gone_index _ _ _ _ _ _ _ _ _ _ c.requires.opcodes_in.0 _ _ c.loop-reached.invariant c.loop-reached-test.true _ _ c.next_link-reached.ensures.by_index
-    c.next_link-reached.ensures.at_value in
+    let n = c.next_link-reached.ensures in
+    let e = gone_index _ _ _ _ _ _ _ _ _ _ c.requires.opcodes_in.0 _ _ c.loop-reached.invariant c.loop-reached-test.true _ _ n.by_index
+    n.at_value in
     omega (arith, e, c.loop-reached-test.true)
 
 pub loop-reached-preserved : goal.loop-reached-preserved
 loop-reached-preserved c =
-    gone_on _ _ _ _ _ _ _ _ _ _ c.requires.opcodes_in.0 _ _ c.loop-reached.invariant c.loop-reached-test.true _ _ c.next_link-reached.ensures.by_index c.next_link-reached.ensures.at_value
+    let n = c.next_link-reached.ensures in
+    gone_on _ _ _ _ _ _ _ _ _ _ c.requires.opcodes_in.0 _ _ c.loop-reached.invariant c.loop-reached-test.true _ _ n.by_index n.at_value
 
 pub returns : goal.returns
 returns c =
-    λ os e. gone_end _ _ _ _ _ _ _ _ _ _ c.requires.opcodes_in.0 _ _ c.loop-reached.invariant c.loop-reached-test.false c.requires.in_bounds.0 c.requires.in_bounds.1 c.requires.in_bounds.2
-    c.requires.in_bounds.3 os e
+    let b = c.requires.in_bounds in
+    λ os e. gone_end _ _ _ _ _ _ _ _ _ _ c.requires.opcodes_in.0 _ _ c.loop-reached.invariant c.loop-reached-test.false b.0 b.1 b.2 b.3 os e

@@ -27,14 +27,14 @@ pub grid_at-g-requires : goal.grid_at-g-requires
 grid_at-g-requires c =
     let k = (goal.at.grid_at-g-requires c).In-Carried in
     let a = k.args in
-    omega (arith, kept_long a.file.now a.size (a.at + 16) a.header (kept (goal.at.grid_at-g-requires c).In-Carried), (kept (goal.at.grid_at-g-requires c).In-Carried).inside)
+    omega (arith, kept_long a.file.now a.size (a.at + 16) a.header (kept k), (kept k).inside)
 
 pub on-requires : goal.on-requires
 on-requires c =
     let k = (goal.at.on-requires c).In-Carried in
     let a = k.args in
     let g = c.grid_at-g in
-    let q = kept_fits a.file.now a.size (a.at + 16) a.header (kept (goal.at.on-requires c).In-Carried) g.result g.ensures.by_index in
+    let q = kept_fits a.file.now a.size (a.at + 16) a.header (kept k) g.result g.ensures.by_index in
     (q.row_pitch, q.column_pitch, g.ensures.plane_bound.0, g.ensures.plane_bound.1)
 
 pub returns-then-on : goal.returns-then-on
@@ -43,7 +43,7 @@ returns-then-on c =
     let a = k.args in
     let g = c.grid_at-g in
     λ i o e. link_on a.file.now a.size a.at a.header i o e a.spot.row.0 a.spot.column.0 a.spot.plane a.x
-    (carried (goal.at.returns-then-on c).In-Carried) (kept (goal.at.returns-then-on c).In-Carried) g.result g.ensures.by_index (sym c.on.ensures ∙ c.if-on.true) _ c.opcode_at-after.ensures
+    (carried k) (kept k) g.result g.ensures.by_index (sym c.on.ensures ∙ c.if-on.true) _ c.opcode_at-after.ensures
 
 pub returns-else-on : goal.returns-else-on
 returns-else-on c =
@@ -51,7 +51,7 @@ returns-else-on c =
     let a = k.args in
     let g = c.grid_at-g in
     λ i o e. link_off a.file.now a.size a.at a.header i o e a.spot.row.0 a.spot.column.0 a.spot.plane a.x
-    (carried (goal.at.returns-else-on c).In-Carried) (kept (goal.at.returns-else-on c).In-Carried) g.result g.ensures.by_index (sym c.on.ensures ∙ c.if-on.false)
+    (carried k) (kept k) g.result g.ensures.by_index (sym c.on.ensures ∙ c.if-on.false)
 
 pub returns-in-Optional : goal.returns-in-Optional
 returns-in-Optional c =

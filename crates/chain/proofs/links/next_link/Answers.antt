@@ -9,10 +9,13 @@ use Rattle.chain.proofs.links.next_link.Goals as goal
 
 pub link_at-requires : goal.link_at-requires
 link_at-requires c =
-    let a = c.args in record { opcode_read = (
+    let a = c.args in record {
+      opcode_read = (
         subst (OpcodeRead a.file.now a.size a.reached.at) (sym c.header_at-h.ensures.value) c.requires.opcode_read.0,
         c.requires.opcode_read.1,
-      ); x_value = c.requires.value_value.0; }
+      );
+      x_value = c.requires.value_value.0;
+    }
 
 pub returns-in-Off : goal.returns-in-Off
 returns-in-Off c =
@@ -20,8 +23,11 @@ returns-in-Off c =
     let f = a.file.now in
     let h = c.header_at-h in
     let link_at = c.link_at in
-    let s = reached_with a.reached a.places.now a.ids.now a.«before».now a.after.now in record { by_index = λ i o e. into_off a.spot.row.0 a.spot.column.0 a.spot.plane o s
-          (sym c.in-Off.is ∙ link_at.ensures i o (read_as f a.size a.reached.at _ _ h.ensures.value i o e)); at_value = ap (λ (k : Header). a.reached.at + (16 + k.length)) h.ensures.value; }
+    let s = reached_with a.reached a.places.now a.ids.now a.«before».now a.after.now in record {
+      by_index = λ i o e. into_off a.spot.row.0 a.spot.column.0 a.spot.plane o s
+          (sym c.in-Off.is ∙ link_at.ensures i o (read_as f a.size a.reached.at _ _ h.ensures.value i o e));
+      at_value = ap (λ (k : Header). a.reached.at + (16 + k.length)) h.ensures.value;
+    }
 
 pub returns-in-On : goal.returns-in-On
 returns-in-On c =

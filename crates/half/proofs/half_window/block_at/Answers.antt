@@ -15,4 +15,7 @@ returns c =
     let x = pair_of a.pair.now a.width in
     let e = c.xyz_of.ensures.value ∙ block_is a.half x 0 a.j _ _ _ _ _ sample-at.ensures
     sample-at2.ensures sample-at3.ensures c.sample_at-blue.ensures
-    c.mean.ensures.value in record { value = e; all = λ h d. subst (λ (v : Xyz). All Finite v.x v.y v.z) (sym e) (block_finite a.half h c.requires.0 x 0 a.j d) }
+    c.mean.ensures.value in record {
+      value = e;
+      all = λ h d. subst (λ (v : Xyz). All Finite v.x v.y v.z) (sym e) (block_finite a.half h c.requires.0 x 0 a.j d);
+    }

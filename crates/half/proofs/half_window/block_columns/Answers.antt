@@ -62,7 +62,7 @@ loop-i-init c =
       omega arith,
       omega arith,
       λ q u.
-          partly_start (value s.args.file.now s.args.view s.args.half q w.top w.left) w.height (row (goal.at.loop-i-init c).Start)
+          partly_start (value s.args.file.now s.args.view s.args.half q w.top w.left) w.height (row s)
           (s.args.part.from * 3)
           (s.args.part.count * 3) s.args.out.now u,
     )
@@ -71,7 +71,7 @@ pub overflow_add-e : goal.overflow_add-e
 overflow_add-e c =
     let s = (goal.at.overflow_add-e c).Start in
     let l = c.loop-i in
-    omega (arith, rows (goal.at.overflow_add-e c).Start l.i c.loop-i-test.true, s.requires.blocks_in.2.inside, l.invariant.3, l.invariant.0, s.well_formed.1.1.1.1.1.1.1.0.1)
+    omega (arith, rows s l.i c.loop-i-test.true, s.requires.blocks_in.2.inside, l.invariant.3, l.invariant.0, s.well_formed.1.1.1.1.1.1.1.0.1)
 
 pub overflow_add-row : goal.overflow_add-row
 overflow_add-row c = let s =
@@ -89,7 +89,7 @@ offset_bounds-out-a c =
     let l = c.loop-i in
     omega (
       arith,
-      rows (goal.at.offset_bounds-out-a c).Start l.i c.loop-i-test.true,
+      rows s l.i c.loop-i-test.true,
       s.requires.blocks_in.2.inside,
       l.invariant.3,
       l.invariant.0,
@@ -100,7 +100,7 @@ pub slice_bounds-block_part-end-in-loop-i : goal.slice_bounds-block_part-end-in-
 slice_bounds-block_part-end-in-loop-i c =
     let s = (goal.at.slice_bounds-block_part-end-in-loop-i c).Start in
     let l = c.loop-i in
-    omega (arith, rows (goal.at.slice_bounds-block_part-end-in-loop-i c).Start l.i c.loop-i-test.true, s.requires.blocks_in.2.inside, l.invariant.3, l.invariant.0)
+    omega (arith, rows s l.i c.loop-i-test.true, s.requires.blocks_in.2.inside, l.invariant.3, l.invariant.0)
 
 pub block_part-requires : goal.block_part-requires
 block_part-requires c =
@@ -110,7 +110,7 @@ block_part-requires c =
     let p = s.requires.blocks_in.2 in
     let t = c.loop-i-test.true in
     let n = s.args.part.count * 3 in
-    let k = piece (goal.at.block_part-requires c).Start l.a l.out (omega (arith, rows (goal.at.block_part-requires c).Start l.i t, p.inside, l.invariant.3, l.invariant.0)) in record {
+    let k = piece s l.a l.out (omega (arith, rows s l.i t, p.inside, l.invariant.3, l.invariant.0)) in record {
       blocks_in = (
         record {
           file = w.file;
@@ -134,8 +134,8 @@ overflow_add-a c =
     let l = c.loop-i in
     omega (
       arith,
-      rows (goal.at.overflow_add-a c).Start l.i loop-test.true,
-      (inside (goal.at.overflow_add-a c).Start).0,
+      rows s l.i loop-test.true,
+      (inside s).0,
       s.requires.blocks_in.2.inside,
       l.invariant.3,
       s.well_formed.1.1.1.1.1.1.1.0.1,
@@ -145,7 +145,7 @@ pub overflow_add-i : goal.overflow_add-i
 overflow_add-i c =
     let loop-test = c.loop-i-test in
     let s = (goal.at.overflow_add-i c).Start in omega
-    (arith, (inside (goal.at.overflow_add-i c).Start).0, (inside (goal.at.overflow_add-i c).Start).1, s.requires.blocks_in.2.inside, loop-test.true)
+    (arith, (inside s).0, (inside s).1, s.requires.blocks_in.2.inside, loop-test.true)
 
 pub loop-i-smaller : goal.loop-i-smaller
 loop-i-smaller c =
@@ -163,13 +163,13 @@ loop-i-preserved c =
     let t = c.loop-i-test.true in
     let p = s.requires.blocks_in.2 in
     let g = c.block_part in
-    let z = piece (goal.at.loop-i-preserved c).Start l.a l.out (omega (arith, rows (goal.at.loop-i-preserved c).Start l.i t, p.inside, l.invariant.3, l.invariant.0)) in (
+    let z = piece s l.a l.out (omega (arith, rows s l.i t, p.inside, l.invariant.3, l.invariant.0)) in (
       search rules,
       g.ensures.pair_len_unchanged ∙ l.invariant.1,
       omega (arith, t),
-      omega (arith, add-mul l.i 1 (row (goal.at.loop-i-preserved c).Start), l.invariant.3),
+      omega (arith, add-mul l.i 1 (row s), l.invariant.3),
       λ q u. let x = block_in s.args.half (alone_in f q.file) in partly_next (value f v s.args.half q w.top w.left)
-          w.height (row (goal.at.loop-i-preserved c).Start) (s.args.part.from * 3) n l.i l.a l.out g.new.out t
+          w.height (row s) (s.args.part.from * 3) n l.i l.a l.out g.new.out t
           (omega (arith, p.inside)) l.invariant.3 (l.invariant.0 ∙ s.requires.blocks_in.0.length_is)
           (ap length (g.ensures.out_after q) ∙ block_row_length x _ s.args.part.count _) (l.invariant.4 q u)
           (λ k b. ap (λ (ys : List Float). get_or ys k nan) (g.ensures.out_after q)

@@ -29,7 +29,7 @@ loop-j-init c =
 
 pub block_at-v-requires : goal.block_at-v-requires
 block_at-v-requires c =
-    ((goal.at.block_at-v-requires c).In-loop-j.requires.0, omega (arith, c.loop-j-test.true), omega (arith, (goal.at.block_at-v-requires c).In-loop-j.requires.1))
+    (c.requires.0, omega (arith, c.loop-j-test.true), omega (arith, c.requires.1))
 
 pub offset_bounds-out-a : goal.offset_bounds-out-a
 offset_bounds-out-a c = let k =
@@ -45,7 +45,8 @@ overflow_add-out c = let k =
 
 pub offset_bounds-out-a-in-loop-j : goal.offset_bounds-out-a-in-loop-j
 offset_bounds-out-a-in-loop-j c =
-    let k = (goal.at.offset_bounds-out-a-in-loop-j c).In-loop-j in scaled_Fits _ (length (goal.at.offset_bounds-out-a-in-loop-j c).In-loop-j.args.out.now) 8 (omega (arith, room (goal.at.offset_bounds-out-a-in-loop-j c).In-loop-j)) (goal.at.offset_bounds-out-a-in-loop-j c).In-loop-j.well_formed.1.1.1.0.1
+    let k = (goal.at.offset_bounds-out-a-in-loop-j c).In-loop-j in
+    scaled_Fits _ (length k.args.out.now) 8 (omega (arith, room k)) k.well_formed.1.1.1.0.1
 
 pub bounds-out-a-in-loop-j : goal.bounds-out-a-in-loop-j
 bounds-out-a-in-loop-j c = let k =
@@ -57,7 +58,8 @@ overflow_add-out-in-loop-j c = let k =
 
 pub offset_bounds-out-a-in-loop-j-2 : goal.offset_bounds-out-a-in-loop-j-2
 offset_bounds-out-a-in-loop-j-2 c =
-    let k = (goal.at.offset_bounds-out-a-in-loop-j-2 c).In-loop-j in scaled_Fits _ (length (goal.at.offset_bounds-out-a-in-loop-j-2 c).In-loop-j.args.out.now) 8 (omega (arith, room (goal.at.offset_bounds-out-a-in-loop-j-2 c).In-loop-j)) (goal.at.offset_bounds-out-a-in-loop-j-2 c).In-loop-j.well_formed.1.1.1.0.1
+    let k = (goal.at.offset_bounds-out-a-in-loop-j-2 c).In-loop-j in
+    scaled_Fits _ (length k.args.out.now) 8 (omega (arith, room k)) k.well_formed.1.1.1.0.1
 
 pub bounds-out-a-in-loop-j-2 : goal.bounds-out-a-in-loop-j-2
 bounds-out-a-in-loop-j-2 c = let k =
@@ -78,9 +80,9 @@ loop-j-smaller c =
 pub loop-j-preserved : goal.loop-j-preserved
 loop-j-preserved c =
     let k = (goal.at.loop-j-preserved c).In-loop-j in
-    let s = (goal.at.loop-j-preserved c).In-loop-j.args in (
+    let s = k.args in (
       omega (arith, k.loop-j-test.true),
-      block_stored s.half (pair_of s.pair.now (2 * s.count)) _ _ _ _ _ k.loop-j.invariant.1 (room (goal.at.loop-j-preserved c).In-loop-j) c.block_at-v.ensures.value,
+      block_stored s.half (pair_of s.pair.now (2 * s.count)) _ _ _ _ _ k.loop-j.invariant.1 (room k) c.block_at-v.ensures.value,
     )
 
 pub shape_of-out : goal.shape_of-out

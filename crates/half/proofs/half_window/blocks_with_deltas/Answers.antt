@@ -41,14 +41,15 @@ slice_bounds-deltas-end c =
 pub fill_deltas-requires : goal.fill_deltas-requires
 fill_deltas-requires c =
     let s = (goal.at.fill_deltas-requires c).Start in
+    let z = columns s in
     let f = s.args.file.now in
     let v = s.args.view in
     let q = s.requires.blocks_in.0.file in
     let n = 2 * s.args.part.count in
     let e : n ≡ n * v.size.samples = sym (ap (λ (m : ℕ). n * m) s.requires.blocks_in.0.mosaic ∙ mul-one n) in (
       q.picture_in.raw.tags,
-      viewed_wide f v q (2 * (s.args.blocks.left + s.args.part.from)) n (columns (goal.at.fill_deltas-requires c).Start).0 _ (copies_length (pos 0) n 1024 (few (goal.at.fill_deltas-requires c).Start) ∙ e),
-      omega (arith, (columns (goal.at.fill_deltas-requires c).Start).0, (columns (goal.at.fill_deltas-requires c).Start).1),
+      viewed_wide f v q (2 * (s.args.blocks.left + s.args.part.from)) n z.0 _ (copies_length (pos 0) n 1024 (few s) ∙ e),
+      omega (arith, z.0, z.1),
       zeros_part (n - 0) 1024,
     )
 
@@ -57,14 +58,14 @@ slice_bounds-block_columns-end c =
     let s = (goal.at.slice_bounds-block_columns-end c).Start in
     let n = 2 * s.args.part.count in
     let ys = c.fill_deltas.new.out in
-    fits n 1024 _ (array_length (pos 0) n 1024 (few (goal.at.slice_bounds-block_columns-end c).Start) ys (search rules)) (few (goal.at.slice_bounds-block_columns-end c).Start)
+    fits n 1024 _ (array_length (pos 0) n 1024 (few s) ys (search rules)) (few s)
 
 pub block_columns-requires : goal.block_columns-requires
 block_columns-requires c =
     let fill-deltas = c.fill_deltas in
     let s = (goal.at.block_columns-requires c).Start in
     let n = 2 * s.args.part.count in
-    let z = copies_length (pos 0) n 1024 (few (goal.at.block_columns-requires c).Start) in record {
+    let z = copies_length (pos 0) n 1024 (few s) in record {
       blocks_in = s.requires.blocks_in;
       along_in = (
         s.requires.along_in,

@@ -39,7 +39,10 @@ overflow_mul-part c = let s =
 pub piece-q-requires : goal.piece-q-requires
 piece-q-requires c =
     let t = c.requires.0.file.picture_in.raw.tags in
-    let r = t.levels.repeat in record { le_len = (omega (arith, c.requires.2.some), r.some_rows, r.rows, r.some_columns, r.columns); le_samples = (t.frame.some_samples, t.frame.samples) }
+    let r = t.levels.repeat in record {
+      le_len = (omega (arith, c.requires.2.some), r.some_rows, r.rows, r.some_columns, r.columns);
+      le_samples = (t.frame.some_samples, t.frame.samples);
+    }
 
 pub overflow_add-e : goal.overflow_add-e
 overflow_add-e c = let s =
@@ -96,7 +99,10 @@ blocks_with_deltas-requires c =
     let p = c.piece-q in
     let a = c.fill_along in
     let y = a.ensures (2 * c.args.part.count) p.ensures.3 in
-    let m = (c.args.view.picture.raw.tags.levels.repeat.rows + 1) * p.result in record { blocks_in = c.requires; along_in = along_part _ _ _ _ m a.new.out _ (lent (goal.at.blocks_with_deltas-requires c).After-fill_along) y }
+    let m = (c.args.view.picture.raw.tags.levels.repeat.rows + 1) * p.result in record {
+      blocks_in = c.requires;
+      along_in = along_part _ _ _ _ m a.new.out _ (lent (goal.at.blocks_with_deltas-requires c).After-fill_along) y;
+    }
 
 pub returns-then-raw-eq0 : goal.returns-then-raw-eq0
 returns-then-raw-eq0 c =
