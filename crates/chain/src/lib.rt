@@ -150,7 +150,7 @@ pub fn chain(
 {
     match develop::open(file) {
         Opening::Refused { number, detail } => refused(number, detail),
-        Opening::Is(view) => {
+        Ok(view) => {
             let spot = Spot {
                 row: ActiveRow(row),
                 column: ActiveColumn(column),

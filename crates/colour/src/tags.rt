@@ -1,16 +1,18 @@
 // The colour tags of IFD 0: CameraCalibration1, AnalogBalance, ForwardMatrix2, ForwardMatrix1 (forward matrix), AsShotNeutral (neutral).
 ghost use Rattle.std.specs.Prelude.{◌≡◌, true};
+ghost use Rattle.directory.specs.Facts.Out.{out};
 ghost use Rattle.reading.specs.Reading.{run};
 ghost use Rattle.directory.specs.Facts.Shape.{Tested};
-ghost use Rattle.colour.specs.Facts.Value.{triple_out, TripleIn};
+ghost use Rattle.colour.specs.Facts.Value.{TripleIn};
 ghost use Rattle.colour.specs.Tags.{neutral_kind, colour_of, matrix_reading, neutral_reading, colour_reading};
-ghost use Rattle.colour.specs.Facts.Tags.{matrix_out, MatrixIn, colour_out, ColourIn};
+ghost use Rattle.colour.specs.Facts.Tags.{MatrixIn, ColourIn};
 
-use crate::value::{Triple, TripleTest};
-use crate::{Colour, ColourTest, value};
+use directory::refusal::Refusal;
+use crate::value::Triple;
+use crate::{Colour, value};
 use directory::entry::Kind;
-use directory::tag::{Kinds, Rule, ValuesTest};
-use directory::{Ifd, Number, entry, names, tag};
+use directory::tag::{Kinds, Rule};
+use directory::{Ifd, entry, names, tag};
 use reading::fraction::FractionKind;
 
 #[derive(Clone, Copy)]
@@ -20,16 +22,10 @@ pub struct Matrix {
     pub z: Triple,
 }
 
-#[derive(Clone, Copy)]
-pub enum MatrixTest {
-    Refused { number: usize, detail: usize },
-    Is(Matrix),
-}
-
 // ForwardMatrix1.
-fn matrix_of(file: &[u8], ifd: Ifd) -> MatrixTest
+fn matrix_of(file: &[u8], ifd: Ifd) -> Result<Matrix, Refusal>
     requires { Tested file.now ifd }
-    ensures { (matrix_out result ≡ run file.now (matrix_reading ifd)) × MatrixIn result }
+    ensures { (out result ≡ run file.now (matrix_reading ifd)) × MatrixIn result }
 {
     let rule = Rule {
         tag: names::FORWARD_MATRIX_1,
@@ -38,27 +34,15 @@ fn matrix_of(file: &[u8], ifd: Ifd) -> MatrixTest
         least: 9,
         most: 9,
     };
-    let v = match tag::look_up(file, ifd, rule) {
-        ValuesTest::Refused { number, detail } => return MatrixTest::Refused { number, detail },
-        ValuesTest::Is(v) => v,
-    };
+    let v = tag::look_up(file, ifd, rule)?;
     let place = v.place;
     let order = ifd.order;
     let kind = FractionKind::SignedRational;
     let detail = names::FORWARD_MATRIX_1;
-    let x = match value::triple_at(file, order, kind, 8, detail, false, place) {
-        TripleTest::Refused { number, detail } => return MatrixTest::Refused { number, detail },
-        TripleTest::Is(t) => t,
-    };
-    let y = match value::triple_at(file, order, kind, 8, detail, false, place + 24) {
-        TripleTest::Refused { number, detail } => return MatrixTest::Refused { number, detail },
-        TripleTest::Is(t) => t,
-    };
-    let z = match value::triple_at(file, order, kind, 8, detail, false, place + 48) {
-        TripleTest::Refused { number, detail } => return MatrixTest::Refused { number, detail },
-        TripleTest::Is(t) => t,
-    };
-    MatrixTest::Is(Matrix { x, y, z })
+    let x = value::triple_at(file, order, kind, 8, detail, false, place)?;
+    let y = value::triple_at(file, order, kind, 8, detail, false, place + 24)?;
+    let z = value::triple_at(file, order, kind, 8, detail, false, place + 48)?;
+    Ok(Matrix { x, y, z })
 }
 
 // SHORT or RATIONAL, by the entry's type.
@@ -74,9 +58,9 @@ fn neutral_kind(kind: Kind) -> FractionKind
 }
 
 // AsShotNeutral.
-fn neutral_of(file: &[u8], ifd: Ifd) -> TripleTest
+fn neutral_of(file: &[u8], ifd: Ifd) -> Result<Triple, Refusal>
     requires { Tested file.now ifd }
-    ensures { (triple_out result ≡ run file.now (neutral_reading ifd)) × TripleIn true result }
+    ensures { (out result ≡ run file.now (neutral_reading ifd)) × TripleIn true result }
 {
     let rule = Rule {
         tag: names::AS_SHOT_NEUTRAL,
@@ -85,10 +69,7 @@ fn neutral_of(file: &[u8], ifd: Ifd) -> TripleTest
         least: 3,
         most: 3,
     };
-    let v = match tag::look_up(file, ifd, rule) {
-        ValuesTest::Refused { number, detail } => return TripleTest::Refused { number, detail },
-        ValuesTest::Is(v) => v,
-    };
+    let v = tag::look_up(file, ifd, rule)?;
     let size = v.size;
     let place = v.place;
     let order = ifd.order;
@@ -117,29 +98,14 @@ fn colour_from(m: Matrix, n: Triple) -> Colour
 }
 
 // The colour tags, in order of test.
-pub fn colour_of(file: &[u8], ifd: Ifd) -> ColourTest
+pub fn colour_of(file: &[u8], ifd: Ifd) -> Result<Colour, Refusal>
     requires { Tested file.now ifd }
-    ensures { (colour_out result ≡ run file.now (colour_reading ifd)) × ColourIn result }
+    ensures { (out result ≡ run file.now (colour_reading ifd)) × ColourIn result }
 {
-    match tag::not_carried(file, ifd, names::CAMERA_CALIBRATION_1) {
-        Number::Refused { number, detail } => return ColourTest::Refused { number, detail },
-        Number::Is(_) => {}
-    }
-    match tag::not_carried(file, ifd, names::ANALOG_BALANCE) {
-        Number::Refused { number, detail } => return ColourTest::Refused { number, detail },
-        Number::Is(_) => {}
-    }
-    match tag::not_carried(file, ifd, names::FORWARD_MATRIX_2) {
-        Number::Refused { number, detail } => return ColourTest::Refused { number, detail },
-        Number::Is(_) => {}
-    }
-    let matrix = match matrix_of(file, ifd) {
-        MatrixTest::Refused { number, detail } => return ColourTest::Refused { number, detail },
-        MatrixTest::Is(m) => m,
-    };
-    let neutral = match neutral_of(file, ifd) {
-        TripleTest::Refused { number, detail } => return ColourTest::Refused { number, detail },
-        TripleTest::Is(n) => n,
-    };
-    ColourTest::Is(colour_from(matrix, neutral))
+    tag::not_carried(file, ifd, names::CAMERA_CALIBRATION_1)?;
+    tag::not_carried(file, ifd, names::ANALOG_BALANCE)?;
+    tag::not_carried(file, ifd, names::FORWARD_MATRIX_2)?;
+    let matrix = matrix_of(file, ifd)?;
+    let neutral = neutral_of(file, ifd)?;
+    Ok(colour_from(matrix, neutral))
 }

@@ -41,7 +41,7 @@ pub fn card(file: &[u8]) -> CardAnswer
                 rows: 0,
             },
         },
-        Opening::Is(view) => {
+        Ok(view) => {
             let tags = view.picture.raw.tags;
             let crop = tags.crop;
             CardAnswer {

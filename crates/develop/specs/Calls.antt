@@ -1,5 +1,5 @@
 -- What the tests before 13 leave, and what spot, window and colour window answer, for every string of bytes and every argument.
-use Rattle.std.specs.Prelude.{ℕ, ◌+◌, ◌*◌, ◌/◌, ◌%◌, Bool, ◌&&◌, List, [], ◌∷◌, ◌++◌, leb, ltb, eqb, Float, length}
+use Rattle.std.specs.Prelude.{ℕ, ◌+◌, ◌*◌, ◌/◌, ◌%◌, Bool, ◌&&◌, List, [], ◌∷◌, ◌++◌, leb, ltb, eqb, Float, length, Result, Ok, Err}
 use Rattle.reading.specs.Reading.{Reading, Reading.answer, and_then, pick, run, run_whole}
 use Rattle.directory.specs.Out.{Out, Out.refused, Out.is, bind}
 use Rattle.levels.specs.Clip.{plus_zero}
@@ -17,8 +17,8 @@ use Rattle.colour.specs.Tags.{colour_reading}
 use Rattle.colour.specs.Pixel.{xyz_of}
 use Rattle.colour.specs.declared.Colour.{Colour}
 use Rattle.colour.specs.declared.pixel.Xyz.{Xyz}
-use Rattle.develop.specs.declared.spot.SpotAnswer.{SpotAnswer}
-use Rattle.develop.specs.declared.Answer.{Answer}
+use Rattle.directory.specs.Refusal.{number_of, detail_of}
+use Rattle.directory.specs.declared.refusal.Refusal.{Refusal}
 use Rattle.rawtags.specs.declared.Tags.{Tags}
 
 -- ---- what the tests before 13 leave
@@ -89,9 +89,19 @@ pixel_alone f o m r c k = channel_of (xyz_of m (alone_in f o r c 0) (alone_in f 
 abbrev pub within : Size → ℕ → ℕ → ℕ → Bool
 within z r c p = ltb r z.rows && (ltb c z.columns && ltb p z.samples)
 
+pub record SpotAnswer : Type 0 where
+  pub number : ℕ
+  pub detail : ℕ
+  pub value : Float
+
 -- "a refused spot +0.0"
 abbrev pub refused_spot : ℕ → ℕ → SpotAnswer
 refused_spot n d = record { number = n; detail = d; value = plus_zero }
+
+-- the answer of a call
+abbrev pub spot_with : Result Float Refusal → SpotAnswer
+spot_with (Ok x) = record { number = 0; detail = 0; value = x }
+spot_with (Err r) = refused_spot (number_of r) (detail_of r)
 
 abbrev pub spot_of : List ℕ → ℕ → ℕ → ℕ → Out Opened → SpotAnswer
 spot_of f r c p (refused n d) = refused_spot n d
@@ -129,8 +139,9 @@ pub record Window : Type 0 where
   pub detail : ℕ
   pub slice : List Float
 
-abbrev pub window_with : Answer → List Float → Window
-window_with a xs = record { number = a.number; detail = a.detail; slice = xs }
+abbrev pub window_with : Result (Unit {0}) Refusal → List Float → Window
+window_with (Ok u) xs = record { number = 0; detail = 0; slice = xs }
+window_with (Err r) xs = record { number = number_of r; detail = detail_of r; slice = xs }
 
 -- "a refused window or colour window leaves its slice untouched"
 abbrev pub refused_window : ℕ → ℕ → List Float → Window

@@ -4,9 +4,10 @@ ghost use Rattle.directory.specs.Out;
 ghost use Rattle.develop.specs.Calls.{window_with, coloured_of, colour_window_call};
 ghost use Rattle.develop.specs.Facts.View.{Viewed};
 
+use directory::refusal::Refusal;
 use crate::fill::Rectangle;
-use crate::{Answer, Opening, View, fill, window};
-use colour::{Colour, ColourTest, pass, tags};
+use crate::{View, fill, window};
+use colour::{Colour, pass, tags};
 
 // A colour window of an accepted file whose colour tags are read.
 fn coloured_in(
@@ -18,23 +19,21 @@ fn coloured_in(
     height: usize,
     width: usize,
     out: &mut [f64],
-) -> Answer
+) -> Result<(), Refusal>
     requires { Viewed file.now view × (view.size.samples ≡ 3) }
     ensures { (q : Viewed file.now view) → window_with result out.new ≡ coloured_of file.now top left height width out.old q.file (Out.is colour) }
 {
     let size = view.size;
-    let number = window::window_fault(size, 3, top, left, height, width, out.len());
-    if number == 0 {
-        let window = Rectangle {
-            top,
-            left,
-            height,
-            width,
-        };
-        fill::fill_window(file, view, window, out);
-        pass::colour_pass(colour, out);
-    }
-    Answer { number, detail: 0 }
+    window::test_window(size, 3, top, left, height, width, out.len())?;
+    let window = Rectangle {
+        top,
+        left,
+        height,
+        width,
+    };
+    fill::fill_window(file, view, window, out);
+    pass::colour_pass(colour, out);
+    Ok(())
 }
 
 // A colour window of an accepted file: 15, the colour tags, 13 and 14.
@@ -46,24 +45,15 @@ fn colour_window_in(
     height: usize,
     width: usize,
     out: &mut [f64],
-) -> Answer
+) -> Result<(), Refusal>
     requires { Viewed file.now view }
     ensures { window_with result out.new ≡ colour_window_call file.now top left height width out.old }
 {
-    let size = view.size;
-    if size.samples == 3 {
-        let first = view.picture.first;
-        return match tags::colour_of(file, first) {
-            ColourTest::Refused { number, detail } => Answer { number, detail },
-            ColourTest::Is(colour) => coloured_in(
-                file, view, colour, top, left, height, width, out,
-            ),
-        };
+    if view.size.samples != 3 {
+        return Err(Refusal::Planes);
     }
-    Answer {
-        number: 15,
-        detail: 0,
-    }
+    let colour = tags::colour_of(file, view.picture.first)?;
+    coloured_in(file, view, colour, top, left, height, width, out)
 }
 
 pub fn colour_window(
@@ -73,11 +63,9 @@ pub fn colour_window(
     height: usize,
     width: usize,
     out: &mut [f64],
-) -> Answer
+) -> Result<(), Refusal>
     ensures { window_with result out.new ≡ colour_window_call file.now top left height width out.old }
 {
-    match crate::open(file) {
-        Opening::Refused { number, detail } => Answer { number, detail },
-        Opening::Is(view) => colour_window_in(file, view, top, left, height, width, out),
-    }
+    let view = crate::open(file)?;
+    colour_window_in(file, view, top, left, height, width, out)
 }

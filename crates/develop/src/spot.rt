@@ -1,20 +1,14 @@
 // A spot.
 ghost use Rattle.std.specs.Prelude.{◌≡◌};
-ghost use Rattle.develop.specs.Calls.{spot_call};
+ghost use Rattle.develop.specs.Calls.{spot_with, spot_call};
 ghost use Rattle.develop.specs.Calls;
 ghost use Rattle.develop.specs.Facts.View.{Viewed};
 
-use crate::{Opening, View};
+use directory::refusal::Refusal;
+use crate::{View};
 use levels::active::{ActiveColumn, ActiveRow};
 use opcodes::grid::Size;
 use raw::sample;
-
-#[derive(Clone, Copy)]
-pub struct SpotAnswer {
-    pub number: usize,
-    pub detail: usize,
-    pub value: f64,
-}
 
 // Whether a spot is in the active area and has such a plane.
 pub fn within(size: Size, row: usize, column: usize, plane: usize) -> bool
@@ -29,9 +23,9 @@ pub fn within(size: Size, row: usize, column: usize, plane: usize) -> bool
 }
 
 // A spot of an accepted file: its sample alone, through the list.
-fn spot_in(file: &[u8], view: View, row: usize, column: usize, plane: usize) -> SpotAnswer
+fn spot_in(file: &[u8], view: View, row: usize, column: usize, plane: usize) -> Result<f64, Refusal>
     requires { Viewed file.now view }
-    ensures { result ≡ spot_call file.now row column plane }
+    ensures { spot_with result ≡ spot_call file.now row column plane }
 {
     if within(view.size, row, column, plane) {
         let picture = view.picture;
@@ -41,7 +35,7 @@ fn spot_in(file: &[u8], view: View, row: usize, column: usize, plane: usize) -> 
         let r = ActiveRow(row);
         let c = ActiveColumn(column);
         let x = sample::scaled_at(file, order, raw, r, c, plane);
-        let value = rows::list::list_at(
+        return Ok(rows::list::list_at(
             file,
             view.size,
             values.place,
@@ -50,29 +44,14 @@ fn spot_in(file: &[u8], view: View, row: usize, column: usize, plane: usize) -> 
             c,
             plane,
             x,
-        );
-        return SpotAnswer {
-            number: 0,
-            detail: 0,
-            value,
-        };
+        ));
     }
-    SpotAnswer {
-        number: 13,
-        detail: 0,
-        value: 0.0,
-    }
+    Err(Refusal::Outside)
 }
 
-pub fn spot(file: &[u8], row: usize, column: usize, plane: usize) -> SpotAnswer
-    ensures { result ≡ spot_call file.now row column plane }
+pub fn spot(file: &[u8], row: usize, column: usize, plane: usize) -> Result<f64, Refusal>
+    ensures { spot_with result ≡ spot_call file.now row column plane }
 {
-    match crate::open(file) {
-        Opening::Refused { number, detail } => SpotAnswer {
-            number,
-            detail,
-            value: 0.0,
-        },
-        Opening::Is(view) => spot_in(file, view, row, column, plane),
-    }
+    let view = crate::open(file)?;
+    spot_in(file, view, row, column, plane)
 }

@@ -3,8 +3,9 @@ ghost use Rattle.std.specs.Prelude.{◌≡◌};
 ghost use Rattle.develop.specs.Calls.{window_with, window_call};
 ghost use Rattle.develop.specs.Facts.View.{Viewed};
 
+use directory::refusal::Refusal;
 use crate::fill::Rectangle;
-use crate::{Answer, Opening, View, tabled, window};
+use crate::{View, tabled, window};
 
 // A window of an accepted file: 13 and 14, then its values.
 fn table_window_in(
@@ -15,25 +16,20 @@ fn table_window_in(
     height: usize,
     width: usize,
     out: &mut [f64],
-) -> Answer
+) -> Result<(), Refusal>
     requires { Viewed file.now view }
     ensures { window_with result out.new ≡ window_call file.now top left height width out.old }
 {
     let size = view.size;
-    let fault = window::window_fault(size, size.samples, top, left, height, width, out.len());
-    if fault == 0 {
-        let window = Rectangle {
-            top,
-            left,
-            height,
-            width,
-        };
-        tabled::fill_tabled(file, view, window, out);
-    }
-    Answer {
-        number: fault,
-        detail: 0,
-    }
+    window::test_window(size, size.samples, top, left, height, width, out.len())?;
+    let window = Rectangle {
+        top,
+        left,
+        height,
+        width,
+    };
+    tabled::fill_tabled(file, view, window, out);
+    Ok(())
 }
 
 pub fn table_window(
@@ -43,11 +39,9 @@ pub fn table_window(
     height: usize,
     width: usize,
     out: &mut [f64],
-) -> Answer
+) -> Result<(), Refusal>
     ensures { window_with result out.new ≡ window_call file.now top left height width out.old }
 {
-    match crate::open(file) {
-        Opening::Refused { number, detail } => Answer { number, detail },
-        Opening::Is(view) => table_window_in(file, view, top, left, height, width, out),
-    }
+    let view = crate::open(file)?;
+    table_window_in(file, view, top, left, height, width, out)
 }

@@ -3,15 +3,16 @@ ghost use Rattle.std.specs.Prelude.{◌≡◌, ◌≤◌};
 ghost use Rattle.rows.specs.Facts.Part.{SizedIn};
 ghost use Rattle.develop.specs.Calls.{window_with, window_call};
 ghost use Rattle.develop.specs.Facts.View.{Viewed};
-ghost use Rattle.develop.specs.Facts.Fill.{window_fault};
+ghost use Rattle.develop.specs.Facts.Fill.{window_test};
 
+use directory::refusal::Refusal;
 use crate::fill::Rectangle;
-use crate::{Answer, Opening, View, fill};
+use crate::{View, fill};
 use opcodes::grid::Size;
 use reading::number;
 
-// 13 and 14 of a window with so many values to a pixel; 0 where neither refuses.
-pub fn window_fault(
+// Whether a window lies in the active area, and the slice has its length at so many values to a pixel.
+pub fn test_window(
     size: Size,
     values: usize,
     top: usize,
@@ -19,20 +20,20 @@ pub fn window_fault(
     height: usize,
     width: usize,
     len: usize,
-) -> usize
+) -> Result<(), Refusal>
     requires { SizedIn size × (values ≤ 3) }
-    ensures { result ≡ window_fault size values top left height width len }
+    ensures { result ≡ window_test size values top left height width len }
 {
     if number::some_inside(top, height, size.rows) {
         if number::some_inside(left, width, size.columns) {
             return if len == height * width * values {
-                0
+                Ok(())
             } else {
-                14
+                Err(Refusal::SliceLength)
             };
         }
     }
-    13
+    Err(Refusal::Outside)
 }
 
 // A window of a file that was opened: what `window` does behind its opening, for a caller that asks for several.
@@ -44,25 +45,20 @@ pub fn opened_window(
     height: usize,
     width: usize,
     out: &mut [f64],
-) -> Answer
+) -> Result<(), Refusal>
     requires { Viewed file.now view }
     ensures { window_with result out.new ≡ window_call file.now top left height width out.old }
 {
     let size = view.size;
-    let fault = window_fault(size, size.samples, top, left, height, width, out.len());
-    if fault == 0 {
-        let window = Rectangle {
-            top,
-            left,
-            height,
-            width,
-        };
-        fill::fill_window(file, view, window, out);
-    }
-    Answer {
-        number: fault,
-        detail: 0,
-    }
+    test_window(size, size.samples, top, left, height, width, out.len())?;
+    let window = Rectangle {
+        top,
+        left,
+        height,
+        width,
+    };
+    fill::fill_window(file, view, window, out);
+    Ok(())
 }
 
 pub fn window(
@@ -72,11 +68,9 @@ pub fn window(
     height: usize,
     width: usize,
     out: &mut [f64],
-) -> Answer
+) -> Result<(), Refusal>
     ensures { window_with result out.new ≡ window_call file.now top left height width out.old }
 {
-    match crate::open(file) {
-        Opening::Refused { number, detail } => Answer { number, detail },
-        Opening::Is(view) => opened_window(file, view, top, left, height, width, out),
-    }
+    let view = crate::open(file)?;
+    opened_window(file, view, top, left, height, width, out)
 }

@@ -11,6 +11,7 @@ use lib.Dec.{T, T_not, eqb, leb, ltb}
 use lib.ListN.{length, get_or}
 use mir.Val.{has_key}
 use borrow.Author.Tests.{eqb-true, eqb-false, leb-true, leb-false, ltb-true, ltb-false, le-leb, lt-leb, eq-eqb, ne_eqb}
+use Rattle.directory.specs.Facts.Out.{out}
 use Rattle.reading.specs.Bytes.{part}
 use Rattle.reading.specs.Number.{number_of}
 use Rattle.reading.specs.Facts.Number.{Wide}
@@ -23,7 +24,7 @@ use Rattle.directory.specs.Entry.{code_of, plain_of, sizes, kind_width, bytes_of
 use Rattle.directory.specs.Shape.{entry_reading, shape_from}
 use Rattle.directory.specs.Tag.{find_from, found_reading, allows_of, values_at, no_values, whole_reading, value_reading, tested_reading}
 use Rattle.directory.specs.Tag.{values_found, values_reading, required, optional, range_fault, judged_of, first_reading, each_reading}
-use Rattle.directory.specs.Facts.Tag.{values_out, ValuesIn, Placed, Long, SizeIn, Numeric, PlacedValues, InRange, NumberIn}
+use Rattle.directory.specs.Facts.Tag.{ValuesIn, Placed, Long, SizeIn, Numeric, PlacedValues, InRange, NumberIn}
 use Rattle.directory.specs.declared.Ifd.{Ifd}
 use Rattle.directory.specs.declared.Widths.{Widths}
 use Rattle.directory.specs.declared.Number.{Number}
@@ -261,8 +262,8 @@ values_found_law f d r fd e = run_then _ _ _ fd e
 
 -- a tag that was looked up: its values, and what holds of them
 pub looked_up : (f : List ℕ) (d : Ifd) (r : Rule) {g : ValuesTest} {v : Values} → g ≡ given.Is v →
-    (values_out g ≡ run f (values_reading d r)) × ValuesIn (length f) r g → (is v ≡ run f (values_reading d r)) × PlacedValues (length f) r v
-looked_up f d r e q = (ap values_out (sym e) ∙ q.0, subst (ValuesIn (length f) r) e q.1)
+    (out g ≡ run f (values_reading d r)) × ValuesIn (length f) r g → (is v ≡ run f (values_reading d r)) × PlacedValues (length f) r v
+looked_up f d r e q = (ap out (sym e) ∙ q.0, subst (ValuesIn (length f) r) e q.1)
 
 pub absent_in : (size : ℕ) (r : Rule) → r.required ≡ false → PlacedValues size r no_values
 absent_in size r e =

@@ -1,5 +1,5 @@
 -- One tag of a directory: "presence (5), type and count (4), then each value in stored order: legal (4), then carried (8)".
-use Rattle.std.specs.Prelude.{List, [], ◌∷◌, Bool, true, false, ℕ, zero, suc, ◌+◌, ltb, leb, eqb}
+use Rattle.std.specs.Prelude.{List, [], ◌∷◌, Bool, true, false, ℕ, zero, suc, ◌+◌, ltb, leb, eqb, Option, Some, None}
 use mir.Val.{has_key}
 use Rattle.reading.specs.Reading.{Reading, Reading.answer, Reading.ask, and_then, pick, number_at}
 use Rattle.reading.specs.declared.number.Order.{Order}
@@ -12,7 +12,6 @@ use Rattle.directory.specs.declared.entry.Kind.{Kind}
 use Rattle.directory.specs.declared.entry.Kind.TheVariants as kind
 use Rattle.directory.specs.declared.entry.Entry.{Entry}
 use Rattle.directory.specs.declared.tag.Found.{Found}
-use Rattle.directory.specs.declared.tag.Found.TheVariants as found
 use Rattle.directory.specs.declared.tag.Kinds.{Kinds}
 use Rattle.directory.specs.declared.tag.Kinds.TheVariants as kinds
 use Rattle.directory.specs.declared.tag.Rule.{Rule}
@@ -22,13 +21,13 @@ use Rattle.directory.specs.declared.tag.Values.{Values}
 -- ---- finding a tag
 
 -- the first of so many entries with a tag, and the place of its value or offset; its bytes before that are read
-unfoldable pub find_from : Widths → Order → ℕ → ℕ → ℕ → Reading Found
-find_from w o zero at tag = answer found.Absent
+unfoldable pub find_from : Widths → Order → ℕ → ℕ → ℕ → Reading (Option Found)
+find_from w o zero at tag = answer None
 find_from w o (suc n) at tag =
     ask at (head_width w) (λ bs.
-    pick (eqb (entry_of w o bs).tag tag) (answer (found.At (at + head_width w) (entry_of w o bs))) (find_from w o n (at + entry_width w) tag))
+    pick (eqb (entry_of w o bs).tag tag) (answer (Some (record { place = at + head_width w; entry = entry_of w o bs }))) (find_from w o n (at + entry_width w) tag))
 
-abbrev pub found_reading : Ifd → ℕ → Reading Found
+abbrev pub found_reading : Ifd → ℕ → Reading (Option Found)
 found_reading d tag = find_from d.widths d.order d.count d.at tag
 
 -- ---- type and count
@@ -75,17 +74,17 @@ tested_reading w o r p e =
 unfoldable pub absent_of : Rule → Out Values
 absent_of r = pick r.required (refused 5 r.tag) (is no_values)
 
-abbrev pub values_found : Widths → Order → Rule → Found → Reading (Out Values)
-values_found w o r found.Absent = answer (absent_of r)
-values_found w o r (found.At p e) = tested_reading w o r p e
+abbrev pub values_found : Widths → Order → Rule → Option Found → Reading (Out Values)
+values_found w o r None = answer (absent_of r)
+values_found w o r (Some x) = tested_reading w o r x.place x.entry
 
 -- a tag of a directory: presence, type and count
 unfoldable pub values_reading : Ifd → Rule → Reading (Out Values)
 values_reading d r = and_then (found_reading d r.tag) (values_found d.widths d.order r)
 
-abbrev pub if_absent : ℕ → Found → Reading (Out ℕ)
-if_absent tag found.Absent = answer (is 0)
-if_absent tag (found.At p e) = answer (refused 8 tag)
+abbrev pub if_absent : ℕ → Option Found → Reading (Out ℕ)
+if_absent tag None = answer (is 0)
+if_absent tag (Some x) = answer (refused 8 tag)
 
 -- "if present with any type, not carried"
 unfoldable pub not_carried : Ifd → ℕ → Reading (Out ℕ)

@@ -1,21 +1,22 @@
 // The shape of a directory: refusal 3.
 ghost use Rattle.std.specs.Prelude.{◌≡◌, ◌+◌, ◌*◌, ◌≤◌, ◌<◌, length};
 ghost use Rattle.reading.specs.Reading.{run};
-ghost use Rattle.directory.specs.Facts.Out.{number_out};
+ghost use Rattle.directory.specs.Facts.Out.{out};
 ghost use Rattle.directory.specs.Widths.{entry_width};
 ghost use Rattle.directory.specs.Facts.Widths.{WidthsIn};
 ghost use Rattle.directory.specs.Shape.{entry_reading, shape_from, ifd_reading};
-ghost use Rattle.directory.specs.Facts.Shape.{TagIn, ifd_out, IfdIn};
+ghost use Rattle.directory.specs.Facts.Shape.{TagIn, IfdIn};
 
-use crate::{Ifd, IfdTest, Number, Widths, entry};
+use crate::refusal::Refusal;
+use crate::{Ifd, Widths, entry};
 use reading::number;
 use reading::number::Order;
 
 // The tag of the entry at a place, whose value must lie in the file. The fields are read here one by one, and the size by the
 // type's number: `header` would stay a call in the loop over all entries.
-fn placed_tag(file: &[u8], order: Order, widths: Widths, at: usize) -> Number
+fn placed_tag(file: &[u8], order: Order, widths: Widths, at: usize) -> Result<usize, Refusal>
     requires { (at + entry_width widths ≤ length file.now) × (length file.now ≤ 67108864) × WidthsIn widths }
-    ensures result_value { number_out result ≡ run file.now (entry_reading widths (length file.now) order at) }
+    ensures result_value { out result ≡ run file.now (entry_reading widths (length file.now) order at) }
     ensures tag_in { TagIn result }
 {
     let word = widths.word;
@@ -25,51 +26,40 @@ fn placed_tag(file: &[u8], order: Order, widths: Widths, at: usize) -> Number
     let size = entry::size_of(types, number::short(file, order, at + 2) as usize);
     let count = number::value(file, order, word, at + 4);
     if entry::fits(size, count, word) {
-        return Number::Is(tag);
+        return Ok(tag);
     }
     let place = number::value(file, order, word, at + head);
     if entry::many_inside(place, size, count, file.len()) {
-        Number::Is(tag)
+        Ok(tag)
     } else {
-        Number::Refused {
-            number: 3,
-            detail: 0,
-        }
+        Err(Refusal::Shape)
     }
 }
 
 // So many entries from a place on: their values lie in the file, and their tags ascend strictly.
-fn check_entries(file: &[u8], order: Order, widths: Widths, count: usize, at: usize) -> Number
+fn check_entries(file: &[u8], order: Order, widths: Widths, count: usize, at: usize) -> Result<usize, Refusal>
     requires { (at + entry_width widths * count ≤ length file.now) × (length file.now ≤ 67108864) × WidthsIn widths }
-    ensures { number_out result ≡ run file.now (shape_from widths (length file.now) order count at 0) }
+    ensures { out result ≡ run file.now (shape_from widths (length file.now) order count at 0) }
 {
     let word = widths.word;
     let step = 4 + word + word;
-    let mut left = count;
     let mut p = at;
     let mut low: usize = 0;
-    while 0 < left {
-        let tag = match placed_tag(file, order, widths, p) {
-            Number::Refused { number, detail } => return Number::Refused { number, detail },
-            Number::Is(t) => t,
-        };
+    for _ in 0..count {
+        let tag = placed_tag(file, order, widths, p)?;
         if tag < low {
-            return Number::Refused {
-                number: 3,
-                detail: 0,
-            };
+            return Err(Refusal::Shape);
         }
         low = tag + 1;
         p += step;
-        left -= 1;
     }
-    Number::Is(low)
+    Ok(low)
 }
 
 // The directory at an offset.
-pub fn ifd_at(file: &[u8], order: Order, widths: Widths, at: usize) -> IfdTest
+pub fn ifd_at(file: &[u8], order: Order, widths: Widths, at: usize) -> Result<Ifd, Refusal>
     requires { (length file.now ≤ 67108864) × WidthsIn widths }
-    ensures { (ifd_out result ≡ run file.now (ifd_reading widths (length file.now) order at)) × IfdIn file.now result }
+    ensures { (out result ≡ run file.now (ifd_reading widths (length file.now) order at)) × IfdIn file.now result }
 {
     let entries = widths.entries;
     let word = widths.word;
@@ -78,20 +68,15 @@ pub fn ifd_at(file: &[u8], order: Order, widths: Widths, at: usize) -> IfdTest
         let first = at + entries;
         if 0 < count {
             if entry::many_inside(first + word, 4 + word + word, count, file.len()) {
-                return match check_entries(file, order, widths, count, first) {
-                    Number::Refused { number, detail } => IfdTest::Refused { number, detail },
-                    Number::Is(_) => IfdTest::Is(Ifd {
-                        order,
-                        widths,
-                        count,
-                        at: first,
-                    }),
-                };
+                check_entries(file, order, widths, count, first)?;
+                return Ok(Ifd {
+                    order,
+                    widths,
+                    count,
+                    at: first,
+                });
             }
         }
     }
-    IfdTest::Refused {
-        number: 3,
-        detail: 0,
-    }
+    Err(Refusal::Shape)
 }

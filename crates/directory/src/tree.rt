@@ -1,41 +1,33 @@
 // The directory tree, down to the raw directory.
 ghost use Rattle.std.specs.Prelude.{◌≡◌, ◌+◌, ◌*◌, ◌≤◌, ◌<◌, length, take};
-ghost use Rattle.reading.specs.Facts.Number.{Wide};
 ghost use Rattle.reading.specs.Reading.{run, run_whole};
-ghost use Rattle.directory.specs.Facts.Out.{number_out};
+ghost use Rattle.directory.specs.Facts.Out.{out};
 ghost use Rattle.directory.specs.Facts.Widths.{WidthsIn};
 ghost use Rattle.directory.specs.Facts.Shape.{Tested};
 ghost use Rattle.directory.specs.Facts.Tag.{PlacedValues};
 ghost use Rattle.directory.specs.Tree.{look_reading, version_rule, backward_rule, backward_reading, version_reading};
-ghost use Rattle.directory.specs.Facts.Tree.{look_out, LookIn, walk_out, WalkIn, tree_out, TreeIn};
+ghost use Rattle.directory.specs.Facts.Tree.{look_out, LookIn, walk_out, WalkIn, TreeIn, ChildrenIn};
 ghost use Rattle.directory.specs.Tree.{visit_reading, list_visit, walk_reading, root_reading, same_bytes, offset_reading};
 ghost use Rattle.directory.specs.Tree.{big_tiff_reading, tree_reading};
 
-use crate::tag::{Kinds, Range, Rule, Values, ValuesTest};
-use crate::{Ifd, IfdTest, Number, Widths, names, shape, tag};
+use crate::refusal::Refusal;
+use crate::tag::{Kinds, Range, Rule, Values};
+use crate::{Ifd, Widths, names, shape, tag};
 use reading::number;
 use reading::number::Order;
 
-// What a directory is: the raw one, or one with so many children, whose offsets start at a place and have so many bytes.
+// The children of a directory: so many, whose offsets start at a place and have so many bytes.
 #[derive(Clone, Copy)]
-pub enum Look {
-    Raw,
-    Refused {
-        number: usize,
-        detail: usize,
-    },
-    Into {
-        place: usize,
-        size: usize,
-        count: usize,
-    },
+pub struct Children {
+    pub place: usize,
+    pub size: usize,
+    pub count: usize,
 }
 
 // What a walk finds: the raw directory, or none and so many visits left.
 #[derive(Clone, Copy)]
 pub enum Walk {
     Raw(Ifd),
-    Refused { number: usize, detail: usize },
     Left(usize),
 }
 
@@ -46,14 +38,8 @@ pub struct Roots {
     pub raw: Ifd,
 }
 
-#[derive(Clone, Copy)]
-pub enum Tree {
-    Refused { number: usize, detail: usize },
-    Is(Roots),
-}
-
-// NewSubfileType and SubIFDs.
-fn inspect(file: &[u8], ifd: Ifd) -> Look
+// NewSubfileType and SubIFDs: the children of a directory that is not the raw one.
+fn inspect(file: &[u8], ifd: Ifd) -> Result<Option<Children>, Refusal>
     requires { Tested file.now ifd }
     ensures { (look_out result ≡ run file.now (look_reading ifd)) × LookIn (length file.now) result }
 {
@@ -69,28 +55,22 @@ fn inspect(file: &[u8], ifd: Ifd) -> Look
         from: 0,
         to: 0xFFFF_FFFF_FFFF_FFFF,
     };
-    let t = match tag::one(file, ifd, subfile, 0, any) {
-        Number::Refused { number, detail } => return Look::Refused { number, detail },
-        Number::Is(t) => t,
-    };
-    if t == 0 {
-        return Look::Raw;
+    if tag::one(file, ifd, subfile, 0, any)? == 0 {
+        return Ok(None);
     }
-    let children = Rule {
+    let rule = Rule {
         tag: names::SUB_IFDS,
         kinds: Kinds::LongOrIfd,
         required: false,
         least: 1,
         most: 16,
     };
-    match tag::look_up(file, ifd, children) {
-        ValuesTest::Refused { number, detail } => Look::Refused { number, detail },
-        ValuesTest::Is(v) => Look::Into {
-            place: v.place,
-            size: v.size,
-            count: v.count,
-        },
-    }
+    let children = tag::look_up(file, ifd, rule)?;
+    Ok(Some(Children {
+        place: children.place,
+        size: children.size,
+        count: children.count,
+    }))
 }
 
 // DNGBackwardVersion, or its default from DNGVersion, as one number whose first byte weighs most.
@@ -108,11 +88,11 @@ fn backward(file: &[u8], version: Values, given: Values) -> usize
 }
 
 // DNGVersion, DNGBackwardVersion and refusal 7.
-fn check_version(file: &[u8], ifd: Ifd) -> Number
+fn check_version(file: &[u8], ifd: Ifd) -> Result<usize, Refusal>
     requires { Tested file.now ifd }
-    ensures { number_out result ≡ run file.now (version_reading ifd) }
+    ensures { out result ≡ run file.now (version_reading ifd) }
 {
-    let version = match tag::look_up(
+    let version = tag::look_up(
         file,
         ifd,
         Rule {
@@ -122,11 +102,8 @@ fn check_version(file: &[u8], ifd: Ifd) -> Number
             least: 4,
             most: 4,
         },
-    ) {
-        ValuesTest::Refused { number, detail } => return Number::Refused { number, detail },
-        ValuesTest::Is(v) => v,
-    };
-    let given = match tag::look_up(
+    )?;
+    let given = tag::look_up(
         file,
         ifd,
         Rule {
@@ -136,133 +113,97 @@ fn check_version(file: &[u8], ifd: Ifd) -> Number
             least: 4,
             most: 4,
         },
-    ) {
-        ValuesTest::Refused { number, detail } => return Number::Refused { number, detail },
-        ValuesTest::Is(v) => v,
-    };
+    )?;
     let n = backward(file, version, given);
     if 0x01070100 < n {
-        Number::Refused {
-            number: 7,
-            detail: 0,
-        }
+        Err(Refusal::Version)
     } else {
-        Number::Is(n)
+        Ok(n)
     }
 }
 
 // Visits the directory at an offset, with so many levels and visits left.
 #[cycle(visit_visit_children)]
-fn visit(file: &[u8], order: Order, widths: Widths, depth: usize, at: usize, visits: usize) -> Walk
+fn visit(
+    file: &[u8],
+    order: Order,
+    widths: Widths,
+    depth: usize,
+    at: usize,
+    visits: usize,
+) -> Result<Walk, Refusal>
     requires { (length file.now ≤ 67108864) × WidthsIn widths }
     ensures result_value { walk_out result ≡ run file.now (visit_reading widths (length file.now) order depth at visits) }
     ensures walk_in { WalkIn file.now result }
 {
     if depth == 0 {
-        return Walk::Refused {
-            number: 6,
-            detail: 0,
-        };
+        return Err(Refusal::Tree);
     }
     if visits == 0 {
-        return Walk::Refused {
-            number: 6,
-            detail: 0,
-        };
+        return Err(Refusal::Tree);
     }
-    let ifd = match shape::ifd_at(file, order, widths, at) {
-        IfdTest::Refused { number, detail } => return Walk::Refused { number, detail },
-        IfdTest::Is(d) => d,
-    };
-    match inspect(file, ifd) {
-        Look::Raw => Walk::Raw(ifd),
-        Look::Refused { number, detail } => Walk::Refused { number, detail },
-        Look::Into { place, size, count } => visit_children(
-            file,
-            order,
-            widths,
-            depth - 1,
-            size,
-            count,
-            place,
-            visits - 1,
-        ),
+    let ifd = shape::ifd_at(file, order, widths, at)?;
+    match inspect(file, ifd)? {
+        None => Ok(Walk::Raw(ifd)),
+        Some(children) => visit_children(file, order, widths, depth - 1, children, visits - 1),
     }
 }
 
-// Visits so many children, whose offsets of so many bytes start at a place.
+// Visits the children of a directory, in their order.
 #[cycle(visit_visit_children)]
 fn visit_children(
     file: &[u8],
     order: Order,
     widths: Widths,
     depth: usize,
-    size: usize,
-    count: usize,
-    place: usize,
+    children: Children,
     visits: usize,
-) -> Walk
+) -> Result<Walk, Refusal>
     requires file_len_bound { (length file.now ≤ 67108864) × WidthsIn widths }
-    requires count_bound { (count ≤ 16) × (place + size * count ≤ length file.now) × (0 < count → Wide size) }
-    ensures result_value { walk_out result ≡ run file.now (list_visit widths (length file.now) order depth size count place visits) }
+    requires children_in { ChildrenIn (length file.now) children }
+    ensures result_value { walk_out result ≡ run file.now (list_visit widths (length file.now) order depth children.size children.count children.place visits) }
     ensures walk_in { WalkIn file.now result }
 {
-    if count == 0 {
-        return Walk::Left(visits);
+    if children.count == 0 {
+        return Ok(Walk::Left(visits));
     }
-    let at = number::value(file, order, size, place);
-    match visit(file, order, widths, depth, at, visits) {
-        Walk::Raw(d) => Walk::Raw(d),
-        Walk::Refused { number, detail } => Walk::Refused { number, detail },
-        Walk::Left(v) => visit_children(
-            file,
-            order,
-            widths,
-            depth,
-            size,
-            count - 1,
-            place + size,
-            v,
-        ),
+    let at = number::value(file, order, children.size, children.place);
+    match visit(file, order, widths, depth, at, visits)? {
+        Walk::Raw(ifd) => Ok(Walk::Raw(ifd)),
+        Walk::Left(left) => {
+            let others = Children {
+                place: children.place + children.size,
+                size: children.size,
+                count: children.count - 1,
+            };
+            visit_children(file, order, widths, depth, others, left)
+        }
     }
 }
 
 // What stands at or below IFD 0: levels 1 to 3 and fifteen visits are left.
-fn walk_from(file: &[u8], first: Ifd) -> Walk
+fn walk_from(file: &[u8], first: Ifd) -> Result<Walk, Refusal>
     requires { (length file.now ≤ 67108864) × Tested file.now first }
     ensures { (walk_out result ≡ run file.now (walk_reading (length file.now) first)) × WalkIn file.now result }
 {
     let order = first.order;
     let widths = first.widths;
-    match inspect(file, first) {
-        Look::Raw => Walk::Raw(first),
-        Look::Refused { number, detail } => Walk::Refused { number, detail },
-        Look::Into { place, size, count } => visit_children(
-            file, order, widths, 3, size, count, place, 15,
-        ),
+    match inspect(file, first)? {
+        None => Ok(Walk::Raw(first)),
+        Some(children) => visit_children(file, order, widths, 3, children, 15),
     }
 }
 
 // IFD 0 at an offset, its version, and the walk from it.
-fn root(file: &[u8], order: Order, widths: Widths, at: usize) -> Tree
+fn root(file: &[u8], order: Order, widths: Widths, at: usize) -> Result<Roots, Refusal>
     requires { (length file.now ≤ 67108864) × WidthsIn widths }
-    ensures { (tree_out result ≡ run file.now (root_reading widths (length file.now) order at)) × TreeIn file.now result }
+    ensures { (out result ≡ run file.now (root_reading widths (length file.now) order at)) × TreeIn file.now result }
 {
-    let first = match shape::ifd_at(file, order, widths, at) {
-        IfdTest::Refused { number, detail } => return Tree::Refused { number, detail },
-        IfdTest::Is(d) => d,
-    };
-    match check_version(file, first) {
-        Number::Refused { number, detail } => return Tree::Refused { number, detail },
-        Number::Is(_) => {}
-    }
-    match walk_from(file, first) {
-        Walk::Raw(raw) => Tree::Is(Roots { first, raw }),
-        Walk::Refused { number, detail } => Tree::Refused { number, detail },
-        Walk::Left(_) => Tree::Refused {
-            number: 6,
-            detail: 0,
-        },
+    let first = shape::ifd_at(file, order, widths, at)?;
+    check_version(file, first)?;
+    match walk_from(file, first)? {
+        Walk::Raw(raw) => Ok(Roots { first, raw }),
+        Walk::Left(_) => Err(Refusal::Tree),
     }
 }
 
@@ -284,36 +225,27 @@ fn starts_with(file: &[u8], mark: &[u8; 4]) -> bool
 }
 
 // IFD 0, whose offset stands at a place.
-fn root_from(file: &[u8], order: Order, widths: Widths, place: usize) -> Tree
+fn root_from(file: &[u8], order: Order, widths: Widths, place: usize) -> Result<Roots, Refusal>
     requires { (length file.now ≤ 67108864) × WidthsIn widths × (place + widths.word ≤ length file.now) }
-    ensures { (tree_out result ≡ run file.now (offset_reading widths (length file.now) order place)) × TreeIn file.now result }
+    ensures { (out result ≡ run file.now (offset_reading widths (length file.now) order place)) × TreeIn file.now result }
 {
     let word = widths.word;
     root(file, order, widths, number::value(file, order, word, place))
 }
 
 // The 64-bit layout: the rest of its header first.
-fn big_tiff_root(file: &[u8], order: Order) -> Tree
+fn big_tiff_root(file: &[u8], order: Order) -> Result<Roots, Refusal>
     requires { length file.now ≤ 67108864 }
-    ensures { (tree_out result ≡ run file.now (big_tiff_reading (length file.now) order)) × TreeIn file.now result }
+    ensures { (out result ≡ run file.now (big_tiff_reading (length file.now) order)) × TreeIn file.now result }
 {
     if file.len() < 16 {
-        return Tree::Refused {
-            number: 1,
-            detail: 0,
-        };
+        return Err(Refusal::FileSize);
     }
     if number::short(file, order, 4) != 8 {
-        return Tree::Refused {
-            number: 2,
-            detail: 0,
-        };
+        return Err(Refusal::Signature);
     }
     if number::short(file, order, 6) != 0 {
-        return Tree::Refused {
-            number: 2,
-            detail: 0,
-        };
+        return Err(Refusal::Signature);
     }
     let widths = Widths {
         entries: 8,
@@ -324,20 +256,14 @@ fn big_tiff_root(file: &[u8], order: Order) -> Tree
 }
 
 // The tree of a file: IFD 0 and the raw directory, or the first refusal of 1, 2 and the tree.
-pub fn open(file: &[u8]) -> Tree
-    ensures { (tree_out result ≡ run_whole file.now tree_reading) × TreeIn file.now result }
+pub fn open(file: &[u8]) -> Result<Roots, Refusal>
+    ensures { (out result ≡ run_whole file.now tree_reading) × TreeIn file.now result }
 {
     if file.len() < 8 {
-        return Tree::Refused {
-            number: 1,
-            detail: 0,
-        };
+        return Err(Refusal::FileSize);
     }
     if 67108864 < file.len() {
-        return Tree::Refused {
-            number: 1,
-            detail: 0,
-        };
+        return Err(Refusal::FileSize);
     }
     let classic = Widths {
         entries: 2,
@@ -356,8 +282,5 @@ pub fn open(file: &[u8]) -> Tree
     if starts_with(file, b"MM\0+") {
         return big_tiff_root(file, Order::Big);
     }
-    Tree::Refused {
-        number: 2,
-        detail: 0,
-    }
+    Err(Refusal::Signature)
 }

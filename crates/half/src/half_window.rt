@@ -1,5 +1,6 @@
 // A half window: the colour of the 2x2 blocks of a mosaic.
 ghost use Rattle.std.specs.Prelude.{◌≡◌, ℕ, ◌+◌, ◌*◌, ◌≤◌, ◌<◌, length};
+ghost use Rattle.directory.specs.Facts.Out.{out};
 ghost use Rattle.reading.specs.Reading.{run};
 ghost use Rattle.directory.specs.Out;
 ghost use Rattle.raw.specs.Facts.Front.{PictureIn};
@@ -12,17 +13,18 @@ ghost use Rattle.develop.specs.Calls.{values_of, window_with, alone_in};
 ghost use Rattle.half.specs.Half.{half_for, blocks_of, block_at, block_xyz, block_in, halved_of, half_window_call};
 ghost use Rattle.develop.specs.Facts.View.{Viewed};
 ghost use Rattle.develop.specs.Facts.Fill.{number_of, Upto};
-ghost use Rattle.half.specs.Facts.Half.{half_out, BlocksIn, StretchIn, pair_of, block_row};
+ghost use Rattle.half.specs.Facts.Half.{BlocksIn, StretchIn, pair_of, block_row};
 
+use directory::refusal::Refusal;
 use colour::pixel::Xyz;
-use colour::{Colour, ColourTest, pixel, tags};
+use colour::{Colour, pixel, tags};
 use develop::fill::Rectangle;
-use develop::{Answer, Opening, View, fill, window};
+use develop::{Answer, View, fill, window};
 use levels::active::ActiveColumn;
 use opcodes::grid::Size;
 use raw::front::Picture;
 use rawtags::pattern;
-use rawtags::pattern::{Pattern, PatternTest};
+use rawtags::pattern::Pattern;
 use reading::number;
 use samples::along;
 
@@ -33,31 +35,17 @@ pub struct Half {
     pub pattern: Pattern,
 }
 
-#[derive(Clone, Copy)]
-pub enum Halved {
-    Refused { number: usize, detail: usize },
-    Is(Half),
-}
-
 // 15, the colour tags, the pattern's.
-fn half_of(file: &[u8], picture: Picture) -> Halved
+fn half_of(file: &[u8], picture: Picture) -> Result<Half, Refusal>
     requires { PictureIn file.now picture }
-    ensures { half_out result ≡ run file.now (half_for picture) }
+    ensures { out result ≡ run file.now (half_for picture) }
 {
     if picture.raw.tags.frame.samples != 1 {
-        return Halved::Refused {
-            number: 15,
-            detail: 0,
-        };
+        return Err(Refusal::Planes);
     }
-    let colour = match tags::colour_of(file, picture.first) {
-        ColourTest::Refused { number, detail } => return Halved::Refused { number, detail },
-        ColourTest::Is(c) => c,
-    };
-    match pattern::pattern_of(file, picture.directory) {
-        PatternTest::Refused { number, detail } => Halved::Refused { number, detail },
-        PatternTest::Is(pattern) => Halved::Is(Half { colour, pattern }),
-    }
+    let colour = tags::colour_of(file, picture.first)?;
+    let pattern = pattern::pattern_of(file, picture.directory)?;
+Ok(Half { colour, pattern })
 }
 
 // The sample at a place of the j-th block of two rows, of so many samples each.
@@ -307,7 +295,7 @@ fn half_window_in(file: &[u8], view: View, blocks: Rectangle, out: &mut [f64]) -
 {
     match half_of(file, view.picture) {
         Halved::Refused { number, detail } => Answer { number, detail },
-        Halved::Is(half) => halved_in(file, view, half, blocks, out),
+        Ok(half) => halved_in(file, view, half, blocks, out),
     }
 }
 
@@ -329,6 +317,6 @@ pub fn half_window(
     };
     match develop::open(file) {
         Opening::Refused { number, detail } => Answer { number, detail },
-        Opening::Is(view) => half_window_in(file, view, blocks, out),
+        Ok(view) => half_window_in(file, view, blocks, out),
     }
 }

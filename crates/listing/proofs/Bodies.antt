@@ -1,5 +1,6 @@
 -- The lines of a window's values are those of the crop's rows.
 -- Assumes nothing.
+use Rattle.std.specs.Prelude.{Result, Ok, Err}
 use mathlib.Core.Path.{◌≡◌, refl, sym, ap, ◌∙◌, subst}
 use mathlib.Core.Bool.{Bool, true}
 use mathlib.Core.List.{List, [], ◌∷◌, ◌++◌, map, append-nil, append_assoc}
@@ -27,7 +28,6 @@ use Rattle.raw.specs.declared.front.Picture.{Picture}
 use Rattle.develop.specs.Calls.{Opened, opened, size_of, tags_of, frame_of, joined, values_of, Window, window_with, window_of, window_call, alone_in}
 use Rattle.develop.specs.Facts.View.{Viewed}
 use Rattle.develop.specs.declared.View.{View}
-use Rattle.develop.specs.declared.Opening.TheVariants as opening
 use Rattle.develop.specs.declared.Answer.{Answer}
 use Rattle.develop.proofs.Answers.{frame_alone, developed_alone, values_same, alone_is_unit}
 use Rattle.develop.proofs.Called.{rows_inside, columns_inside, fault_none, filled_none}
@@ -322,7 +322,7 @@ module _ (f : List ℕ) where
       }
 
   pub headed_frame :
-      (v : View) (h : First) (text : List ℕ) → Listed f v → h.opening ≡ opening.Is v
+      (v : View) (h : First) (text : List ℕ) → Listed f v → h.opening ≡ Ok v
       → (h.length ≤ length text) × (take h.length text ≡ frame_text (crop_size v.picture)) → Headed f h text
   headed_frame v h text q o p =
       record {

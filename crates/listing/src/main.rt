@@ -138,7 +138,7 @@ fn put_first(text: &mut [u8], file: &[u8]) -> First
     }
     match develop::open(file) {
         Opening::Refused { number, detail } => refused(text, number, detail),
-        Opening::Is(view) => {
+        Ok(view) => {
             let tags = view.picture.raw.tags;
             let size = Size {
                 rows: tags.crop.rows,
@@ -147,7 +147,7 @@ fn put_first(text: &mut [u8], file: &[u8]) -> First
             };
             First {
                 length: put_size(text, size),
-                opening: Opening::Is(view),
+                opening: Ok(view),
             }
         }
     }
@@ -275,7 +275,7 @@ fn list<W: Write>(out: &mut W, file: &[u8], written: &mut usize) -> std::io::Res
     write_piece(out, file, written, &text[..first.length])?;
     match opening {
         Opening::Refused { number, detail } => Ok(()),
-        Opening::Is(view) => print_rows(out, &mut text, &mut values, file, view, written),
+        Ok(view) => print_rows(out, &mut text, &mut values, file, view, written),
     }
 }
 

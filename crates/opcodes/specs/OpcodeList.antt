@@ -1,13 +1,11 @@
 -- OpcodeList2. No definition of an opcode names a place in the file: an opcode is a function of its own bytes.
-use Rattle.std.specs.Prelude.{ℕ, zero, suc, ◌+◌, ◌-◌, ◌*◌, ◌%◌, Bool, true, false, ◌&&◌, ◌||◌, List, [], ◌∷◌, length, ◌==◌, nat_le, nat_lt, Float}
+use Rattle.std.specs.Prelude.{ℕ, zero, suc, ◌+◌, ◌-◌, ◌*◌, ◌%◌, Bool, true, false, ◌&&◌, ◌||◌, List, [], ◌∷◌, length, ◌==◌, nat_le, nat_lt, Float, Option, is_none}
 use Rattle.std.specs.Float.{binary32, binary64}
 use Rattle.reading.specs.Bytes.{part}
 use Rattle.reading.specs.Number.{number_of}
 use Rattle.reading.specs.Reading.{Reading, Reading.answer, Reading.ask, pick}
 use Rattle.reading.specs.Real.{real_of}
 use Rattle.reading.specs.declared.number.Order.TheVariants.{Big}
-use Rattle.reading.specs.declared.real.Real.{Real}
-use Rattle.reading.specs.declared.real.Real.TheVariants as real
 use Rattle.levels.specs.Run.{run_of}
 use Rattle.levels.specs.Table.{table_of}
 use Rattle.directory.specs.Out.{Out, Out.refused, Out.is, bind}
@@ -63,9 +61,8 @@ form_of g id n =
     (pick (id == 8) (polynomial_form n) (pick (id == 10 || id == 12) (lines_form (rows_of g) n) (lines_form (columns_of g) n)))
 
 -- a FLOAT or a DOUBLE is infinite or NaN (12)
-abbrev pub refused_real : Real → Bool
-refused_real real.Refused = true
-refused_real (real.Value x) = false
+abbrev pub refused_real : Option Float → Bool
+refused_real x = is_none x
 
 abbrev pub refused_at : ℕ → List ℕ → ℕ → Bool
 refused_at w ps p = pick (w == 8) (refused_real (real_of binary64 (number_of Big (part ps p 8)))) (refused_real (real_of binary32 (number_of Big (part ps p 4))))

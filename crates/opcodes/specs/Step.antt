@@ -1,13 +1,11 @@
 -- The correction at one sample: "an added number, a factor, up to nine coefficients, a table".
-use Rattle.std.specs.Prelude.{ℕ, ◌+◌, true, false, List, [], ◌∷◌, pos, negsuc, slice_index_or, Float}
+use Rattle.std.specs.Prelude.{ℕ, ◌+◌, true, false, List, [], ◌∷◌, pos, negsuc, slice_index_or, Float, Option, Some, None}
 use Rattle.std.specs.Float.{fin, binary32, binary64}
 use Rattle.std.specs.Float.Ieee.{add, mul, to_unsigned}
 use Rattle.reading.specs.Bytes.{part}
 use Rattle.reading.specs.Number.{number_of}
 use Rattle.reading.specs.Real.{real_of}
 use Rattle.reading.specs.declared.number.Order.TheVariants.{Big}
-use Rattle.reading.specs.declared.real.Real.{Real}
-use Rattle.reading.specs.declared.real.Real.TheVariants as real
 use Rattle.levels.specs.Clip.{clip_of, plus_zero}
 use Rattle.levels.specs.Level.{most, scaled_of}
 use Rattle.levels.specs.Run.{run_of}
@@ -57,9 +55,9 @@ unfoldable pub applied_of : Step → List ℕ → Float → Float
 applied_of step f x = clip_of (result_of step f x)
 
 -- an accepted FLOAT or DOUBLE at a place
-abbrev pub value_of : Real → Float
-value_of real.Refused = plus_zero
-value_of (real.Value x) = x
+abbrev pub value_of : Option Float → Float
+value_of None = plus_zero
+value_of (Some x) = x
 
 abbrev pub float_in : List ℕ → ℕ → Float
 float_in f p = value_of (real_of binary32 (number_of Big (part f p 4)))

@@ -1,14 +1,15 @@
 // The test of OpcodeList2: which opcodes are kept and which are skipped, or the refusal.
 ghost use Rattle.std.specs.Prelude.{◌≡◌, ◌+◌, ◌*◌, ◌<◌, ◌≤◌, ◌&&◌, ◌||◌, ◌⊎◌, length, ◌==◌, nat_le};
+ghost use Rattle.directory.specs.Facts.Out.{out};
 ghost use Rattle.reading.specs.Bytes.{part};
-ghost use Rattle.reading.specs.Reading.{pick, run};
-ghost use Rattle.opcodes.specs.OpcodeList.{header_of, listed_id, class_of, table_form, polynomial_form, lines_form, form_of, refused_real, refused_at, refused_in, exact_of, plain_fault, gain_map_fault, opcode_fault, opcode_reading, list_from, list_reading};
-ghost use Rattle.opcodes.specs.Facts.OpcodeList.{none, counted_one, counted_on, list_out};
+ghost use Rattle.reading.specs.Reading.{run};
+ghost use Rattle.opcodes.specs.OpcodeList.{header_of, listed_id, class_of, table_form, polynomial_form, lines_form, form_of, refused_at, refused_in, exact_of, plain_fault, gain_map_fault, opcode_fault, opcode_reading, list_from, list_reading};
+ghost use Rattle.opcodes.specs.Facts.OpcodeList.{none, counted_one, counted_on};
 
 use crate::grid::{Grid, Size};
 use crate::{gain_map, grid};
+use directory::refusal::Refusal;
 use reading::real;
-use reading::real::Real;
 
 // An opcode's header; `length` is that of its parameters, in bytes.
 #[derive(Clone, Copy)]
@@ -42,12 +43,6 @@ pub struct Form {
 pub struct Counts {
     pub kept: usize,
     pub skipped: usize,
-}
-
-#[derive(Clone, Copy)]
-pub enum ListTest {
-    Refused { number: usize, detail: usize },
-    Is(Counts),
 }
 
 pub fn header_at(file: &[u8], at: usize) -> Header
@@ -151,24 +146,15 @@ fn form_for(grid: Grid, id: usize, n: usize) -> Form
     }
 }
 
-fn refused(x: Real) -> bool
-    ensures { result ≡ refused_real x }
-{
-    match x {
-        Real::Refused => true,
-        Real::Value(_) => false,
-    }
-}
-
 // Whether the FLOAT or DOUBLE at a place is refused.
 fn refused_at(file: &[u8], width: usize, at: usize) -> bool
     requires { (at + width ≤ length file.now) × ((width ≡ 4) ⊎ (width ≡ 8)) }
     ensures { result ≡ refused_at width file.now at }
 {
     if width == 8 {
-        refused(real::double_at(file, at))
+        real::double_at(file, at).is_none()
     } else {
-        refused(real::float_at(file, at))
+        real::float_at(file, at).is_none()
     }
 }
 
@@ -200,29 +186,25 @@ fn exact(form: Form, length: usize) -> bool
     }
 }
 
-// 12 where one of the numbers is refused.
-fn numbers_fault(wrong: bool) -> usize
-    ensures { result ≡ pick wrong 12 0 }
-{
-    if wrong { 12 } else { 0 }
-}
-
-// The refusal of an opcode's own bytes, or 0, where it is no GainMap.
-fn plain_fault(ps: &[u8], size: Size, id: usize) -> usize
+// An opcode's own bytes, where it is no GainMap; it is the i-th of the list.
+fn test_plain(ps: &[u8], size: Size, id: usize, i: usize) -> Result<(), Refusal>
     requires { (size.rows ≤ 16384) × (size.columns ≤ 16384) }
-    ensures { result ≡ plain_fault size id ps.now }
+    ensures { TestedBy (plain_fault size id ps.now) i result }
 {
     if ps.len() < 36 {
-        return 10;
+        return Err(Refusal::Malformed(i));
     }
     let g = grid::grid_at(ps, 0);
     if grid::fits(size, g) {
         let m = form_for(g, id, grid::field(ps, 32));
         if exact(m, ps.len()) {
-            return numbers_fault(refused_in(ps, m.width, 36, m.numbers));
+            if refused_in(ps, m.width, 36, m.numbers) {
+                return Err(Refusal::NotFinite(i));
+            }
+            return Ok(());
         }
     }
-    10
+    Err(Refusal::Malformed(i))
 }
 
 // Whether one of a GainMap's numbers is refused: four DOUBLEs, and the gains.
@@ -236,139 +218,108 @@ fn gain_map_refused(ps: &[u8], n: usize) -> bool
     refused_in(ps, 4, 76, n)
 }
 
-// The refusal of a GainMap's own bytes, or 0.
-fn gain_map_fault(ps: &[u8], size: Size) -> usize
-    ensures { result ≡ gain_map_fault size ps.now }
+// A GainMap's own bytes; it is the i-th of the list.
+fn test_gain_map(ps: &[u8], size: Size, i: usize) -> Result<(), Refusal>
+    ensures { TestedBy (gain_map_fault size ps.now) i result }
 {
     if ps.len() < 76 {
-        return 10;
+        return Err(Refusal::Malformed(i));
     }
     let g = grid::grid_at(ps, 0);
     if grid::fits(size, g) {
         if gain_map::legal(ps) {
             let n = gain_map::count(ps);
             if ps.len() == 76 + 4 * n {
-                return numbers_fault(gain_map_refused(ps, n));
+                if gain_map_refused(ps, n) {
+                    return Err(Refusal::NotFinite(i));
+                }
+                return Ok(());
             }
         }
     }
-    10
+    Err(Refusal::Malformed(i))
 }
 
-// The refusal of an opcode's own bytes, or 0.
-fn own_fault(ps: &[u8], size: Size, id: usize) -> usize
+// The parameters of the i-th opcode, in its own bytes.
+fn test_parameters(ps: &[u8], size: Size, id: usize, i: usize) -> Result<(), Refusal>
     requires { (size.rows ≤ 16384) × (size.columns ≤ 16384) }
-    ensures { result ≡ opcode_fault size id ps.now }
+    ensures { TestedBy (opcode_fault size id ps.now) i result }
 {
     if id == 9 {
-        gain_map_fault(ps, size)
+        test_gain_map(ps, size, i)
     } else {
-        plain_fault(ps, size, id)
+        test_plain(ps, size, id, i)
     }
-}
-
-// The same, of the bytes at a place.
-fn fault(file: &[u8], size: Size, at: usize, bytes: usize, id: usize) -> usize
-    requires { (at + bytes ≤ length file.now) × (size.rows ≤ 16384) × (size.columns ≤ 16384) }
-    ensures { result ≡ opcode_fault size id (part file.now at bytes) }
-{
-    own_fault(&file[at..at + bytes], size, id)
 }
 
 // The i-th opcode, whose header stands at a place, counted.
-fn judge(file: &[u8], size: Size, i: usize, at: usize, header: Header, counts: Counts) -> ListTest
+fn judge(file: &[u8], size: Size, i: usize, at: usize, header: Header, counts: Counts) -> Result<Counts, Refusal>
     requires length_in_bounds { (at + 16 + header.length ≤ length file.now) × (size.rows ≤ 16384) × (size.columns ≤ 16384) }
     requires kept_bound { (counts.kept ≤ 32) × (counts.skipped ≤ 32) }
-    ensures { list_out result ≡ counted_one counts (run file.now (opcode_reading (class_of header) size i at header)) }
+    ensures { out result ≡ counted_one counts (run file.now (opcode_reading (class_of header) size i at header)) }
 {
     match classify(header) {
         Class::Carried => {
-            let number = fault(file, size, at + 16, header.length, header.id);
-            if number == 0 {
-                return ListTest::Is(Counts {
-                    kept: counts.kept + 1,
-                    skipped: counts.skipped,
-                });
-            }
-            ListTest::Refused { number, detail: i }
-        }
-        Class::Optional => {
-            ListTest::Is(Counts {
-                kept: counts.kept,
-                skipped: counts.skipped + 1,
+            let from = at + 16;
+            test_parameters(&file[from..from + header.length], size, header.id, i)?;
+            Ok(Counts {
+                kept: counts.kept + 1,
+                skipped: counts.skipped,
             })
         }
-        Class::Compulsory => {
-            ListTest::Refused {
-                number: 11,
-                detail: i,
-            }
-        }
+        Class::Optional => Ok(Counts {
+            kept: counts.kept,
+            skipped: counts.skipped + 1,
+        }),
+        Class::Compulsory => Err(Refusal::Compulsory(i)),
     }
 }
 
 // So many opcodes in the bytes from a place on.
-fn test_opcodes(file: &[u8], size: Size, count: usize, at: usize, bytes: usize) -> ListTest
+fn test_opcodes(file: &[u8], size: Size, count: usize, at: usize, bytes: usize) -> Result<Counts, Refusal>
     requires { (at + bytes ≤ length file.now) × (size.rows ≤ 16384) × (size.columns ≤ 16384) × (count ≤ 32) }
-    ensures { list_out result ≡ counted_on none (run file.now (list_from size count 0 at bytes)) }
+    ensures { out result ≡ counted_on none (run file.now (list_from size count 0 at bytes)) }
 {
     let mut counts = Counts {
         kept: 0,
         skipped: 0,
     };
-    let mut i = 0;
     let mut p = at;
     let mut rest = bytes;
-    while i < count {
+    for i in 0..count {
         if rest < 16 {
-            return ListTest::Refused {
-                number: 10,
-                detail: i,
-            };
+            return Err(Refusal::Malformed(i));
         }
-        let h = header_at(file, p);
-        let whole = 16 + h.length;
+        let header = header_at(file, p);
+        let whole = 16 + header.length;
         if rest < whole {
-            return ListTest::Refused {
-                number: 10,
-                detail: i,
-            };
+            return Err(Refusal::Malformed(i));
         }
-        counts = match judge(file, size, i, p, h, counts) {
-            ListTest::Refused { number, detail } => return ListTest::Refused { number, detail },
-            ListTest::Is(c) => c,
-        };
+        counts = judge(file, size, i, p, header, counts)?;
         p += whole;
         rest -= whole;
-        i += 1;
     }
     if rest == 0 {
-        ListTest::Is(counts)
+        Ok(counts)
     } else {
-        ListTest::Refused {
-            number: 10,
-            detail: i,
-        }
+        Err(Refusal::Malformed(count))
     }
 }
 
 // The value of OpcodeList2: so many bytes from a place on; none of an absent tag.
-pub fn test_list(file: &[u8], size: Size, at: usize, bytes: usize) -> ListTest
+pub fn test_list(file: &[u8], size: Size, at: usize, bytes: usize) -> Result<Counts, Refusal>
     requires { (at + bytes ≤ length file.now) × (size.rows ≤ 16384) × (size.columns ≤ 16384) × (0 < bytes → 4 ≤ bytes) }
-    ensures { list_out result ≡ counted_on none (run file.now (list_reading size at bytes)) }
+    ensures { out result ≡ counted_on none (run file.now (list_reading size at bytes)) }
 {
     if bytes == 0 {
-        return ListTest::Is(Counts {
+        return Ok(Counts {
             kept: 0,
             skipped: 0,
         });
     }
     let count = grid::field(file, at);
     if 32 < count {
-        return ListTest::Refused {
-            number: 11,
-            detail: 32,
-        };
+        return Err(Refusal::Compulsory(32));
     }
     test_opcodes(file, size, count, at + 4, bytes - 4)
 }

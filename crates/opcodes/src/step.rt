@@ -9,7 +9,6 @@ ghost use Rattle.opcodes.specs.Grid.{long_of};
 use crate::grid;
 use levels::table;
 use reading::number::Order;
-use reading::real::Real;
 use reading::{number, real};
 
 // An added number, a factor, nine coefficients with the constant first, or the place of a table: its
@@ -97,13 +96,10 @@ pub fn apply(step: Step, file: &[u8], x: f64) -> f64
 }
 
 // A FLOAT or a DOUBLE that was accepted.
-pub fn value(x: Real) -> f64
+pub fn value(x: Option<f64>) -> f64
     ensures { result ≡ value_of x }
 {
-    match x {
-        Real::Value(v) => v,
-        Real::Refused => 0.0,
-    }
+    x.unwrap_or(0.0)
 }
 
 // The k-th of n coefficients, or -0.0 past the highest.

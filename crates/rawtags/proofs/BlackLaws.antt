@@ -1,5 +1,7 @@
 -- The tests of the black levels and the white levels.
 -- Assumes nothing.
+use Rattle.std.specs.Prelude.{Result, Ok, Err}
+use Rattle.directory.specs.Facts.Out.{out}
 use Rattle.directory.specs.Names.{white_level}
 use mathlib.Core.Path.{◌≡◌, sym, ap, subst, ◌∙◌}
 use mathlib.Core.List.{List}
@@ -23,12 +25,10 @@ use Rattle.directory.specs.Entry.{kind_width}
 use Rattle.directory.specs.declared.entry.Kind.{Kind}
 use Rattle.directory.proofs.Tags.{number_or_fraction}
 use Rattle.directory.specs.Tag.{allows_of, range, all_reading}
-use Rattle.directory.specs.Facts.Tag.{values_out, ValuesIn}
+use Rattle.directory.specs.Facts.Tag.{ValuesIn}
 use Rattle.directory.specs.declared.Ifd.{Ifd}
 use Rattle.directory.specs.declared.tag.Kinds.TheVariants as kinds
 use Rattle.directory.specs.declared.tag.Values.{Values}
-use Rattle.directory.specs.declared.tag.ValuesTest.{ValuesTest}
-use Rattle.directory.specs.declared.tag.ValuesTest.TheVariants as given
 use Rattle.directory.proofs.Outs.{bind_inverse}
 use Rattle.levels.specs.Run.{run_of}
 use Rattle.levels.specs.Black.{black_of, width_of, value_of, black_at, first_refused}
@@ -37,6 +37,7 @@ use Rattle.rawtags.specs.Black.{kind_for, black_out, blacks_test}
 use Rattle.rawtags.specs.White.{white_reading, white_rule}
 use Rattle.rawtags.specs.Facts.White.{WhitesIn}
 use Rattle.rawtags.proofs.Ranges.{each_to}
+use Rattle.directory.specs.declared.refusal.Refusal.{Refusal}
 
 -- the bytes of the type
 pub width_for : (k : Kind) → allows_of kinds.ShortLongOrRational k ≡ true → kind_width k ≡ width_of (kind_for k)
@@ -80,11 +81,11 @@ same_value v u e = cc
 abbrev Most : List ℕ → Order → Values → Type 0
 Most f o v = (i : ℕ) → i < v.count → number_of o (part f (v.place + v.size * i) v.size) ≤ 65535
 
-pub whites_in : (f : List ℕ) (d : Ifd) (s : ℕ) (r : ValuesTest) →
-    values_out r ≡ run f (white_reading d s) → ValuesIn (length f) (white_rule s) r → WhitesIn f d.order (white_rule s) r
+pub whites_in : (f : List ℕ) (d : Ifd) (s : ℕ) (r : Result Values Refusal) →
+    out r ≡ run f (white_reading d s) → ValuesIn (length f) (white_rule s) r → WhitesIn f d.order (white_rule s) r
 unfolding white_reading all_reading
-whites_in f d s (given.Refused n t) e q = tt
-whites_in f d s (given.Is v) e q =
+whites_in f d s (Err n) e q = tt
+whites_in f d s (Ok v) e q =
     let a = bind_inverse f _ _ v e in
     let b = bind_inverse f _ _ v a.2 in
     let u : Values = a.0 in

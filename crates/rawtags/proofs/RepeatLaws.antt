@@ -1,5 +1,6 @@
 -- BlackLevelRepeatDim, case by case.
 -- Assumes nothing.
+use Rattle.std.specs.Prelude.{Result, Ok, Err}
 use Rattle.directory.specs.Names.{black_level_repeat_dim}
 use mathlib.Core.Path.{◌≡◌, sym, ◌∙◌}
 use mathlib.Core.List.{List}
@@ -11,15 +12,14 @@ use Rattle.reading.specs.Reading.{run}
 use Rattle.reading.specs.declared.number.Order.{Order}
 use Rattle.reading.proofs.Reading.{running, run_answer, pick_no}
 use Rattle.directory.specs.Out.{Out, Out.refused, Out.is}
-use Rattle.directory.specs.Facts.Out.{number_out}
+use Rattle.directory.specs.Facts.Out.{out}
 use Rattle.directory.specs.Tag.{judged_of, range}
-use Rattle.directory.specs.declared.Number.{Number}
-use Rattle.directory.specs.declared.Number.TheVariants as number
 use Rattle.directory.specs.declared.tag.Values.{Values}
 use Rattle.directory.proofs.Outs.{bind_refused, bind_is}
 use Rattle.directory.proofs.Tags.{judged_at}
 use Rattle.rawtags.specs.Repeat.{side_reading, pair_reading}
 use Rattle.rawtags.specs.declared.repeat.Repeat.{Repeat}
+use Rattle.directory.specs.declared.refusal.Refusal.{Refusal}
 
 side : (f : List ℕ) (o : Order) (at size n : ℕ) → n ≡ number_of o (part f at size) →
     judged_of black_level_repeat_dim (range 1 1 8) n ≡ run f (side_reading o at size)
@@ -27,9 +27,9 @@ unfolding side_reading
 side f o at size n q = judged_at f o at size black_level_repeat_dim (range 1 1 8) n q
 
 -- the repeat with so many rows, or what refuses its columns
-abbrev pub pair_out : ℕ → Number → Out Repeat
-pair_out m (number.Refused n d) = refused n d
-pair_out m (number.Is n) = is (record { rows = m; columns = n })
+abbrev pub pair_out : ℕ → Result ℕ Refusal → Out Repeat
+pair_out m (Err n) = refused n d
+pair_out m (Ok n) = is (record { rows = m; columns = n })
 
 module _ (f : List ℕ) (o : Order) (v : Values) where
   pub pair_default : v.count ≡ 0 → is (record { rows = 1; columns = 1 }) ≡ run f (pair_reading o v)
@@ -58,6 +58,6 @@ module _ (f : List ℕ) (o : Order) (v : Values) where
             ∙ bind_is f _ _ n (h ∙ side f o (v.place + v.size) v.size c ec) ∙ run_answer f _))
 
         -- whatever the columns' test answers
-        pub pair_answer : (a : Number) → number_out a ≡ judged_of black_level_repeat_dim (range 1 1 8) c → pair_out m a ≡ run f (pair_reading o v)
-        pair_answer (number.Refused n d) h = columns_refused n d h
-        pair_answer (number.Is n) h = pair_is n h
+        pub pair_answer : (a : Result ℕ Refusal) → out a ≡ judged_of black_level_repeat_dim (range 1 1 8) c → pair_out m a ≡ run f (pair_reading o v)
+        pair_answer (Err n) h = columns_refused n d h
+        pair_answer (Ok n) h = pair_is n h

@@ -1,5 +1,5 @@
 -- The black levels: BlackLevel, and the deltas BlackLevelDeltaH and BlackLevelDeltaV.
-use Rattle.std.specs.Prelude.{ℕ, ◌*◌, eqb}
+use Rattle.std.specs.Prelude.{ℕ, ◌*◌, eqb, Result, Ok, Err}
 use Rattle.directory.specs.Names.{black_level}
 use Rattle.reading.specs.Reading.{Reading, Reading.answer, Reading.ask, pick}
 use Rattle.reading.specs.declared.number.Order.{Order}
@@ -15,8 +15,8 @@ use Rattle.directory.specs.declared.tag.Rule.{Rule}
 use Rattle.directory.specs.declared.tag.Values.{Values}
 use Rattle.levels.specs.Run.{run_of}
 use Rattle.levels.specs.Black.{black_at, first_refused}
-use Rattle.levels.specs.declared.black.Black.{Black}
-use Rattle.levels.specs.declared.black.Black.TheVariants as black
+use Rattle.levels.specs.declared.black.BlackFault.{BlackFault}
+use Rattle.levels.specs.declared.black.BlackFault.TheVariants as black
 use Rattle.rawtags.specs.declared.repeat.Repeat.{Repeat}
 
 -- the type of a black level by its entry's: SHORT, LONG, LONG8, or else RATIONAL
@@ -24,10 +24,10 @@ unfoldable pub kind_for : Kind → BlackKind
 kind_for k = pick (eqb (code_of k) 3) kind.Short (pick (eqb (code_of k) 4) kind.Long (pick (eqb (code_of k) 16) kind.Long8 kind.Rational))
 
 -- illegal is 4, not carried is 8
-abbrev pub black_out : ℕ → Black → Out ℕ
-black_out tag (black.Parts b) = is 0
-black_out tag black.Illegal = refused 4 tag
-black_out tag black.NotCarried = refused 8 tag
+abbrev pub black_out : ℕ → Result (Unit {0}) BlackFault → Out ℕ
+black_out tag (Ok u) = is 0
+black_out tag (Err black.Illegal) = refused 4 tag
+black_out tag (Err black.NotCarried) = refused 8 tag
 
 -- so many values of a width from a place on, in stored order: the first that is illegal or not carried refuses
 unfoldable pub blacks_test : Order → ℕ → BlackKind → ℕ → ℕ → ℕ → Reading (Out ℕ)

@@ -1,13 +1,15 @@
 // The active area. Stored rows and columns count from the frame's corner, active ones from the area's.
 ghost use Rattle.std.specs.Prelude.{◌≡◌, ◌+◌, ◌≤◌};
+ghost use Rattle.directory.specs.Facts.Out.{out};
 ghost use Rattle.reading.specs.Reading.{run};
 ghost use Rattle.directory.specs.Facts.Shape.{Tested};
 ghost use Rattle.rawtags.specs.Facts.Frame.{DimensionsWithin};
 ghost use Rattle.rawtags.specs.Area.{area_of, area_reading};
-ghost use Rattle.rawtags.specs.Facts.Area.{area_out, AreaIn};
+ghost use Rattle.rawtags.specs.Facts.Area.{AreaIn};
 
+use directory::refusal::Refusal;
 use crate::frame::Dimensions;
-use directory::tag::{Kinds, Rule, ValuesTest};
+use directory::tag::{Kinds, Rule};
 use directory::{Ifd, names, tag};
 use levels::active::{ActiveColumn, ActiveRow};
 use reading::number;
@@ -27,12 +29,6 @@ pub struct Area {
     pub right: usize,
 }
 
-#[derive(Clone, Copy)]
-pub enum AreaTest {
-    Refused { number: usize, detail: usize },
-    Is(Area),
-}
-
 // The active area's corner: the only way from active to stored.
 impl Area {
     pub fn stored_row(self, r: ActiveRow) -> StoredRow
@@ -50,28 +46,25 @@ impl Area {
     }
 }
 
-fn tested_area(frame: Dimensions, area: Area) -> AreaTest
-    ensures { (area_out result ≡ area_of frame area) × AreaIn frame result }
+fn tested_area(frame: Dimensions, area: Area) -> Result<Area, Refusal>
+    ensures { (out result ≡ area_of frame area) × AreaIn frame result }
 {
     if area.top < area.bottom {
         if area.bottom <= frame.length {
             if area.left < area.right {
                 if area.right <= frame.width {
-                    return AreaTest::Is(area);
+                    return Ok(area);
                 }
             }
         }
     }
-    AreaTest::Refused {
-        number: 4,
-        detail: names::ACTIVE_AREA,
-    }
+    Err(Refusal::Illegal(names::ACTIVE_AREA))
 }
 
-pub fn area_of(file: &[u8], ifd: Ifd, frame: Dimensions) -> AreaTest
+pub fn area_of(file: &[u8], ifd: Ifd, frame: Dimensions) -> Result<Area, Refusal>
     requires tested { Tested file.now ifd }
     requires dimensions_in { DimensionsWithin frame }
-    ensures { (area_out result ≡ run file.now (area_reading ifd frame)) × AreaIn frame result }
+    ensures { (out result ≡ run file.now (area_reading ifd frame)) × AreaIn frame result }
 {
     let rule = Rule {
         tag: names::ACTIVE_AREA,
@@ -80,13 +73,10 @@ pub fn area_of(file: &[u8], ifd: Ifd, frame: Dimensions) -> AreaTest
         least: 4,
         most: 4,
     };
-    let v = match tag::look_up(file, ifd, rule) {
-        ValuesTest::Refused { number, detail } => return AreaTest::Refused { number, detail },
-        ValuesTest::Is(v) => v,
-    };
+    let v = tag::look_up(file, ifd, rule)?;
     let count = v.count;
     if count == 0 {
-        return AreaTest::Is(Area {
+        return Ok(Area {
             top: 0,
             left: 0,
             bottom: frame.length,

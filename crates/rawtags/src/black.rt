@@ -2,17 +2,18 @@
 ghost use Rattle.std.specs.Prelude.{◌≡◌, ◌+◌, ◌*◌, ◌≤◌, ◌<◌, length};
 ghost use Rattle.reading.specs.Reading.{run};
 ghost use Rattle.levels.specs.Black.{width_of};
-ghost use Rattle.directory.specs.Facts.Out.{number_out};
+ghost use Rattle.directory.specs.Facts.Out.{out, passed};
 ghost use Rattle.directory.specs.Facts.Shape.{Tested};
-ghost use Rattle.directory.specs.Facts.Tag.{values_out, ValuesIn};
+ghost use Rattle.directory.specs.Facts.Tag.{ValuesIn};
 ghost use Rattle.rawtags.specs.Facts.Repeat.{RepeatWithin};
 ghost use Rattle.rawtags.specs.Black.{kind_for, blacks_test, black_rule, black_reading, delta_rule, delta_reading};
 
 use crate::repeat::Repeat;
-use directory::tag::{Kinds, Rule, Values, ValuesTest};
-use directory::{Ifd, Number, entry, names, tag};
+use directory::tag::{Kinds, Rule, Values};
+use directory::refusal::Refusal;
+use directory::{Ifd, entry, names, tag};
 use levels::black;
-use levels::black::{Black, BlackKind};
+use levels::black::{BlackFault, BlackKind};
 use reading::number::Order;
 
 // The type of a black level by its entry's.
@@ -43,28 +44,22 @@ fn check_blacks(
     size: usize,
     count: usize,
     place: usize,
-) -> Number
+) -> Result<(), Refusal>
     requires { (place + size * count ≤ length file.now) × (0 < count → size ≡ width_of kind) }
-    ensures { number_out result ≡ run file.now (blacks_test order tag kind size count place) }
+    ensures { passed result ≡ run file.now (blacks_test order tag kind size count place) }
 {
     match black::first_refused(file, order, kind, place, size, count) {
-        Black::Parts(_) => Number::Is(0),
-        Black::Illegal => Number::Refused {
-            number: 4,
-            detail: tag,
-        },
-        Black::NotCarried => Number::Refused {
-            number: 8,
-            detail: tag,
-        },
+        Ok(()) => Ok(()),
+        Err(BlackFault::Illegal) => Err(Refusal::Illegal(tag)),
+        Err(BlackFault::NotCarried) => Err(Refusal::NotCarried(tag)),
     }
 }
 
 // BlackLevel.
-pub fn black_of(file: &[u8], ifd: Ifd, repeat: Repeat, samples: usize) -> ValuesTest
+pub fn black_of(file: &[u8], ifd: Ifd, repeat: Repeat, samples: usize) -> Result<Values, Refusal>
     requires tested { Tested file.now ifd }
     requires repeat_in { RepeatWithin repeat × (samples ≤ 3) }
-    ensures result_value { values_out result ≡ run file.now (black_reading ifd repeat samples) }
+    ensures result_value { out result ≡ run file.now (black_reading ifd repeat samples) }
     ensures values_in { ValuesIn (length file.now) (black_rule repeat samples) result }
 {
     let cells = repeat.rows * repeat.columns * samples;
@@ -75,25 +70,20 @@ pub fn black_of(file: &[u8], ifd: Ifd, repeat: Repeat, samples: usize) -> Values
         least: cells,
         most: cells,
     };
-    let v = match tag::look_up(file, ifd, rule) {
-        ValuesTest::Refused { number, detail } => return ValuesTest::Refused { number, detail },
-        ValuesTest::Is(v) => v,
-    };
+    let v = tag::look_up(file, ifd, rule)?;
     let size = v.size;
     let place = v.place;
     let count = v.count;
     let order = ifd.order;
     let kind = kind_for(v);
-    match check_blacks(file, order, names::BLACK_LEVEL, kind, size, count, place) {
-        Number::Refused { number, detail } => ValuesTest::Refused { number, detail },
-        Number::Is(_) => ValuesTest::Is(v),
-    }
+    check_blacks(file, order, names::BLACK_LEVEL, kind, size, count, place)?;
+Ok(v)
 }
 
 // BlackLevelDeltaH or BlackLevelDeltaV.
-pub fn delta_of(file: &[u8], ifd: Ifd, tag: usize, many: usize) -> ValuesTest
+pub fn delta_of(file: &[u8], ifd: Ifd, tag: usize, many: usize) -> Result<Values, Refusal>
     requires { Tested file.now ifd }
-    ensures result_value { values_out result ≡ run file.now (delta_reading ifd tag many) }
+    ensures result_value { out result ≡ run file.now (delta_reading ifd tag many) }
     ensures values_in { ValuesIn (length file.now) (delta_rule tag many) result }
 {
     let rule = Rule {
@@ -103,15 +93,12 @@ pub fn delta_of(file: &[u8], ifd: Ifd, tag: usize, many: usize) -> ValuesTest
         least: many,
         most: many,
     };
-    let v = match tag::look_up(file, ifd, rule) {
-        ValuesTest::Refused { number, detail } => return ValuesTest::Refused { number, detail },
-        ValuesTest::Is(v) => v,
-    };
+    let v = tag::look_up(file, ifd, rule)?;
     let size = v.size;
     let place = v.place;
     let count = v.count;
     let order = ifd.order;
-    match check_blacks(
+    check_blacks(
         file,
         order,
         tag,
@@ -119,8 +106,6 @@ pub fn delta_of(file: &[u8], ifd: Ifd, tag: usize, many: usize) -> ValuesTest
         size,
         count,
         place,
-    ) {
-        Number::Refused { number, detail } => ValuesTest::Refused { number, detail },
-        Number::Is(_) => ValuesTest::Is(v),
-    }
+    )?;
+Ok(v)
 }

@@ -1,12 +1,14 @@
 // The crop: DefaultCropOrigin, DefaultCropSize.
 ghost use Rattle.std.specs.Prelude.{◌≡◌};
+ghost use Rattle.directory.specs.Facts.Out.{out};
 ghost use Rattle.reading.specs.Reading.{run};
 ghost use Rattle.directory.specs.Facts.Shape.{Tested};
 ghost use Rattle.rawtags.specs.Crop.{crop_of, crop_from, crop_reading};
-ghost use Rattle.rawtags.specs.Facts.Crop.{crop_out, CropIn};
+ghost use Rattle.rawtags.specs.Facts.Crop.{CropIn};
 
+use directory::refusal::Refusal;
 use crate::whole;
-use crate::whole::{Lengths, LengthsTest};
+use crate::whole::Lengths;
 use directory::{Ifd, names};
 use reading::number;
 
@@ -19,14 +21,8 @@ pub struct Crop {
     pub rows: usize,
 }
 
-#[derive(Clone, Copy)]
-pub enum CropTest {
-    Refused { number: usize, detail: usize },
-    Is(Crop),
-}
-
-fn tested_crop(origin: Lengths, size: Lengths, rows: usize, columns: usize) -> CropTest
-    ensures { (crop_out result ≡ crop_of rows columns (crop_from origin size)) × CropIn rows columns result }
+fn tested_crop(origin: Lengths, size: Lengths, rows: usize, columns: usize) -> Result<Crop, Refusal>
+    ensures { (out result ≡ crop_of rows columns (crop_from origin size)) × CropIn rows columns result }
 {
     let crop = Crop {
         left: origin.horizontal,
@@ -36,35 +32,26 @@ fn tested_crop(origin: Lengths, size: Lengths, rows: usize, columns: usize) -> C
     };
     if number::some_inside(crop.left, crop.columns, columns) {
         if number::some_inside(crop.top, crop.rows, rows) {
-            return CropTest::Is(crop);
+            return Ok(crop);
         }
     }
-    CropTest::Refused {
-        number: 4,
-        detail: names::DEFAULT_CROP_SIZE,
-    }
+    Err(Refusal::Illegal(names::DEFAULT_CROP_SIZE))
 }
 
 // Of so many active rows and columns.
-pub fn crop_of(file: &[u8], ifd: Ifd, rows: usize, columns: usize) -> CropTest
+pub fn crop_of(file: &[u8], ifd: Ifd, rows: usize, columns: usize) -> Result<Crop, Refusal>
     requires { Tested file.now ifd }
-    ensures { (crop_out result ≡ run file.now (crop_reading ifd rows columns)) × CropIn rows columns result }
+    ensures { (out result ≡ run file.now (crop_reading ifd rows columns)) × CropIn rows columns result }
 {
     let corner = Lengths {
         horizontal: 0,
         vertical: 0,
     };
-    let origin = match whole::lengths_of(file, ifd, names::DEFAULT_CROP_ORIGIN, corner) {
-        LengthsTest::Refused { number, detail } => return CropTest::Refused { number, detail },
-        LengthsTest::Is(v) => v,
-    };
+    let origin = whole::lengths_of(file, ifd, names::DEFAULT_CROP_ORIGIN, corner)?;
     let active = Lengths {
         horizontal: columns,
         vertical: rows,
     };
-    let size = match whole::lengths_of(file, ifd, names::DEFAULT_CROP_SIZE, active) {
-        LengthsTest::Refused { number, detail } => return CropTest::Refused { number, detail },
-        LengthsTest::Is(v) => v,
-    };
+    let size = whole::lengths_of(file, ifd, names::DEFAULT_CROP_SIZE, active)?;
     tested_crop(origin, size, rows, columns)
 }

@@ -1,14 +1,15 @@
 // The frame: ImageWidth, ImageLength, PhotometricInterpretation, SamplesPerPixel.
 ghost use Rattle.std.specs.Prelude.{◌≡◌};
 ghost use Rattle.reading.specs.Reading.{run};
-ghost use Rattle.directory.specs.Facts.Out.{number_out};
+ghost use Rattle.directory.specs.Facts.Out.{out};
 ghost use Rattle.directory.specs.Facts.Shape.{Tested};
 ghost use Rattle.directory.specs.Facts.Tag.{NumberIn};
 ghost use Rattle.rawtags.specs.Frame.{samples_of, planes_reading, dimension_reading, dimension_range, frame_reading};
-ghost use Rattle.rawtags.specs.Facts.Frame.{dimensions_out, DimensionsIn, PlanesIn};
+ghost use Rattle.rawtags.specs.Facts.Frame.{DimensionsIn, PlanesIn};
 
 use directory::tag::{Kinds, Range, Rule};
-use directory::{Ifd, Number, names, tag};
+use directory::refusal::Refusal;
+use directory::{Ifd, names, tag};
 
 // Columns and rows as stored, and samples per pixel.
 #[derive(Clone, Copy)]
@@ -16,12 +17,6 @@ pub struct Dimensions {
     pub width: usize,
     pub length: usize,
     pub samples: usize,
-}
-
-#[derive(Clone, Copy)]
-pub enum DimensionsTest {
-    Refused { number: usize, detail: usize },
-    Is(Dimensions),
 }
 
 // The samples per pixel of a mosaic and of LinearRaw; 0 of anything else.
@@ -35,9 +30,9 @@ fn samples_of(photometric: usize) -> usize
 }
 
 // PhotometricInterpretation and SamplesPerPixel.
-fn planes(file: &[u8], ifd: Ifd) -> Number
+fn planes(file: &[u8], ifd: Ifd) -> Result<usize, Refusal>
     requires { Tested file.now ifd }
-    ensures { (number_out result ≡ run file.now (planes_reading ifd)) × PlanesIn result }
+    ensures { (out result ≡ run file.now (planes_reading ifd)) × PlanesIn result }
 {
     let photometric = Rule {
         tag: names::PHOTOMETRIC_INTERPRETATION,
@@ -51,16 +46,10 @@ fn planes(file: &[u8], ifd: Ifd) -> Number
         from: 0,
         to: 65535,
     };
-    let p = match tag::one(file, ifd, photometric, 0, any) {
-        Number::Refused { number, detail } => return Number::Refused { number, detail },
-        Number::Is(v) => v,
-    };
+    let p = tag::one(file, ifd, photometric, 0, any)?;
     let samples = samples_of(p);
     if samples == 0 {
-        return Number::Refused {
-            number: 8,
-            detail: names::PHOTOMETRIC_INTERPRETATION,
-        };
+        return Err(Refusal::NotCarried(names::PHOTOMETRIC_INTERPRETATION));
     }
     let per_pixel = Rule {
         tag: names::SAMPLES_PER_PIXEL,
@@ -78,9 +67,9 @@ fn planes(file: &[u8], ifd: Ifd) -> Number
 }
 
 // ImageWidth or ImageLength.
-fn dimension(file: &[u8], ifd: Ifd, tag: usize) -> Number
+fn dimension(file: &[u8], ifd: Ifd, tag: usize) -> Result<usize, Refusal>
     requires { Tested file.now ifd }
-    ensures { (number_out result ≡ run file.now (dimension_reading ifd tag)) × NumberIn dimension_range result }
+    ensures { (out result ≡ run file.now (dimension_reading ifd tag)) × NumberIn dimension_range result }
 {
     let rule = Rule {
         tag,
@@ -97,23 +86,14 @@ fn dimension(file: &[u8], ifd: Ifd, tag: usize) -> Number
     tag::one(file, ifd, rule, 0, range)
 }
 
-pub fn frame_of(file: &[u8], ifd: Ifd) -> DimensionsTest
+pub fn frame_of(file: &[u8], ifd: Ifd) -> Result<Dimensions, Refusal>
     requires { Tested file.now ifd }
-    ensures { (dimensions_out result ≡ run file.now (frame_reading ifd)) × DimensionsIn result }
+    ensures { (out result ≡ run file.now (frame_reading ifd)) × DimensionsIn result }
 {
-    let width = match dimension(file, ifd, names::IMAGE_WIDTH) {
-        Number::Refused { number, detail } => return DimensionsTest::Refused { number, detail },
-        Number::Is(v) => v,
-    };
-    let length = match dimension(file, ifd, names::IMAGE_LENGTH) {
-        Number::Refused { number, detail } => return DimensionsTest::Refused { number, detail },
-        Number::Is(v) => v,
-    };
-    let samples = match planes(file, ifd) {
-        Number::Refused { number, detail } => return DimensionsTest::Refused { number, detail },
-        Number::Is(v) => v,
-    };
-    DimensionsTest::Is(Dimensions {
+    let width = dimension(file, ifd, names::IMAGE_WIDTH)?;
+    let length = dimension(file, ifd, names::IMAGE_LENGTH)?;
+    let samples = planes(file, ifd)?;
+    Ok(Dimensions {
         width,
         length,
         samples,

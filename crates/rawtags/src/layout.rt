@@ -2,15 +2,16 @@
 // ColumnInterleaveFactor, RowsPerStrip.
 ghost use Rattle.std.specs.Prelude.{◌≡◌, ◌≤◌};
 ghost use Rattle.reading.specs.Reading.{run};
-ghost use Rattle.directory.specs.Facts.Out.{number_out};
+ghost use Rattle.directory.specs.Facts.Out.{out};
 ghost use Rattle.directory.specs.Facts.Shape.{Tested};
 ghost use Rattle.directory.specs.Tag.{range};
-ghost use Rattle.directory.specs.Facts.Tag.{Numeric, NumberIn, values_out};
+ghost use Rattle.directory.specs.Facts.Tag.{Numeric, NumberIn};
 ghost use Rattle.rawtags.specs.Layout.{bytes_per, depth_reading, only_one, format_reading, strip_rows_reading, layout_reading};
-ghost use Rattle.rawtags.specs.Facts.Layout.{layout_out, LayoutIn};
+ghost use Rattle.rawtags.specs.Facts.Layout.{LayoutIn};
 
-use directory::tag::{Kinds, Range, Rule, ValuesTest};
-use directory::{Ifd, Number, names, tag};
+use directory::tag::{Kinds, Range, Rule, Values};
+use directory::refusal::Refusal;
+use directory::{Ifd, names, tag};
 use reading::number;
 
 // Bytes per sample, and rows per strip.
@@ -18,12 +19,6 @@ use reading::number;
 pub struct Layout {
     pub bytes: usize,
     pub rows: usize,
-}
-
-#[derive(Clone, Copy)]
-pub enum LayoutTest {
-    Refused { number: usize, detail: usize },
-    Is(Layout),
 }
 
 // The bytes of 8 and 16 bits; 0 of anything else.
@@ -37,10 +32,10 @@ fn bytes_per(bits: usize) -> usize
 }
 
 // BitsPerSample.
-fn depth(file: &[u8], ifd: Ifd, samples: usize) -> Number
+fn depth(file: &[u8], ifd: Ifd, samples: usize) -> Result<usize, Refusal>
     requires tested { Tested file.now ifd }
     requires le_samples { 1 ≤ samples }
-    ensures { (number_out result ≡ run file.now (depth_reading ifd samples)) × NumberIn (range 1 1 2) result }
+    ensures { (out result ≡ run file.now (depth_reading ifd samples)) × NumberIn (range 1 1 2) result }
 {
     let rule = Rule {
         tag: names::BITS_PER_SAMPLE,
@@ -49,10 +44,7 @@ fn depth(file: &[u8], ifd: Ifd, samples: usize) -> Number
         least: samples,
         most: samples,
     };
-    let v = match tag::look_up(file, ifd, rule) {
-        ValuesTest::Refused { number, detail } => return Number::Refused { number, detail },
-        ValuesTest::Is(v) => v,
-    };
+    let v = tag::look_up(file, ifd, rule)?;
     let size = v.size;
     let place = v.place;
     let count = v.count;
@@ -60,17 +52,14 @@ fn depth(file: &[u8], ifd: Ifd, samples: usize) -> Number
     let bits = number::value(file, order, size, place);
     let bytes = bytes_per(bits);
     if bytes == 0 {
-        return Number::Refused {
-            number: 8,
-            detail: names::BITS_PER_SAMPLE,
-        };
+        return Err(Refusal::NotCarried(names::BITS_PER_SAMPLE));
     }
     let same = Range {
         legal: 0,
         from: bits,
         to: bits,
     };
-    match tag::each(
+    tag::each(
         file,
         order,
         size,
@@ -78,17 +67,15 @@ fn depth(file: &[u8], ifd: Ifd, samples: usize) -> Number
         same,
         count,
         place,
-    ) {
-        Number::Refused { number, detail } => Number::Refused { number, detail },
-        Number::Is(_) => Number::Is(bytes),
-    }
+    )?;
+Ok(bytes)
 }
 
 // A tag of which only 1 is carried, its default.
-fn only_one(file: &[u8], ifd: Ifd, tag: usize, kinds: Kinds, legal: usize) -> Number
+fn only_one(file: &[u8], ifd: Ifd, tag: usize, kinds: Kinds, legal: usize) -> Result<usize, Refusal>
     requires tested { Tested file.now ifd }
     requires numeric { Numeric kinds }
-    ensures { number_out result ≡ run file.now (only_one ifd tag kinds legal) }
+    ensures { out result ≡ run file.now (only_one ifd tag kinds legal) }
 {
     let rule = Rule {
         tag,
@@ -106,9 +93,9 @@ fn only_one(file: &[u8], ifd: Ifd, tag: usize, kinds: Kinds, legal: usize) -> Nu
 }
 
 // SampleFormat.
-fn format(file: &[u8], ifd: Ifd, samples: usize) -> ValuesTest
+fn format(file: &[u8], ifd: Ifd, samples: usize) -> Result<Values, Refusal>
     requires { Tested file.now ifd }
-    ensures { values_out result ≡ run file.now (format_reading ifd samples) }
+    ensures { out result ≡ run file.now (format_reading ifd samples) }
 {
     let rule = Rule {
         tag: names::SAMPLE_FORMAT,
@@ -126,9 +113,9 @@ fn format(file: &[u8], ifd: Ifd, samples: usize) -> ValuesTest
 }
 
 // RowsPerStrip.
-fn strip_rows(file: &[u8], ifd: Ifd) -> Number
+fn strip_rows(file: &[u8], ifd: Ifd) -> Result<usize, Refusal>
     requires { Tested file.now ifd }
-    ensures { (number_out result ≡ run file.now (strip_rows_reading ifd)) × NumberIn (range 1 1 0xFFFF_FFFF_FFFF_FFFF) result }
+    ensures { (out result ≡ run file.now (strip_rows_reading ifd)) × NumberIn (range 1 1 0xFFFF_FFFF_FFFF_FFFF) result }
 {
     let rule = Rule {
         tag: names::ROWS_PER_STRIP,
@@ -145,50 +132,29 @@ fn strip_rows(file: &[u8], ifd: Ifd) -> Number
     tag::one(file, ifd, rule, 4294967295, some)
 }
 
-pub fn layout_of(file: &[u8], ifd: Ifd, samples: usize) -> LayoutTest
+pub fn layout_of(file: &[u8], ifd: Ifd, samples: usize) -> Result<Layout, Refusal>
     requires tested { Tested file.now ifd }
     requires le_samples { 1 ≤ samples }
-    ensures { (layout_out result ≡ run file.now (layout_reading ifd samples)) × LayoutIn result }
+    ensures { (out result ≡ run file.now (layout_reading ifd samples)) × LayoutIn result }
 {
-    let bytes = match depth(file, ifd, samples) {
-        Number::Refused { number, detail } => return LayoutTest::Refused { number, detail },
-        Number::Is(v) => v,
-    };
-    match only_one(file, ifd, names::COMPRESSION, Kinds::Short, 0) {
-        Number::Refused { number, detail } => return LayoutTest::Refused { number, detail },
-        Number::Is(_) => {}
-    }
-    match only_one(file, ifd, names::PLANAR_CONFIGURATION, Kinds::Short, 0) {
-        Number::Refused { number, detail } => return LayoutTest::Refused { number, detail },
-        Number::Is(_) => {}
-    }
-    match format(file, ifd, samples) {
-        ValuesTest::Refused { number, detail } => return LayoutTest::Refused { number, detail },
-        ValuesTest::Is(_) => {}
-    }
-    match only_one(
+    let bytes = depth(file, ifd, samples)?;
+    only_one(file, ifd, names::COMPRESSION, Kinds::Short, 0)?;
+    only_one(file, ifd, names::PLANAR_CONFIGURATION, Kinds::Short, 0)?;
+    format(file, ifd, samples)?;
+    only_one(
         file,
         ifd,
         names::ROW_INTERLEAVE_FACTOR,
         Kinds::ShortOrLong,
         1,
-    ) {
-        Number::Refused { number, detail } => return LayoutTest::Refused { number, detail },
-        Number::Is(_) => {}
-    }
-    match only_one(
+    )?;
+    only_one(
         file,
         ifd,
         names::COLUMN_INTERLEAVE_FACTOR,
         Kinds::ShortOrLong,
         1,
-    ) {
-        Number::Refused { number, detail } => return LayoutTest::Refused { number, detail },
-        Number::Is(_) => {}
-    }
-    let rows = match strip_rows(file, ifd) {
-        Number::Refused { number, detail } => return LayoutTest::Refused { number, detail },
-        Number::Is(v) => v,
-    };
-    LayoutTest::Is(Layout { bytes, rows })
+    )?;
+    let rows = strip_rows(file, ifd)?;
+    Ok(Layout { bytes, rows })
 }

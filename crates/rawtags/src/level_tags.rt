@@ -1,13 +1,15 @@
 // What the levels of a sample come from: LinearizationTable to WhiteLevel.
 ghost use Rattle.std.specs.Prelude.{◌≡◌, ◌≤◌};
+ghost use Rattle.directory.specs.Facts.Out.{out};
 ghost use Rattle.reading.specs.Reading.{run};
 ghost use Rattle.directory.specs.Facts.Shape.{Tested};
 ghost use Rattle.rawtags.specs.LevelTags.{level_tags_reading};
-ghost use Rattle.rawtags.specs.Facts.LevelTags.{level_tags_out, LevelTagsIn};
+ghost use Rattle.rawtags.specs.Facts.LevelTags.{LevelTagsIn};
 
-use crate::repeat::{Repeat, RepeatTest};
+use directory::refusal::Refusal;
+use crate::repeat::Repeat;
 use crate::{black, repeat, white};
-use directory::tag::{Values, ValuesTest};
+use directory::tag::Values;
 use directory::{Ifd, names};
 
 #[derive(Clone, Copy)]
@@ -20,49 +22,25 @@ pub struct LevelTags {
     pub white: Values,
 }
 
-#[derive(Clone, Copy)]
-pub enum LevelTagsTest {
-    Refused { number: usize, detail: usize },
-    Is(LevelTags),
-}
-
 pub fn level_tags_of(
     file: &[u8],
     ifd: Ifd,
     samples: usize,
     rows: usize,
     columns: usize,
-) -> LevelTagsTest
+) -> Result<LevelTags, Refusal>
     requires tested { Tested file.now ifd }
     requires samples_bound { samples ≤ 3 }
-    ensures result_value { level_tags_out result ≡ run file.now (level_tags_reading ifd samples rows columns) }
+    ensures result_value { out result ≡ run file.now (level_tags_reading ifd samples rows columns) }
     ensures level_tags_in { LevelTagsIn file.now ifd.order samples rows columns result }
 {
-    let table = match white::table_of(file, ifd) {
-        ValuesTest::Refused { number, detail } => return LevelTagsTest::Refused { number, detail },
-        ValuesTest::Is(v) => v,
-    };
-    let repeat = match repeat::repeat_of(file, ifd) {
-        RepeatTest::Refused { number, detail } => return LevelTagsTest::Refused { number, detail },
-        RepeatTest::Is(v) => v,
-    };
-    let black = match black::black_of(file, ifd, repeat, samples) {
-        ValuesTest::Refused { number, detail } => return LevelTagsTest::Refused { number, detail },
-        ValuesTest::Is(v) => v,
-    };
-    let column_deltas = match black::delta_of(file, ifd, names::BLACK_LEVEL_DELTA_H, columns) {
-        ValuesTest::Refused { number, detail } => return LevelTagsTest::Refused { number, detail },
-        ValuesTest::Is(v) => v,
-    };
-    let row_deltas = match black::delta_of(file, ifd, names::BLACK_LEVEL_DELTA_V, rows) {
-        ValuesTest::Refused { number, detail } => return LevelTagsTest::Refused { number, detail },
-        ValuesTest::Is(v) => v,
-    };
-    let white = match white::white_of(file, ifd, samples) {
-        ValuesTest::Refused { number, detail } => return LevelTagsTest::Refused { number, detail },
-        ValuesTest::Is(v) => v,
-    };
-    LevelTagsTest::Is(LevelTags {
+    let table = white::table_of(file, ifd)?;
+    let repeat = repeat::repeat_of(file, ifd)?;
+    let black = black::black_of(file, ifd, repeat, samples)?;
+    let column_deltas = black::delta_of(file, ifd, names::BLACK_LEVEL_DELTA_H, columns)?;
+    let row_deltas = black::delta_of(file, ifd, names::BLACK_LEVEL_DELTA_V, rows)?;
+    let white = white::white_of(file, ifd, samples)?;
+    Ok(LevelTags {
         table,
         repeat,
         black,

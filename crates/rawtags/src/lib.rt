@@ -2,18 +2,20 @@
 #![tactic(auto)]
 
 ghost use Rattle.std.specs.Prelude.{◌≡◌, length};
+ghost use Rattle.directory.specs.Facts.Out.{out};
 ghost use Rattle.reading.specs.Reading.{run};
 ghost use Rattle.directory.specs.Facts.Shape.{Tested};
 ghost use Rattle.rawtags.specs.Raw.{tags_reading};
-ghost use Rattle.rawtags.specs.Facts.Raw.{tags_out, TagsIn};
+ghost use Rattle.rawtags.specs.Facts.Raw.{TagsIn};
 
-use area::{Area, AreaTest};
-use crop::{Crop, CropTest};
+use directory::refusal::Refusal;
+use area::Area;
+use crop::Crop;
 use directory::Ifd;
-use directory::tag::{Values, ValuesTest};
-use frame::{Dimensions, DimensionsTest};
-use layout::{Layout, LayoutTest};
-use level_tags::{LevelTags, LevelTagsTest};
+use directory::tag::Values;
+use frame::Dimensions;
+use layout::Layout;
+use level_tags::LevelTags;
 
 pub mod area;
 pub mod black;
@@ -40,48 +42,21 @@ pub struct Tags {
     pub list: Values,
 }
 
-#[derive(Clone, Copy)]
-pub enum TagsTest {
-    Refused { number: usize, detail: usize },
-    Is(Tags),
-}
-
 // The tags, in order of test.
-pub fn tags_of(file: &[u8], ifd: Ifd) -> TagsTest
+pub fn tags_of(file: &[u8], ifd: Ifd) -> Result<Tags, Refusal>
     requires { Tested file.now ifd }
-    ensures { (tags_out result ≡ run file.now (tags_reading (length file.now) ifd)) × TagsIn file.now ifd.order result }
+    ensures { (out result ≡ run file.now (tags_reading (length file.now) ifd)) × TagsIn file.now ifd.order result }
 {
-    let frame = match frame::frame_of(file, ifd) {
-        DimensionsTest::Refused { number, detail } => return TagsTest::Refused { number, detail },
-        DimensionsTest::Is(v) => v,
-    };
-    let layout = match layout::layout_of(file, ifd, frame.samples) {
-        LayoutTest::Refused { number, detail } => return TagsTest::Refused { number, detail },
-        LayoutTest::Is(v) => v,
-    };
-    let strips = match strips::strips_of(file, ifd, frame, layout) {
-        ValuesTest::Refused { number, detail } => return TagsTest::Refused { number, detail },
-        ValuesTest::Is(v) => v,
-    };
-    let area = match area::area_of(file, ifd, frame) {
-        AreaTest::Refused { number, detail } => return TagsTest::Refused { number, detail },
-        AreaTest::Is(v) => v,
-    };
+    let frame = frame::frame_of(file, ifd)?;
+    let layout = layout::layout_of(file, ifd, frame.samples)?;
+    let strips = strips::strips_of(file, ifd, frame, layout)?;
+    let area = area::area_of(file, ifd, frame)?;
     let rows = area.bottom - area.top;
     let columns = area.right - area.left;
-    let levels = match level_tags::level_tags_of(file, ifd, frame.samples, rows, columns) {
-        LevelTagsTest::Refused { number, detail } => return TagsTest::Refused { number, detail },
-        LevelTagsTest::Is(v) => v,
-    };
-    let crop = match crop::crop_of(file, ifd, rows, columns) {
-        CropTest::Refused { number, detail } => return TagsTest::Refused { number, detail },
-        CropTest::Is(v) => v,
-    };
-    let list = match lists::list_of(file, ifd) {
-        ValuesTest::Refused { number, detail } => return TagsTest::Refused { number, detail },
-        ValuesTest::Is(v) => v,
-    };
-    TagsTest::Is(Tags {
+    let levels = level_tags::level_tags_of(file, ifd, frame.samples, rows, columns)?;
+    let crop = crop::crop_of(file, ifd, rows, columns)?;
+    let list = lists::list_of(file, ifd)?;
+    Ok(Tags {
         frame,
         layout,
         strips,

@@ -1,14 +1,13 @@
 // The mosaic's pattern: CFARepeatPatternDim, CFAPattern, CFAPlaneColor, CFALayout.
 ghost use Rattle.std.specs.Prelude.{◌≡◌, ◌≤◌};
 ghost use Rattle.reading.specs.Reading.{run};
-ghost use Rattle.directory.specs.Facts.Out.{number_out};
+ghost use Rattle.directory.specs.Facts.Out.{out, passed};
 ghost use Rattle.directory.specs.Facts.Shape.{Tested};
-ghost use Rattle.directory.specs.Facts.Tag.{values_out};
 ghost use Rattle.rawtags.specs.Pattern.{one_of, times_of, first_of, last_of, places_of, repeat_dim_reading, cfa_pattern_reading, plane_color_of, plane_color_reading, cfa_layout_reading, pattern_reading};
-ghost use Rattle.rawtags.specs.Facts.Pattern.{pattern_out};
 
-use directory::tag::{Kinds, Range, Rule, ValuesTest};
-use directory::{Ifd, Number, names, tag};
+use directory::tag::{Kinds, Range, Rule, Values};
+use directory::refusal::Refusal;
+use directory::{Ifd, names, tag};
 use reading::number;
 
 // The places of a block's red, its two greens and its blue: 0 to 3, row by row.
@@ -18,12 +17,6 @@ pub struct Pattern {
     pub green1: usize,
     pub green2: usize,
     pub blue: usize,
-}
-
-#[derive(Clone, Copy)]
-pub enum PatternTest {
-    Refused { number: usize, detail: usize },
-    Is(Pattern),
 }
 
 // 1 where two numbers are the same, else 0.
@@ -67,13 +60,13 @@ fn last(x: usize, b: usize, c: usize, d: usize) -> usize
 }
 
 // The places of four colours.
-fn places(a: usize, b: usize, c: usize, d: usize) -> PatternTest
-    ensures { pattern_out result ≡ places_of a b c d }
+fn places(a: usize, b: usize, c: usize, d: usize) -> Result<Pattern, Refusal>
+    ensures { out result ≡ places_of a b c d }
 {
     if times(0, a, b, c, d) == 1 {
         if times(1, a, b, c, d) == 2 {
             if times(2, a, b, c, d) == 1 {
-                return PatternTest::Is(Pattern {
+                return Ok(Pattern {
                     red: first(0, a, b, c),
                     green1: first(1, a, b, c),
                     green2: last(1, b, c, d),
@@ -82,16 +75,13 @@ fn places(a: usize, b: usize, c: usize, d: usize) -> PatternTest
             }
         }
     }
-    PatternTest::Refused {
-        number: 8,
-        detail: names::CFA_PATTERN,
-    }
+    Err(Refusal::NotCarried(names::CFA_PATTERN))
 }
 
 // CFARepeatPatternDim.
-fn repeat_dim_of(file: &[u8], ifd: Ifd) -> ValuesTest
+fn repeat_dim_of(file: &[u8], ifd: Ifd) -> Result<Values, Refusal>
     requires { Tested file.now ifd }
-    ensures { values_out result ≡ run file.now (repeat_dim_reading ifd) }
+    ensures { out result ≡ run file.now (repeat_dim_reading ifd) }
 {
     let rule = Rule {
         tag: names::CFA_REPEAT_PATTERN_DIM,
@@ -109,9 +99,9 @@ fn repeat_dim_of(file: &[u8], ifd: Ifd) -> ValuesTest
 }
 
 // CFAPattern.
-fn cfa_pattern_of(file: &[u8], ifd: Ifd) -> PatternTest
+fn cfa_pattern_of(file: &[u8], ifd: Ifd) -> Result<Pattern, Refusal>
     requires { Tested file.now ifd }
-    ensures { pattern_out result ≡ run file.now (cfa_pattern_reading ifd) }
+    ensures { out result ≡ run file.now (cfa_pattern_reading ifd) }
 {
     let rule = Rule {
         tag: names::CFA_PATTERN,
@@ -120,10 +110,7 @@ fn cfa_pattern_of(file: &[u8], ifd: Ifd) -> PatternTest
         least: 4,
         most: 4,
     };
-    let v = match tag::look_up(file, ifd, rule) {
-        ValuesTest::Refused { number, detail } => return PatternTest::Refused { number, detail },
-        ValuesTest::Is(v) => v,
-    };
+    let v = tag::look_up(file, ifd, rule)?;
     let place = v.place;
     let order = ifd.order;
     let a = number::byte(file, order, place) as usize;
@@ -134,26 +121,23 @@ fn cfa_pattern_of(file: &[u8], ifd: Ifd) -> PatternTest
 }
 
 // 8 of three planes' colours that are not 0, 1, 2.
-fn plane_color(a: usize, b: usize, c: usize) -> Number
-    ensures { number_out result ≡ plane_color_of a b c }
+fn plane_color(a: usize, b: usize, c: usize) -> Result<(), Refusal>
+    ensures { passed result ≡ plane_color_of a b c }
 {
     if a == 0 {
         if b == 1 {
             if c == 2 {
-                return Number::Is(0);
+                return Ok(());
             }
         }
     }
-    Number::Refused {
-        number: 8,
-        detail: names::CFA_PLANE_COLOR,
-    }
+    Err(Refusal::NotCarried(names::CFA_PLANE_COLOR))
 }
 
 // CFAPlaneColor.
-fn plane_color_of(file: &[u8], ifd: Ifd) -> Number
+fn plane_color_of(file: &[u8], ifd: Ifd) -> Result<(), Refusal>
     requires { Tested file.now ifd }
-    ensures { number_out result ≡ run file.now (plane_color_reading ifd) }
+    ensures { passed result ≡ run file.now (plane_color_reading ifd) }
 {
     let rule = Rule {
         tag: names::CFA_PLANE_COLOR,
@@ -162,10 +146,7 @@ fn plane_color_of(file: &[u8], ifd: Ifd) -> Number
         least: 3,
         most: 3,
     };
-    let v = match tag::look_up(file, ifd, rule) {
-        ValuesTest::Refused { number, detail } => return Number::Refused { number, detail },
-        ValuesTest::Is(v) => v,
-    };
+    let v = tag::look_up(file, ifd, rule)?;
     let count = v.count;
     if count == 0 {
         return plane_color(0, 1, 2);
@@ -179,9 +160,9 @@ fn plane_color_of(file: &[u8], ifd: Ifd) -> Number
 }
 
 // CFALayout.
-fn cfa_layout_of(file: &[u8], ifd: Ifd) -> Number
+fn cfa_layout_of(file: &[u8], ifd: Ifd) -> Result<usize, Refusal>
     requires { Tested file.now ifd }
-    ensures { number_out result ≡ run file.now (cfa_layout_reading ifd) }
+    ensures { out result ≡ run file.now (cfa_layout_reading ifd) }
 {
     let rule = Rule {
         tag: names::CFA_LAYOUT,
@@ -199,25 +180,13 @@ fn cfa_layout_of(file: &[u8], ifd: Ifd) -> Number
 }
 
 // The four tags of the raw IFD, in order of test.
-pub fn pattern_of(file: &[u8], ifd: Ifd) -> PatternTest
+pub fn pattern_of(file: &[u8], ifd: Ifd) -> Result<Pattern, Refusal>
     requires { Tested file.now ifd }
-    ensures { pattern_out result ≡ run file.now (pattern_reading ifd) }
+    ensures { out result ≡ run file.now (pattern_reading ifd) }
 {
-    match repeat_dim_of(file, ifd) {
-        ValuesTest::Refused { number, detail } => return PatternTest::Refused { number, detail },
-        ValuesTest::Is(_) => {}
-    }
-    let pattern = match cfa_pattern_of(file, ifd) {
-        PatternTest::Refused { number, detail } => return PatternTest::Refused { number, detail },
-        PatternTest::Is(p) => p,
-    };
-    match plane_color_of(file, ifd) {
-        Number::Refused { number, detail } => return PatternTest::Refused { number, detail },
-        Number::Is(_) => {}
-    }
-    match cfa_layout_of(file, ifd) {
-        Number::Refused { number, detail } => return PatternTest::Refused { number, detail },
-        Number::Is(_) => {}
-    }
-    PatternTest::Is(pattern)
+    repeat_dim_of(file, ifd)?;
+    let pattern = cfa_pattern_of(file, ifd)?;
+    plane_color_of(file, ifd)?;
+    cfa_layout_of(file, ifd)?;
+    Ok(pattern)
 }

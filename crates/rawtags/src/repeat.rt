@@ -1,12 +1,14 @@
 // The repeat of the black levels: BlackLevelRepeatDim.
 ghost use Rattle.std.specs.Prelude.{◌≡◌};
+ghost use Rattle.directory.specs.Facts.Out.{out};
 ghost use Rattle.reading.specs.Reading.{run};
 ghost use Rattle.directory.specs.Facts.Shape.{Tested};
 ghost use Rattle.rawtags.specs.Repeat.{repeat_reading};
-ghost use Rattle.rawtags.specs.Facts.Repeat.{repeat_out, RepeatIn};
+ghost use Rattle.rawtags.specs.Facts.Repeat.{RepeatIn};
 
-use directory::tag::{Kinds, Range, Rule, ValuesTest};
-use directory::{Ifd, Number, names, tag};
+use directory::tag::{Kinds, Range, Rule};
+use directory::refusal::Refusal;
+use directory::{Ifd, names, tag};
 use reading::number;
 
 #[derive(Clone, Copy)]
@@ -15,15 +17,9 @@ pub struct Repeat {
     pub columns: usize,
 }
 
-#[derive(Clone, Copy)]
-pub enum RepeatTest {
-    Refused { number: usize, detail: usize },
-    Is(Repeat),
-}
-
-pub fn repeat_of(file: &[u8], ifd: Ifd) -> RepeatTest
+pub fn repeat_of(file: &[u8], ifd: Ifd) -> Result<Repeat, Refusal>
     requires { Tested file.now ifd }
-    ensures { (repeat_out result ≡ run file.now (repeat_reading ifd)) × RepeatIn result }
+    ensures { (out result ≡ run file.now (repeat_reading ifd)) × RepeatIn result }
 {
     let rule = Rule {
         tag: names::BLACK_LEVEL_REPEAT_DIM,
@@ -32,13 +28,10 @@ pub fn repeat_of(file: &[u8], ifd: Ifd) -> RepeatTest
         least: 2,
         most: 2,
     };
-    let v = match tag::look_up(file, ifd, rule) {
-        ValuesTest::Refused { number, detail } => return RepeatTest::Refused { number, detail },
-        ValuesTest::Is(v) => v,
-    };
+    let v = tag::look_up(file, ifd, rule)?;
     let count = v.count;
     if count == 0 {
-        return RepeatTest::Is(Repeat {
+        return Ok(Repeat {
             rows: 1,
             columns: 1,
         });
@@ -51,21 +44,15 @@ pub fn repeat_of(file: &[u8], ifd: Ifd) -> RepeatTest
         from: 1,
         to: 8,
     };
-    let rows = match tag::judged(
+    let rows = tag::judged(
         names::BLACK_LEVEL_REPEAT_DIM,
         range,
         number::value(file, order, size, place),
-    ) {
-        Number::Refused { number, detail } => return RepeatTest::Refused { number, detail },
-        Number::Is(n) => n,
-    };
-    let columns = match tag::judged(
+    )?;
+    let columns = tag::judged(
         names::BLACK_LEVEL_REPEAT_DIM,
         range,
         number::value(file, order, size, place + size),
-    ) {
-        Number::Refused { number, detail } => return RepeatTest::Refused { number, detail },
-        Number::Is(n) => n,
-    };
-    RepeatTest::Is(Repeat { rows, columns })
+    )?;
+    Ok(Repeat { rows, columns })
 }

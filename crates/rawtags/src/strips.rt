@@ -1,10 +1,9 @@
 // The strips: StripOffsets, StripByteCounts.
 ghost use Rattle.std.specs.Prelude.{◌≡◌, ◌+◌, ◌*◌, ◌≤◌, ◌<◌, length};
 ghost use Rattle.reading.specs.Reading.{run};
-ghost use Rattle.directory.specs.Facts.Out.{number_out};
+ghost use Rattle.directory.specs.Facts.Out.{out, passed};
 ghost use Rattle.directory.specs.Facts.Shape.{Tested};
 ghost use Rattle.reading.specs.Facts.Number.{Wide};
-ghost use Rattle.directory.specs.Facts.Tag.{values_out};
 ghost use Rattle.rawtags.specs.Facts.Frame.{DimensionsWithin};
 ghost use Rattle.rawtags.specs.Facts.Layout.{LayoutWithin};
 ghost use Rattle.rawtags.specs.Strips.{strip_from, strips_reading};
@@ -12,8 +11,9 @@ ghost use Rattle.rawtags.specs.Facts.Strips.{StripsIn};
 
 use crate::frame::Dimensions;
 use crate::layout::Layout;
-use directory::tag::{Kinds, Rule, ValuesTest};
-use directory::{Ifd, Number, names, tag};
+use directory::tag::{Kinds, Rule, Values};
+use directory::refusal::Refusal;
+use directory::{Ifd, names, tag};
 use reading::number;
 use reading::number::Order;
 
@@ -34,47 +34,39 @@ fn check_strips(
     rows: usize,
     lines: usize,
     row: usize,
-) -> Number
+) -> Result<(), Refusal>
     requires count_in_bounds { (offsets.place + offsets.size * count ≤ length file.now) × Wide offsets.size }
     requires count_in_bounds_2 { (counts.place + counts.size * count ≤ length file.now) × Wide counts.size }
     requires lines_bound { (lines ≤ 16384) × (row ≤ 98304) }
-    ensures { number_out result ≡ run file.now (strip_from (length file.now) order offsets.size counts.size rows row count offsets.place counts.place lines) }
+    ensures { passed result ≡ run file.now (strip_from (length file.now) order offsets.size counts.size rows row count offsets.place counts.place lines) }
 {
     let width = offsets.size;
     let breadth = counts.size;
-    let mut left = count;
     let mut p = offsets.place;
     let mut q = counts.place;
     let mut rest = lines;
-    while 0 < left {
+    for _ in 0..count {
         let here = number::smaller(rows, rest);
         let bytes = number::value(file, order, breadth, q);
         if bytes != here * row {
-            return Number::Refused {
-                number: 4,
-                detail: names::STRIP_BYTE_COUNTS,
-            };
+            return Err(Refusal::Illegal(names::STRIP_BYTE_COUNTS));
         }
         let place = number::value(file, order, width, p);
         if !number::inside(place, bytes, file.len()) {
-            return Number::Refused {
-                number: 4,
-                detail: names::STRIP_OFFSETS,
-            };
+            return Err(Refusal::Illegal(names::STRIP_OFFSETS));
         }
         p += width;
         q += breadth;
         rest -= here;
-        left -= 1;
     }
-    Number::Is(0)
+    Ok(())
 }
 
 // StripOffsets and StripByteCounts: where the strips' offsets stand.
-pub fn strips_of(file: &[u8], ifd: Ifd, frame: Dimensions, layout: Layout) -> ValuesTest
+pub fn strips_of(file: &[u8], ifd: Ifd, frame: Dimensions, layout: Layout) -> Result<Values, Refusal>
     requires tested { Tested file.now ifd }
     requires dimensions_in { DimensionsWithin frame × LayoutWithin layout }
-    ensures result_value { values_out result ≡ run file.now (strips_reading (length file.now) ifd frame layout) }
+    ensures result_value { out result ≡ run file.now (strips_reading (length file.now) ifd frame layout) }
     ensures strips_in { StripsIn file.now ifd.order frame layout result }
 {
     let rows = layout.rows;
@@ -87,10 +79,7 @@ pub fn strips_of(file: &[u8], ifd: Ifd, frame: Dimensions, layout: Layout) -> Va
         least: count,
         most: count,
     };
-    let offsets = match tag::look_up(file, ifd, offsets_rule) {
-        ValuesTest::Refused { number, detail } => return ValuesTest::Refused { number, detail },
-        ValuesTest::Is(v) => v,
-    };
+    let offsets = tag::look_up(file, ifd, offsets_rule)?;
     let counts_rule = Rule {
         tag: names::STRIP_BYTE_COUNTS,
         kinds: Kinds::ShortOrLong,
@@ -98,10 +87,7 @@ pub fn strips_of(file: &[u8], ifd: Ifd, frame: Dimensions, layout: Layout) -> Va
         least: count,
         most: count,
     };
-    let counts = match tag::look_up(file, ifd, counts_rule) {
-        ValuesTest::Refused { number, detail } => return ValuesTest::Refused { number, detail },
-        ValuesTest::Is(v) => v,
-    };
+    let counts = tag::look_up(file, ifd, counts_rule)?;
     let order = ifd.order;
     let at = Run {
         place: offsets.place,
@@ -111,8 +97,6 @@ pub fn strips_of(file: &[u8], ifd: Ifd, frame: Dimensions, layout: Layout) -> Va
         place: counts.place,
         size: counts.size,
     };
-    match check_strips(file, order, at, long, count, rows, frame.length, row) {
-        Number::Refused { number, detail } => ValuesTest::Refused { number, detail },
-        Number::Is(_) => ValuesTest::Is(offsets),
-    }
+    check_strips(file, order, at, long, count, rows, frame.length, row)?;
+Ok(offsets)
 }

@@ -1,18 +1,20 @@
 // The linearization table and the white levels: LinearizationTable, WhiteLevel.
 ghost use Rattle.std.specs.Prelude.{◌≡◌, length};
+ghost use Rattle.directory.specs.Facts.Out.{out};
 ghost use Rattle.reading.specs.Reading.{run};
 ghost use Rattle.directory.specs.Facts.Shape.{Tested};
-ghost use Rattle.directory.specs.Facts.Tag.{values_out, ValuesIn};
+ghost use Rattle.directory.specs.Facts.Tag.{ValuesIn};
 ghost use Rattle.rawtags.specs.White.{white_rule, white_reading, table_rule, table_reading};
 ghost use Rattle.rawtags.specs.Facts.White.{WhitesIn};
 
-use directory::tag::{Kinds, Range, Rule, ValuesTest};
+use directory::refusal::Refusal;
+use directory::tag::{Kinds, Range, Rule, Values};
 use directory::{Ifd, names, tag};
 
 // WhiteLevel.
-pub fn white_of(file: &[u8], ifd: Ifd, samples: usize) -> ValuesTest
+pub fn white_of(file: &[u8], ifd: Ifd, samples: usize) -> Result<Values, Refusal>
     requires { Tested file.now ifd }
-    ensures { (values_out result ≡ run file.now (white_reading ifd samples)) × WhitesIn file.now ifd.order (white_rule samples) result }
+    ensures { (out result ≡ run file.now (white_reading ifd samples)) × WhitesIn file.now ifd.order (white_rule samples) result }
 {
     let rule = Rule {
         tag: names::WHITE_LEVEL,
@@ -30,9 +32,9 @@ pub fn white_of(file: &[u8], ifd: Ifd, samples: usize) -> ValuesTest
 }
 
 // LinearizationTable.
-pub fn table_of(file: &[u8], ifd: Ifd) -> ValuesTest
+pub fn table_of(file: &[u8], ifd: Ifd) -> Result<Values, Refusal>
     requires { Tested file.now ifd }
-    ensures { (values_out result ≡ run file.now (table_reading ifd)) × ValuesIn (length file.now) table_rule result }
+    ensures { (out result ≡ run file.now (table_reading ifd)) × ValuesIn (length file.now) table_rule result }
 {
     let rule = Rule {
         tag: names::LINEARIZATION_TABLE,

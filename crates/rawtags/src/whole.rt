@@ -3,13 +3,13 @@ ghost use Rattle.std.specs.Prelude.{◌≡◌, ◌+◌, ◌≤◌, length};
 ghost use Rattle.reading.specs.Facts.Number.{Wide};
 ghost use Rattle.reading.specs.Reading.{run};
 ghost use Rattle.directory.specs.Entry.{kind_width};
-ghost use Rattle.directory.specs.Facts.Out.{number_out};
+ghost use Rattle.directory.specs.Facts.Out.{out};
 ghost use Rattle.directory.specs.Facts.Shape.{Tested};
 ghost use Rattle.rawtags.specs.Whole.{whole_number_of, whole_number_reading, lengths_reading};
-ghost use Rattle.rawtags.specs.Facts.Whole.{lengths_out};
 
-use directory::tag::{Kinds, Rule, Values, ValuesTest};
-use directory::{Ifd, Number, entry, tag};
+use directory::tag::{Kinds, Rule, Values};
+use directory::refusal::Refusal;
+use directory::{Ifd, entry, tag};
 use reading::number;
 use reading::number::Order;
 
@@ -20,36 +20,24 @@ pub struct Lengths {
     pub vertical: usize,
 }
 
-#[derive(Clone, Copy)]
-pub enum LengthsTest {
-    Refused { number: usize, detail: usize },
-    Is(Lengths),
-}
-
 // The value of a fraction, as it is written.
-fn whole_number(tag: usize, numerator: usize, denominator: usize) -> Number
-    ensures { number_out result ≡ whole_number_of tag numerator denominator }
+fn whole_number(tag: usize, numerator: usize, denominator: usize) -> Result<usize, Refusal>
+    ensures { out result ≡ whole_number_of tag numerator denominator }
 {
     if denominator == 0 {
-        return Number::Refused {
-            number: 4,
-            detail: tag,
-        };
+        return Err(Refusal::Illegal(tag));
     }
     if numerator % denominator == 0 {
-        Number::Is(numerator / denominator)
+        Ok(numerator / denominator)
     } else {
-        Number::Refused {
-            number: 8,
-            detail: tag,
-        }
+        Err(Refusal::NotCarried(tag))
     }
 }
 
 // One of a tag's values, at a place.
-fn whole_number_at(file: &[u8], order: Order, tag: usize, values: Values, at: usize) -> Number
+fn whole_number_at(file: &[u8], order: Order, tag: usize, values: Values, at: usize) -> Result<usize, Refusal>
     requires { (at + values.size ≤ length file.now) × Wide values.size × (values.size ≡ kind_width values.kind) }
-    ensures { number_out result ≡ run file.now (whole_number_reading order tag values at) }
+    ensures { out result ≡ run file.now (whole_number_reading order tag values at) }
 {
     let kind = values.kind;
     if entry::code(kind) == 5 {
@@ -62,9 +50,9 @@ fn whole_number_at(file: &[u8], order: Order, tag: usize, values: Values, at: us
 }
 
 // A tag with two values, or its default.
-pub fn lengths_of(file: &[u8], ifd: Ifd, tag: usize, default: Lengths) -> LengthsTest
+pub fn lengths_of(file: &[u8], ifd: Ifd, tag: usize, default: Lengths) -> Result<Lengths, Refusal>
     requires { Tested file.now ifd }
-    ensures { lengths_out result ≡ run file.now (lengths_reading ifd tag default) }
+    ensures { out result ≡ run file.now (lengths_reading ifd tag default) }
 {
     let rule = Rule {
         tag,
@@ -73,25 +61,16 @@ pub fn lengths_of(file: &[u8], ifd: Ifd, tag: usize, default: Lengths) -> Length
         least: 2,
         most: 2,
     };
-    let v = match tag::look_up(file, ifd, rule) {
-        ValuesTest::Refused { number, detail } => return LengthsTest::Refused { number, detail },
-        ValuesTest::Is(v) => v,
-    };
+    let v = tag::look_up(file, ifd, rule)?;
     let count = v.count;
     if count == 0 {
-        return LengthsTest::Is(default);
+        return Ok(default);
     }
     let order = ifd.order;
     let place = v.place;
-    let horizontal = match whole_number_at(file, order, tag, v, place) {
-        Number::Refused { number, detail } => return LengthsTest::Refused { number, detail },
-        Number::Is(n) => n,
-    };
-    let vertical = match whole_number_at(file, order, tag, v, place + v.size) {
-        Number::Refused { number, detail } => return LengthsTest::Refused { number, detail },
-        Number::Is(n) => n,
-    };
-    LengthsTest::Is(Lengths {
+    let horizontal = whole_number_at(file, order, tag, v, place)?;
+    let vertical = whole_number_at(file, order, tag, v, place + v.size)?;
+    Ok(Lengths {
         horizontal,
         vertical,
     })

@@ -1,31 +1,20 @@
--- What holds of an accepted value, and each enum of the code as `Out`.
-use Rattle.std.specs.Prelude.{false}
-use Rattle.directory.specs.Out.{Out, Out.refused, Out.is}
+-- What holds of an accepted value.
+use Rattle.std.specs.Prelude.{false, Result, Ok, Err}
+use Rattle.directory.specs.Out.{Out, Out.is}
 use Rattle.colour.specs.Facts.Bounds.{Within, Beyond, All}
 use Rattle.colour.specs.Facts.Value.{TripleFrom}
 use Rattle.colour.specs.declared.Colour.{Colour}
-use Rattle.colour.specs.declared.ColourTest.{ColourTest}
-use Rattle.colour.specs.declared.ColourTest.TheVariants as coloured
 use Rattle.colour.specs.declared.tags.Matrix.{Matrix}
-use Rattle.colour.specs.declared.tags.MatrixTest.{MatrixTest}
-use Rattle.colour.specs.declared.tags.MatrixTest.TheVariants as forward
-
-abbrev pub matrix_out : MatrixTest → Out Matrix
-matrix_out (forward.Refused n d) = refused n d
-matrix_out (forward.Is v) = is v
-
-abbrev pub colour_out : ColourTest → Out Colour
-colour_out (coloured.Refused n d) = refused n d
-colour_out (coloured.Is v) = is v
+use Rattle.directory.specs.declared.refusal.Refusal.{Refusal}
 
 pub record MatrixWithin (m : Matrix) : Type 0 where
   pub x : TripleFrom false m.x
   pub y : TripleFrom false m.y
   pub z : TripleFrom false m.z
 
-abbrev pub MatrixIn : MatrixTest → Type 0
-MatrixIn (forward.Refused n d) = Unit {0}
-MatrixIn (forward.Is m) = MatrixWithin m
+abbrev pub MatrixIn : Result Matrix Refusal → Type 0
+MatrixIn (Err e) = Unit {0}
+MatrixIn (Ok m) = MatrixWithin m
 
 -- a number of the matrix is at most 2 ^ 32 in magnitude, one of the neutral at least 1 / 2 ^ 32
 pub record ColourWithin (c : Colour) : Type 0 where
@@ -34,6 +23,6 @@ pub record ColourWithin (c : Colour) : Type 0 where
   pub z : All (Within 0x1_0000_0000) c.z0 c.z1 c.z2
   pub neutral : All (Beyond 0x1_0000_0000) c.neutral0 c.neutral1 c.neutral2
 
-abbrev pub ColourIn : ColourTest → Type 0
-ColourIn (coloured.Refused n d) = Unit {0}
-ColourIn (coloured.Is c) = ColourWithin c
+abbrev pub ColourIn : Result Colour Refusal → Type 0
+ColourIn (Err e) = Unit {0}
+ColourIn (Ok c) = ColourWithin c

@@ -1,13 +1,13 @@
 use mathlib.Core.Path.{sym, ap, subst, ◌∙◌}
 use native.Mathlib.Omega.{arith}
-use Rattle.raw.specs.Facts.Front.{front_out, FrontIn}
-use Rattle.opcodes.specs.Facts.OpcodeList.{list_out}
+use Rattle.directory.specs.Facts.Out.{out}
+use Rattle.raw.specs.Facts.Front.{FrontIn}
 use Rattle.develop.proofs.Views.{front_refused, list_refused, list_viewed}
 use Rattle.develop.proofs.open.Goals as goal
 
 pub returns-in-Refused : goal.returns-in-Refused
 returns-in-Refused c =
-    front_refused _ _ _ (ap front_out (sym c.in-Refused.is) ∙ c.«open».ensures.0)
+    front_refused _ _ _ (ap out (sym c.in-Refused.is) ∙ c.«open».ensures.0)
 
 pub list_of-requires : goal.list_of-requires
 list_of-requires c =
@@ -20,11 +20,11 @@ size_of-requires c =
 
 pub returns-in-Refused-list_of : goal.returns-in-Refused-list_of
 returns-in-Refused-list_of c =
-    list_refused c.args.file.now _ (ap front_out (sym c.in-Is.is) ∙ c.«open».ensures.0) _ _
-    (ap list_out (sym c.in-Refused-list_of.is) ∙ c.list_of.ensures)
+    list_refused c.args.file.now _ (ap out (sym c.in-Is.is) ∙ c.«open».ensures.0) _ _
+    (ap out (sym c.in-Refused-list_of.is) ∙ c.list_of.ensures)
 
 pub returns-in-Is-list_of : goal.returns-in-Is-list_of
 returns-in-Is-list_of c =
-    list_viewed c.args.file.now _ (ap front_out (sym c.in-Is.is) ∙ c.«open».ensures.0) _ _ c.size_of.ensures
+    list_viewed c.args.file.now _ (ap out (sym c.in-Is.is) ∙ c.«open».ensures.0) _ _ c.size_of.ensures
     (subst (FrontIn c.args.file.now) c.in-Is.is c.«open».ensures.1)
-    (ap list_out (sym c.in-Is-list_of.is) ∙ c.list_of.ensures)
+    (ap out (sym c.in-Is-list_of.is) ∙ c.list_of.ensures)

@@ -1,9 +1,15 @@
--- What holds of an accepted value, and each enum of the code as `Out`.
-use Rattle.std.specs.Prelude.{ℕ}
-use Rattle.directory.specs.declared.Number.{Number}
-use Rattle.directory.specs.declared.Number.TheVariants as number
+-- What a function of the code answers as `Out`.
+use Rattle.std.specs.Prelude.{ℕ, Result, Ok, Err}
+use Rattle.directory.specs.declared.refusal.Refusal.{Refusal}
+use Rattle.directory.specs.Refusal.{number_of, detail_of}
 use Rattle.directory.specs.Out.{Out, Out.refused, Out.is}
 
-abbrev pub number_out : Number → Out ℕ
-number_out (number.Refused n d) = refused n d
-number_out (number.Is v) = is v
+-- a value, or its refusal
+abbrev pub out : {A : Type 0} → Result A Refusal → Out A
+out (Err r) = refused (number_of r) (detail_of r)
+out (Ok v) = is v
+
+-- a test that hands nothing on
+abbrev pub passed : Result (Unit {0}) Refusal → Out ℕ
+passed (Err r) = refused (number_of r) (detail_of r)
+passed (Ok u) = is 0

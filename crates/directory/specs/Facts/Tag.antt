@@ -1,34 +1,25 @@
--- What holds of an accepted value, and each enum of the code as `Out`.
-use Rattle.std.specs.Prelude.{◌≡◌, List, true, ◌⊎◌, ℕ, ◌+◌, ◌*◌, ◌≤◌, ◌<◌, length}
+-- What holds of an accepted value.
+use Rattle.std.specs.Prelude.{◌≡◌, List, true, ◌⊎◌, ℕ, ◌+◌, ◌*◌, ◌≤◌, ◌<◌, length, Result, Ok, Err, Option, Some, None}
 use Rattle.reading.specs.Bytes.{part}
 use Rattle.reading.specs.Number.{number_of}
 use Rattle.reading.specs.Facts.Number.{Wide}
 use Rattle.reading.specs.declared.number.Order.{Order}
-use Rattle.directory.specs.Out.{Out, Out.refused, Out.is}
 use Rattle.directory.specs.Entry.{kind_width, bytes_of}
 use Rattle.directory.specs.declared.Widths.{Widths}
-use Rattle.directory.specs.declared.Number.{Number}
-use Rattle.directory.specs.declared.Number.TheVariants as number
+use Rattle.directory.specs.declared.refusal.Refusal.{Refusal}
 use Rattle.directory.specs.declared.entry.Entry.{Entry}
 use Rattle.directory.specs.declared.tag.Found.{Found}
-use Rattle.directory.specs.declared.tag.Found.TheVariants as found
 use Rattle.directory.specs.declared.tag.Kinds.{Kinds}
 use Rattle.directory.specs.declared.tag.Kinds.TheVariants as kinds
 use Rattle.directory.specs.declared.tag.Rule.{Rule}
 use Rattle.directory.specs.declared.tag.Range.{Range}
 use Rattle.directory.specs.declared.tag.Values.{Values}
-use Rattle.directory.specs.declared.tag.ValuesTest.{ValuesTest}
-use Rattle.directory.specs.declared.tag.ValuesTest.TheVariants as given
 use Rattle.directory.specs.Tag.{allows_of}
 
-abbrev pub values_out : ValuesTest → Out Values
-values_out (given.Refused n d) = refused n d
-values_out (given.Is v) = is v
-
 -- the value or offset of an entry that was found lies in the file
-abbrev pub FoundIn : Widths → ℕ → Found → Type 0
-FoundIn w len found.Absent = Unit {0}
-FoundIn w len (found.At p e) = p + w.word ≤ len
+abbrev pub FoundIn : Widths → ℕ → Option Found → Type 0
+FoundIn w len None = Unit {0}
+FoundIn w len (Some x) = x.place + w.word ≤ len
 
 -- and so does a value that stands elsewhere
 unfoldable pub Placed : Widths → List ℕ → Order → ℕ → Entry → Type 0
@@ -69,15 +60,15 @@ pub record PlacedValues (len : ℕ) (r : Rule) (v : Values) : Type 0 where
   pub within : v.count ≤ r.most
   pub present : r.required ≡ true → r.least ≤ v.count
 
-abbrev pub ValuesIn : ℕ → Rule → ValuesTest → Type 0
-ValuesIn len r (given.Refused n d) = Unit {0}
-ValuesIn len r (given.Is v) = PlacedValues len r v
+abbrev pub ValuesIn : ℕ → Rule → Result Values Refusal → Type 0
+ValuesIn len r (Err e) = Unit {0}
+ValuesIn len r (Ok v) = PlacedValues len r v
 
 pub record InRange (r : Range) (v : ℕ) : Type 0 where
   pub legal : r.legal ≤ v
   pub from : r.from ≤ v
   pub to : v ≤ r.to
 
-abbrev pub NumberIn : Range → Number → Type 0
-NumberIn r (number.Refused n d) = Unit {0}
-NumberIn r (number.Is v) = InRange r v
+abbrev pub NumberIn : Range → Result ℕ Refusal → Type 0
+NumberIn r (Err e) = Unit {0}
+NumberIn r (Ok v) = InRange r v

@@ -2,19 +2,12 @@
 use Rattle.std.specs.Prelude.{◌≡◌, List, ℕ, ◌+◌, ◌*◌, ◌/◌, ◌≤◌, Float, length, get_or}
 use Rattle.std.specs.Float.{nan}
 use Rattle.levels.specs.Run.{run_of}
-use Rattle.directory.specs.Out.{Out, Out.refused, Out.is}
 use Rattle.develop.specs.Calls.{inside, joined}
 use Rattle.develop.specs.Facts.View.{Viewed}
 use Rattle.develop.specs.declared.View.{View}
 use Rattle.develop.specs.declared.fill.Rectangle.{Rectangle}
 use Rattle.half.specs.declared.half_window.Half.{Half}
 use Rattle.half.specs.declared.half_window.Stretch.{Stretch}
-use Rattle.half.specs.declared.half_window.Halved.{Halved}
-use Rattle.half.specs.declared.half_window.Halved.TheVariants as halved
-
-abbrev pub half_out : Halved → Out Half
-half_out (halved.Refused n d) = refused n d
-half_out (halved.Is m) = is m
 
 -- blocks inside the active area of an accepted mosaic, and a slice of their length
 pub record BlocksIn (f : List ℕ) (v : View) (b : Rectangle) (old : List Float) : Type 0 where

@@ -1,14 +1,13 @@
 -- What the listing's functions make of a text, and what they know of the file.
-use Rattle.std.specs.Prelude.{ℕ, zero, suc, ◌+◌, ◌*◌, ◌≤◌, ◌<◌, ◌≡◌, List, [], ◌++◌, Float, length, take, drop}
+use Rattle.std.specs.Prelude.{ℕ, zero, suc, ◌+◌, ◌*◌, ◌≤◌, ◌<◌, ◌≡◌, List, [], ◌++◌, Float, length, take, drop, Result, Ok, Err}
 use Rattle.directory.specs.Out.{Out.is}
 use Rattle.opcodes.specs.declared.grid.Size.{Size}
 use Rattle.rows.specs.Facts.Part.{AllInUnit}
 use Rattle.develop.specs.Facts.View.{Viewed}
 use Rattle.develop.specs.declared.View.{View}
-use Rattle.develop.specs.declared.Opening.{Opening}
-use Rattle.develop.specs.declared.Opening.TheVariants as opening
 use Rattle.listing.specs.Text.{values_text, refused_text, listed_of, head_text, body_text, listing_of}
 use Rattle.listing.specs.declared.First.{First}
+use Rattle.directory.specs.declared.refusal.Refusal.{Refusal}
 
 -- a word stands behind the first `at` bytes of a text, and ends at `end`
 abbrev pub Puts : List ℕ → ℕ → List ℕ → List ℕ → ℕ → Type 0
@@ -41,9 +40,9 @@ abbrev pub rows_from : List ℕ → ℕ → List ℕ
 rows_from f top = body_text f top (listed_of f)
 
 -- a file as it was opened: no row comes behind a refusal
-abbrev pub OpenedIs : List ℕ → Opening → Type 0
-OpenedIs f (opening.Refused n d) = rows_from f 0 ≡ []
-OpenedIs f (opening.Is v) = Listed f v
+abbrev pub OpenedIs : List ℕ → Result View Refusal → Type 0
+OpenedIs f (Err e) = rows_from f 0 ≡ []
+OpenedIs f (Ok v) = Listed f v
 
 -- the whole text of a refused file
 abbrev pub RefusedIs : ℕ → ℕ → First → List ℕ → Type 0

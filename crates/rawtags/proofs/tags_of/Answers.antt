@@ -1,22 +1,23 @@
 use mathlib.Core.Path.{sym, ap, subst, ◌∙◌}
 use native.Mathlib.Omega.{arith}
 use lib.ListN.{length}
-use Rattle.directory.specs.Facts.Tag.{values_out, ValuesIn}
+use Rattle.directory.specs.Facts.Out.{out}
+use Rattle.directory.specs.Facts.Tag.{ValuesIn}
 use Rattle.rawtags.specs.Lists.{list_rule}
 use Rattle.rawtags.specs.Raw.{active_rows, active_columns}
-use Rattle.rawtags.specs.Facts.Frame.{dimensions_out, DimensionsIn}
-use Rattle.rawtags.specs.Facts.Layout.{layout_out, LayoutIn}
+use Rattle.rawtags.specs.Facts.Frame.{DimensionsIn}
+use Rattle.rawtags.specs.Facts.Layout.{LayoutIn}
 use Rattle.rawtags.specs.Facts.Strips.{StripsIn}
-use Rattle.rawtags.specs.Facts.Area.{area_out, AreaIn}
-use Rattle.rawtags.specs.Facts.LevelTags.{level_tags_out, LevelTagsIn}
-use Rattle.rawtags.specs.Facts.Crop.{crop_out, CropIn}
+use Rattle.rawtags.specs.Facts.Area.{AreaIn}
+use Rattle.rawtags.specs.Facts.LevelTags.{LevelTagsIn}
+use Rattle.rawtags.specs.Facts.Crop.{CropIn}
 use Rattle.rawtags.proofs.TagsLaws.{frame_refused, layout_refused, strips_refused, area_refused, level_tags_refused}
 use Rattle.rawtags.proofs.TagsLaws.{crop_refused, list_tag_refused, tags_are}
 use Rattle.rawtags.proofs.tags_of.Goals as goal
 
 pub returns-in-Refused : goal.returns-in-Refused
 returns-in-Refused c =
-    let e = ap dimensions_out (sym c.in-Refused.is) ∙ c.frame_of.ensures.0 in
+    let e = ap out (sym c.in-Refused.is) ∙ c.frame_of.ensures.0 in
     (frame_refused _ _ _ _ _ e, tt)
 
 pub layout_of-requires : goal.layout_of-requires
@@ -25,8 +26,8 @@ layout_of-requires c =
 
 pub returns-in-Refused-layout_of : goal.returns-in-Refused-layout_of
 returns-in-Refused-layout_of c =
-    let frame = ap dimensions_out (sym c.in-Is.is) ∙ c.frame_of.ensures.0 in
-    let e = ap layout_out (sym c.in-Refused-layout_of.is) ∙ c.layout_of.ensures.0 in
+    let frame = ap out (sym c.in-Is.is) ∙ c.frame_of.ensures.0 in
+    let e = ap out (sym c.in-Refused-layout_of.is) ∙ c.layout_of.ensures.0 in
     (layout_refused _ _ _ _ frame _ _ e, tt)
 
 pub strips_of-requires : goal.strips_of-requires
@@ -38,9 +39,9 @@ strips_of-requires c =
 
 pub returns-in-Refused-strips_of : goal.returns-in-Refused-strips_of
 returns-in-Refused-strips_of c =
-    let frame = ap dimensions_out (sym c.in-Is.is) ∙ c.frame_of.ensures.0 in
-    let layout = ap layout_out (sym c.in-Is-layout_of.is) ∙ c.layout_of.ensures.0 in
-    let e = ap values_out (sym c.in-Refused-strips_of.is) ∙ c.strips_of.ensures.result_value in
+    let frame = ap out (sym c.in-Is.is) ∙ c.frame_of.ensures.0 in
+    let layout = ap out (sym c.in-Is-layout_of.is) ∙ c.layout_of.ensures.0 in
+    let e = ap out (sym c.in-Refused-strips_of.is) ∙ c.strips_of.ensures.result_value in
     (strips_refused _ _ _ _ frame _ layout _ _ e, tt)
 
 pub area_of-requires : goal.area_of-requires
@@ -49,10 +50,10 @@ area_of-requires c =
 
 pub returns-in-Refused-area_of : goal.returns-in-Refused-area_of
 returns-in-Refused-area_of c =
-    let frame = ap dimensions_out (sym c.in-Is.is) ∙ c.frame_of.ensures.0 in
-    let layout = ap layout_out (sym c.in-Is-layout_of.is) ∙ c.layout_of.ensures.0 in
-    let strips = ap values_out (sym c.in-Is-strips_of.is) ∙ c.strips_of.ensures.result_value in
-    let e = ap area_out (sym c.in-Refused-area_of.is) ∙ c.area_of.ensures.0 in
+    let frame = ap out (sym c.in-Is.is) ∙ c.frame_of.ensures.0 in
+    let layout = ap out (sym c.in-Is-layout_of.is) ∙ c.layout_of.ensures.0 in
+    let strips = ap out (sym c.in-Is-strips_of.is) ∙ c.strips_of.ensures.result_value in
+    let e = ap out (sym c.in-Refused-area_of.is) ∙ c.area_of.ensures.0 in
     (area_refused _ _ _ _ frame _ layout _ strips _ _ e, tt)
 
 pub overflow_sub-rows : goal.overflow_sub-rows
@@ -69,11 +70,11 @@ level_tags_of-requires c =
 
 pub returns-in-Refused-level_tags_of : goal.returns-in-Refused-level_tags_of
 returns-in-Refused-level_tags_of c =
-    let frame = ap dimensions_out (sym c.in-Is.is) ∙ c.frame_of.ensures.0 in
-    let layout = ap layout_out (sym c.in-Is-layout_of.is) ∙ c.layout_of.ensures.0 in
-    let strips = ap values_out (sym c.in-Is-strips_of.is) ∙ c.strips_of.ensures.result_value in
-    let area = ap area_out (sym c.in-Is-area_of.is) ∙ c.area_of.ensures.0 in
-    let e = ap level_tags_out (sym c.in-Refused-level_tags_of.is) ∙ c.level_tags_of.ensures.result_value in
+    let frame = ap out (sym c.in-Is.is) ∙ c.frame_of.ensures.0 in
+    let layout = ap out (sym c.in-Is-layout_of.is) ∙ c.layout_of.ensures.0 in
+    let strips = ap out (sym c.in-Is-strips_of.is) ∙ c.strips_of.ensures.result_value in
+    let area = ap out (sym c.in-Is-area_of.is) ∙ c.area_of.ensures.0 in
+    let e = ap out (sym c.in-Refused-level_tags_of.is) ∙ c.level_tags_of.ensures.result_value in
     (level_tags_refused _ _ _ _ frame _ layout _ strips _ area _ _ e, tt)
 
 pub crop_of-requires : goal.crop_of-requires
@@ -81,12 +82,12 @@ crop_of-requires c = c.requires
 
 pub returns-in-Refused-crop_of : goal.returns-in-Refused-crop_of
 returns-in-Refused-crop_of c =
-    let frame = ap dimensions_out (sym c.in-Is.is) ∙ c.frame_of.ensures.0 in
-    let layout = ap layout_out (sym c.in-Is-layout_of.is) ∙ c.layout_of.ensures.0 in
-    let strips = ap values_out (sym c.in-Is-strips_of.is) ∙ c.strips_of.ensures.result_value in
-    let area = ap area_out (sym c.in-Is-area_of.is) ∙ c.area_of.ensures.0 in
-    let levels = ap level_tags_out (sym c.in-Is-level_tags_of.is) ∙ c.level_tags_of.ensures.result_value in
-    let e = ap crop_out (sym c.in-Refused-crop_of.is) ∙ c.crop_of.ensures.0 in
+    let frame = ap out (sym c.in-Is.is) ∙ c.frame_of.ensures.0 in
+    let layout = ap out (sym c.in-Is-layout_of.is) ∙ c.layout_of.ensures.0 in
+    let strips = ap out (sym c.in-Is-strips_of.is) ∙ c.strips_of.ensures.result_value in
+    let area = ap out (sym c.in-Is-area_of.is) ∙ c.area_of.ensures.0 in
+    let levels = ap out (sym c.in-Is-level_tags_of.is) ∙ c.level_tags_of.ensures.result_value in
+    let e = ap out (sym c.in-Refused-crop_of.is) ∙ c.crop_of.ensures.0 in
     (crop_refused _ _ _ _ frame _ layout _ strips _ area _ levels _ _ e, tt)
 
 pub list_of-requires : goal.list_of-requires
@@ -94,13 +95,13 @@ list_of-requires c = c.requires
 
 pub returns-in-Refused-list_of : goal.returns-in-Refused-list_of
 returns-in-Refused-list_of c =
-    let frame = ap dimensions_out (sym c.in-Is.is) ∙ c.frame_of.ensures.0 in
-    let layout = ap layout_out (sym c.in-Is-layout_of.is) ∙ c.layout_of.ensures.0 in
-    let strips = ap values_out (sym c.in-Is-strips_of.is) ∙ c.strips_of.ensures.result_value in
-    let area = ap area_out (sym c.in-Is-area_of.is) ∙ c.area_of.ensures.0 in
-    let levels = ap level_tags_out (sym c.in-Is-level_tags_of.is) ∙ c.level_tags_of.ensures.result_value in
-    let crop = ap crop_out (sym c.in-Is-crop_of.is) ∙ c.crop_of.ensures.0 in
-    let e = ap values_out (sym c.in-Refused-list_of.is) ∙ c.list_of.ensures.0 in
+    let frame = ap out (sym c.in-Is.is) ∙ c.frame_of.ensures.0 in
+    let layout = ap out (sym c.in-Is-layout_of.is) ∙ c.layout_of.ensures.0 in
+    let strips = ap out (sym c.in-Is-strips_of.is) ∙ c.strips_of.ensures.result_value in
+    let area = ap out (sym c.in-Is-area_of.is) ∙ c.area_of.ensures.0 in
+    let levels = ap out (sym c.in-Is-level_tags_of.is) ∙ c.level_tags_of.ensures.result_value in
+    let crop = ap out (sym c.in-Is-crop_of.is) ∙ c.crop_of.ensures.0 in
+    let e = ap out (sym c.in-Refused-list_of.is) ∙ c.list_of.ensures.0 in
     (list_tag_refused _ _ _ _ frame _ layout _ strips _ area _ levels _ crop _ _ e, tt)
 
 pub returns : goal.returns
@@ -111,13 +112,13 @@ returns c =
     let l = c.in-Is-layout_of.v in
     let rows = active_rows c.in-Is-area_of.v in
     let columns = active_columns c.in-Is-area_of.v in
-    let frame = ap dimensions_out (sym c.in-Is.is) ∙ c.frame_of.ensures.0 in
-    let layout = ap layout_out (sym c.in-Is-layout_of.is) ∙ c.layout_of.ensures.0 in
-    let strips = ap values_out (sym c.in-Is-strips_of.is) ∙ c.strips_of.ensures.result_value in
-    let area = ap area_out (sym c.in-Is-area_of.is) ∙ c.area_of.ensures.0 in
-    let levels = ap level_tags_out (sym c.in-Is-level_tags_of.is) ∙ c.level_tags_of.ensures.result_value in
-    let crop = ap crop_out (sym c.in-Is-crop_of.is) ∙ c.crop_of.ensures.0 in
-    let e = ap values_out (sym c.in-Is-list_of.is) ∙ c.list_of.ensures.0 in (
+    let frame = ap out (sym c.in-Is.is) ∙ c.frame_of.ensures.0 in
+    let layout = ap out (sym c.in-Is-layout_of.is) ∙ c.layout_of.ensures.0 in
+    let strips = ap out (sym c.in-Is-strips_of.is) ∙ c.strips_of.ensures.result_value in
+    let area = ap out (sym c.in-Is-area_of.is) ∙ c.area_of.ensures.0 in
+    let levels = ap out (sym c.in-Is-level_tags_of.is) ∙ c.level_tags_of.ensures.result_value in
+    let crop = ap out (sym c.in-Is-crop_of.is) ∙ c.crop_of.ensures.0 in
+    let e = ap out (sym c.in-Is-list_of.is) ∙ c.list_of.ensures.0 in (
       tags_are _ _ _ _ frame _ layout _ strips _ area _ levels _ crop _ e,
       record {
         frame = subst DimensionsIn c.in-Is.is c.frame_of.ensures.1;

@@ -1,14 +1,9 @@
--- What holds of an accepted value, and each enum of the code as `Out`.
-use Rattle.std.specs.Prelude.{◌≤◌, ◌<◌}
-use Rattle.directory.specs.Out.{Out, Out.refused, Out.is}
+-- What holds of an accepted value.
+use Rattle.std.specs.Prelude.{◌≤◌, ◌<◌, Result, Ok, Err}
+use Rattle.directory.specs.Out.{Out}
 use Rattle.rawtags.specs.declared.frame.Dimensions.{Dimensions}
 use Rattle.rawtags.specs.declared.area.Area.{Area}
-use Rattle.rawtags.specs.declared.area.AreaTest.{AreaTest}
-use Rattle.rawtags.specs.declared.area.AreaTest.TheVariants as tested
-
-abbrev pub area_out : AreaTest → Out Area
-area_out (tested.Refused n d) = refused n d
-area_out (tested.Is a) = is a
+use Rattle.directory.specs.declared.refusal.Refusal.{Refusal}
 
 pub record AreaWithin (f : Dimensions) (a : Area) : Type 0 where
   pub rows : a.top < a.bottom
@@ -16,6 +11,6 @@ pub record AreaWithin (f : Dimensions) (a : Area) : Type 0 where
   pub bottom : a.bottom ≤ f.length
   pub right : a.right ≤ f.width
 
-abbrev pub AreaIn : Dimensions → AreaTest → Type 0
-AreaIn f (tested.Refused n d) = Unit {0}
-AreaIn f (tested.Is a) = AreaWithin f a
+abbrev pub AreaIn : Dimensions → Result Area Refusal → Type 0
+AreaIn f (Err e) = Unit {0}
+AreaIn f (Ok a) = AreaWithin f a

@@ -1,13 +1,8 @@
--- What holds of an accepted value, and each enum of the code as `Out`.
-use Rattle.std.specs.Prelude.{ℕ, ◌+◌, ◌≤◌}
-use Rattle.directory.specs.Out.{Out, Out.refused, Out.is}
+-- What holds of an accepted value.
+use Rattle.std.specs.Prelude.{ℕ, ◌+◌, ◌≤◌, Result, Ok, Err}
+use Rattle.directory.specs.Out.{Out}
 use Rattle.rawtags.specs.declared.crop.Crop.{Crop}
-use Rattle.rawtags.specs.declared.crop.CropTest.{CropTest}
-use Rattle.rawtags.specs.declared.crop.CropTest.TheVariants as cropped
-
-abbrev pub crop_out : CropTest → Out Crop
-crop_out (cropped.Refused n d) = refused n d
-crop_out (cropped.Is c) = is c
+use Rattle.directory.specs.declared.refusal.Refusal.{Refusal}
 
 pub record CropWithin (rows columns : ℕ) (c : Crop) : Type 0 where
   pub some_rows : 1 ≤ c.rows
@@ -15,6 +10,6 @@ pub record CropWithin (rows columns : ℕ) (c : Crop) : Type 0 where
   pub some_columns : 1 ≤ c.columns
   pub right : c.left + c.columns ≤ columns
 
-abbrev pub CropIn : ℕ → ℕ → CropTest → Type 0
-CropIn rows columns (cropped.Refused n d) = Unit {0}
-CropIn rows columns (cropped.Is c) = CropWithin rows columns c
+abbrev pub CropIn : ℕ → ℕ → Result Crop Refusal → Type 0
+CropIn rows columns (Err e) = Unit {0}
+CropIn rows columns (Ok c) = CropWithin rows columns c

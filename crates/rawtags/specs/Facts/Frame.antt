@@ -1,20 +1,13 @@
--- What holds of an accepted value, and each enum of the code as `Out`.
-use Rattle.std.specs.Prelude.{◌≡◌, ◌⊎◌, ◌≤◌}
-use Rattle.directory.specs.Out.{Out, Out.refused, Out.is}
-use Rattle.directory.specs.declared.Number.{Number}
-use Rattle.directory.specs.declared.Number.TheVariants as number
+-- What holds of an accepted value.
+use Rattle.std.specs.Prelude.{◌≡◌, ◌⊎◌, ◌≤◌, Result, Ok, Err}
+use Rattle.directory.specs.Out.{Out}
 use Rattle.rawtags.specs.declared.frame.Dimensions.{Dimensions}
-use Rattle.rawtags.specs.declared.frame.DimensionsTest.{DimensionsTest}
-use Rattle.rawtags.specs.declared.frame.DimensionsTest.TheVariants as framed
-
-abbrev pub dimensions_out : DimensionsTest → Out Dimensions
-dimensions_out (framed.Refused n d) = refused n d
-dimensions_out (framed.Is v) = is v
+use Rattle.directory.specs.declared.refusal.Refusal.{Refusal}
 
 -- one plane or three
-abbrev pub PlanesIn : Number → Type 0
-PlanesIn (number.Refused n d) = Unit {0}
-PlanesIn (number.Is v) = (v ≡ 1) ⊎ (v ≡ 3)
+abbrev pub PlanesIn : Result ℕ Refusal → Type 0
+PlanesIn (Err e) = Unit {0}
+PlanesIn (Ok v) = (v ≡ 1) ⊎ (v ≡ 3)
 
 pub record DimensionsWithin (v : Dimensions) : Type 0 where
   pub some_columns : 1 ≤ v.width
@@ -25,6 +18,6 @@ pub record DimensionsWithin (v : Dimensions) : Type 0 where
   pub samples : v.samples ≤ 3
   pub planes : (v.samples ≡ 1) ⊎ (v.samples ≡ 3)
 
-abbrev pub DimensionsIn : DimensionsTest → Type 0
-DimensionsIn (framed.Refused n d) = Unit {0}
-DimensionsIn (framed.Is v) = DimensionsWithin v
+abbrev pub DimensionsIn : Result Dimensions Refusal → Type 0
+DimensionsIn (Err e) = Unit {0}
+DimensionsIn (Ok v) = DimensionsWithin v

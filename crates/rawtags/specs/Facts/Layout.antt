@@ -1,13 +1,8 @@
--- What holds of an accepted value, and each enum of the code as `Out`.
-use Rattle.std.specs.Prelude.{◌≤◌}
-use Rattle.directory.specs.Out.{Out, Out.refused, Out.is}
+-- What holds of an accepted value.
+use Rattle.std.specs.Prelude.{◌≤◌, Result, Ok, Err}
+use Rattle.directory.specs.Out.{Out}
 use Rattle.rawtags.specs.declared.layout.Layout.{Layout}
-use Rattle.rawtags.specs.declared.layout.LayoutTest.{LayoutTest}
-use Rattle.rawtags.specs.declared.layout.LayoutTest.TheVariants as laid
-
-abbrev pub layout_out : LayoutTest → Out Layout
-layout_out (laid.Refused n d) = refused n d
-layout_out (laid.Is v) = is v
+use Rattle.directory.specs.declared.refusal.Refusal.{Refusal}
 
 pub record LayoutWithin (v : Layout) : Type 0 where
   pub some_bytes : 1 ≤ v.bytes
@@ -15,6 +10,6 @@ pub record LayoutWithin (v : Layout) : Type 0 where
   pub some_rows : 1 ≤ v.rows
   pub rows : v.rows ≤ 0xFFFF_FFFF_FFFF_FFFF
 
-abbrev pub LayoutIn : LayoutTest → Type 0
-LayoutIn (laid.Refused n d) = Unit {0}
-LayoutIn (laid.Is v) = LayoutWithin v
+abbrev pub LayoutIn : Result Layout Refusal → Type 0
+LayoutIn (Err e) = Unit {0}
+LayoutIn (Ok v) = LayoutWithin v

@@ -1,20 +1,15 @@
--- What holds of an accepted value, and each enum of the code as `Out`.
+-- What holds of an accepted value.
 use Rattle.directory.specs.Names.{black_level_delta_h, black_level_delta_v}
-use Rattle.std.specs.Prelude.{List, ℕ, length}
+use Rattle.std.specs.Prelude.{List, ℕ, length, Result, Ok, Err}
 use Rattle.reading.specs.declared.number.Order.{Order}
-use Rattle.directory.specs.Out.{Out, Out.refused, Out.is}
+use Rattle.directory.specs.Out.{Out}
 use Rattle.directory.specs.Facts.Tag.{PlacedValues}
 use Rattle.rawtags.specs.Facts.Repeat.{RepeatWithin}
 use Rattle.rawtags.specs.Black.{black_rule, delta_rule}
 use Rattle.rawtags.specs.White.{white_rule, table_rule}
 use Rattle.rawtags.specs.Facts.White.{WhitesWithin}
 use Rattle.rawtags.specs.declared.level_tags.LevelTags.{LevelTags}
-use Rattle.rawtags.specs.declared.level_tags.LevelTagsTest.{LevelTagsTest}
-use Rattle.rawtags.specs.declared.level_tags.LevelTagsTest.TheVariants as leveled
-
-abbrev pub level_tags_out : LevelTagsTest → Out LevelTags
-level_tags_out (leveled.Refused n d) = refused n d
-level_tags_out (leveled.Is v) = is v
+use Rattle.directory.specs.declared.refusal.Refusal.{Refusal}
 
 pub record LevelTagsWithin (f : List ℕ) (o : Order) (s rows columns : ℕ) (v : LevelTags) : Type 0 where
   pub table : PlacedValues (length f) table_rule v.table
@@ -24,6 +19,6 @@ pub record LevelTagsWithin (f : List ℕ) (o : Order) (s rows columns : ℕ) (v 
   pub row_deltas : PlacedValues (length f) (delta_rule black_level_delta_v rows) v.row_deltas
   pub white : WhitesWithin f o (white_rule s) v.white
 
-abbrev pub LevelTagsIn : List ℕ → Order → ℕ → ℕ → ℕ → LevelTagsTest → Type 0
-LevelTagsIn f o s rows columns (leveled.Refused n d) = Unit {0}
-LevelTagsIn f o s rows columns (leveled.Is v) = LevelTagsWithin f o s rows columns v
+abbrev pub LevelTagsIn : List ℕ → Order → ℕ → ℕ → ℕ → Result LevelTags Refusal → Type 0
+LevelTagsIn f o s rows columns (Err e) = Unit {0}
+LevelTagsIn f o s rows columns (Ok v) = LevelTagsWithin f o s rows columns v

@@ -1,13 +1,7 @@
--- What holds of an accepted value, and each enum of the code as `Out`.
+-- What holds of an accepted value.
 use Rattle.std.specs.Prelude.{◌<◌}
-use Rattle.directory.specs.Out.{Out, Out.refused, Out.is}
+use Rattle.directory.specs.Out.{Out}
 use Rattle.rawtags.specs.declared.pattern.Pattern.{Pattern}
-use Rattle.rawtags.specs.declared.pattern.PatternTest.{PatternTest}
-use Rattle.rawtags.specs.declared.pattern.PatternTest.TheVariants as patterned
-
-abbrev pub pattern_out : PatternTest → Out Pattern
-pattern_out (patterned.Refused n d) = refused n d
-pattern_out (patterned.Is v) = is v
 
 -- places of a block
 pub record PatternIn (p : Pattern) : Type 0 where

@@ -1,7 +1,7 @@
--- What holds of an accepted value, and each enum of the code as `Out`.
-use Rattle.std.specs.Prelude.{List, ℕ, length}
+-- What holds of an accepted value.
+use Rattle.std.specs.Prelude.{List, ℕ, length, Result, Ok, Err}
 use Rattle.reading.specs.declared.number.Order.{Order}
-use Rattle.directory.specs.Out.{Out, Out.refused, Out.is}
+use Rattle.directory.specs.Out.{Out}
 use Rattle.directory.specs.Facts.Tag.{PlacedValues}
 use Rattle.rawtags.specs.Facts.Frame.{DimensionsWithin}
 use Rattle.rawtags.specs.Facts.Layout.{LayoutWithin}
@@ -11,13 +11,8 @@ use Rattle.rawtags.specs.Facts.LevelTags.{LevelTagsWithin}
 use Rattle.rawtags.specs.Facts.Crop.{CropWithin}
 use Rattle.rawtags.specs.Lists.{list_rule}
 use Rattle.rawtags.specs.declared.Tags.{Tags}
-use Rattle.rawtags.specs.declared.TagsTest.{TagsTest}
-use Rattle.rawtags.specs.declared.TagsTest.TheVariants as tagged
 use Rattle.rawtags.specs.Raw.{active_rows, active_columns}
-
-abbrev pub tags_out : TagsTest → Out Tags
-tags_out (tagged.Refused n d) = refused n d
-tags_out (tagged.Is v) = is v
+use Rattle.directory.specs.declared.refusal.Refusal.{Refusal}
 
 pub record TagsWithin (f : List ℕ) (o : Order) (r : Tags) : Type 0 where
   pub frame : DimensionsWithin r.frame
@@ -28,6 +23,6 @@ pub record TagsWithin (f : List ℕ) (o : Order) (r : Tags) : Type 0 where
   pub crop : CropWithin (active_rows r.area) (active_columns r.area) r.crop
   pub list : PlacedValues (length f) list_rule r.list
 
-abbrev pub TagsIn : List ℕ → Order → TagsTest → Type 0
-TagsIn f o (tagged.Refused n d) = Unit {0}
-TagsIn f o (tagged.Is r) = TagsWithin f o r
+abbrev pub TagsIn : List ℕ → Order → Result Tags Refusal → Type 0
+TagsIn f o (Err e) = Unit {0}
+TagsIn f o (Ok r) = TagsWithin f o r

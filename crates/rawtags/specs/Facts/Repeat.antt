@@ -1,13 +1,8 @@
--- What holds of an accepted value, and each enum of the code as `Out`.
-use Rattle.std.specs.Prelude.{◌≤◌}
-use Rattle.directory.specs.Out.{Out, Out.refused, Out.is}
+-- What holds of an accepted value.
+use Rattle.std.specs.Prelude.{◌≤◌, Result, Ok, Err}
+use Rattle.directory.specs.Out.{Out}
 use Rattle.rawtags.specs.declared.repeat.Repeat.{Repeat}
-use Rattle.rawtags.specs.declared.repeat.RepeatTest.{RepeatTest}
-use Rattle.rawtags.specs.declared.repeat.RepeatTest.TheVariants as repeated
-
-abbrev pub repeat_out : RepeatTest → Out Repeat
-repeat_out (repeated.Refused n d) = refused n d
-repeat_out (repeated.Is v) = is v
+use Rattle.directory.specs.declared.refusal.Refusal.{Refusal}
 
 pub record RepeatWithin (v : Repeat) : Type 0 where
   pub some_rows : 1 ≤ v.rows
@@ -15,6 +10,6 @@ pub record RepeatWithin (v : Repeat) : Type 0 where
   pub some_columns : 1 ≤ v.columns
   pub columns : v.columns ≤ 8
 
-abbrev pub RepeatIn : RepeatTest → Type 0
-RepeatIn (repeated.Refused n d) = Unit {0}
-RepeatIn (repeated.Is v) = RepeatWithin v
+abbrev pub RepeatIn : Result Repeat Refusal → Type 0
+RepeatIn (Err e) = Unit {0}
+RepeatIn (Ok v) = RepeatWithin v

@@ -1,15 +1,14 @@
 -- What the functions tell one another.
-use Rattle.std.specs.Prelude.{List, ℕ, ◌+◌, ◌*◌, ◌-◌, ◌≤◌, ◌<◌, min, length}
+use Rattle.std.specs.Prelude.{List, ℕ, ◌+◌, ◌*◌, ◌-◌, ◌≤◌, ◌<◌, min, length, Result, Ok, Err}
 use Rattle.reading.specs.Bytes.{part}
 use Rattle.reading.specs.Number.{number_of}
 use Rattle.reading.specs.declared.number.Order.{Order}
 use Rattle.directory.specs.Facts.Tag.{PlacedValues}
 use Rattle.directory.specs.declared.tag.Values.{Values}
-use Rattle.directory.specs.declared.tag.ValuesTest.{ValuesTest}
-use Rattle.directory.specs.declared.tag.ValuesTest.TheVariants as given
 use Rattle.rawtags.specs.declared.frame.Dimensions.{Dimensions}
 use Rattle.rawtags.specs.declared.layout.Layout.{Layout}
 use Rattle.rawtags.specs.Strips.{strip_count, row_bytes, offsets_rule}
+use Rattle.directory.specs.declared.refusal.Refusal.{Refusal}
 
 -- the offsets, and that each strip lies in the file
 pub record StripsWithin (f : List ℕ) (o : Order) (fr : Dimensions) (l : Layout) (v : Values) : Type 0 where
@@ -18,6 +17,6 @@ pub record StripsWithin (f : List ℕ) (o : Order) (fr : Dimensions) (l : Layout
       (i : ℕ) → i < strip_count fr l
       → number_of o (part f (v.place + v.size * i) v.size) + min l.rows (fr.length - l.rows * i) * row_bytes fr l ≤ length f
 
-abbrev pub StripsIn : List ℕ → Order → Dimensions → Layout → ValuesTest → Type 0
-StripsIn f o fr l (given.Refused n d) = Unit {0}
-StripsIn f o fr l (given.Is v) = StripsWithin f o fr l v
+abbrev pub StripsIn : List ℕ → Order → Dimensions → Layout → Result Values Refusal → Type 0
+StripsIn f o fr l (Err e) = Unit {0}
+StripsIn f o fr l (Ok v) = StripsWithin f o fr l v

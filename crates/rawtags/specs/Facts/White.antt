@@ -1,18 +1,17 @@
 -- What the functions tell one another.
-use Rattle.std.specs.Prelude.{List, ℕ, ◌+◌, ◌*◌, ◌≤◌, ◌<◌, length}
+use Rattle.std.specs.Prelude.{List, ℕ, ◌+◌, ◌*◌, ◌≤◌, ◌<◌, length, Result, Ok, Err}
 use Rattle.reading.specs.Bytes.{part}
 use Rattle.reading.specs.Number.{number_of}
 use Rattle.reading.specs.declared.number.Order.{Order}
 use Rattle.directory.specs.Facts.Tag.{PlacedValues}
 use Rattle.directory.specs.declared.tag.Rule.{Rule}
 use Rattle.directory.specs.declared.tag.Values.{Values}
-use Rattle.directory.specs.declared.tag.ValuesTest.{ValuesTest}
-use Rattle.directory.specs.declared.tag.ValuesTest.TheVariants as given
+use Rattle.directory.specs.declared.refusal.Refusal.{Refusal}
 
 pub record WhitesWithin (f : List ℕ) (o : Order) (r : Rule) (v : Values) : Type 0 where
   pub placed : PlacedValues (length f) r v
   pub most : (i : ℕ) → i < v.count → number_of o (part f (v.place + v.size * i) v.size) ≤ 65535
 
-abbrev pub WhitesIn : List ℕ → Order → Rule → ValuesTest → Type 0
-WhitesIn f o r (given.Refused n d) = Unit {0}
-WhitesIn f o r (given.Is v) = WhitesWithin f o r v
+abbrev pub WhitesIn : List ℕ → Order → Rule → Result Values Refusal → Type 0
+WhitesIn f o r (Err e) = Unit {0}
+WhitesIn f o r (Ok v) = WhitesWithin f o r v

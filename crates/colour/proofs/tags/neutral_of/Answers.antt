@@ -1,3 +1,4 @@
+use Rattle.directory.specs.Facts.Out.{out}
 use Rattle.directory.specs.Names.{as_shot_neutral}
 use mathlib.Core.Path.{sym, ap, ◌∙◌}
 use mathlib.Core.Bool.{true}
@@ -5,7 +6,6 @@ use Rattle.directory.proofs.Outs.{bind_refused, bind_is}
 use Rattle.reading.specs.Fraction.{width_of}
 use Rattle.reading.specs.Reading.{run}
 use Rattle.reading.specs.declared.fraction.FractionKind.{FractionKind}
-use Rattle.directory.specs.Facts.Tag.{values_out}
 use Rattle.colour.specs.Value.{triple_reading}
 use Rattle.colour.specs.Tags.{neutral_reading}
 use Rattle.colour.proofs.TagFacts.{neutral_room}
@@ -15,7 +15,7 @@ pub returns-in-Refused : goal.returns-in-Refused
 unfolding neutral_reading
 returns-in-Refused c =
     let look_up = c.look_up in
-    (bind_refused _ _ _ _ _ (ap values_out (sym c.in-Refused.is) ∙ look_up.ensures.0), tt)
+    (bind_refused _ _ _ _ _ (ap out (sym c.in-Refused.is) ∙ look_up.ensures.0), tt)
 
 pub triple_at-requires : goal.triple_at-requires
 triple_at-requires c =
@@ -34,6 +34,6 @@ returns c =
     let a = c.args in
     let k = ap (λ (k : FractionKind). run a.file.now (triple_reading a.ifd.order k v.size as_shot_neutral true v.place))
     c.neutral_kind-kind.ensures in (
-      c.triple_at.ensures.0 ∙ k ∙ sym (bind_is _ _ _ _ (ap values_out (sym v-call.is) ∙ look_up.ensures.0)),
+      c.triple_at.ensures.0 ∙ k ∙ sym (bind_is _ _ _ _ (ap out (sym v-call.is) ∙ look_up.ensures.0)),
       c.triple_at.ensures.1,
     )

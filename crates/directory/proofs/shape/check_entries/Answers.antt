@@ -4,7 +4,7 @@ use native.Mathlib.Omega.{arith}
 use lib.ListN.{length}
 use Rattle.reading.specs.Reading.{run}
 use Rattle.directory.specs.Out.{Out.is}
-use Rattle.directory.specs.Facts.Out.{number_out}
+use Rattle.directory.specs.Facts.Out.{out}
 use Rattle.directory.specs.Widths.{entry_width}
 use Rattle.directory.specs.Shape.{entry_reading}
 use Rattle.directory.specs.Facts.Shape.{TagIn}
@@ -38,13 +38,13 @@ pub returns-in-Refused : goal.returns-in-Refused
 returns-in-Refused c =
     let placed-tag = c.placed_tag in
     let a = c.args in
-    let e = ap number_out (sym c.in-Refused.is) ∙ placed-tag.ensures.result_value in
+    let e = ap out (sym c.in-Refused.is) ∙ placed-tag.ensures.result_value in
     shape_refused a.widths a.file.now _ _ _ _ c.loop-left.left (c.loop-left.left - 1) (omega arith) _ _ e ∙ sym c.loop-left.invariant.0
 
 -- the tag of the entry at p
 tagged : (c : In-Is) → let a = c.args in
     is c.in-Is.t ≡ run a.file.now (entry_reading a.widths (length a.file.now) a.order c.loop-left.p)
-tagged c = ap number_out (sym c.in-Is.is) ∙ c.placed_tag.ensures.result_value
+tagged c = ap out (sym c.in-Is.is) ∙ c.placed_tag.ensures.result_value
 
 pub returns-then-tag-low : goal.returns-then-tag-low
 returns-then-tag-low c =

@@ -3,7 +3,7 @@ use Prim.Native.Nat.{◌+◌, ◌*◌, ◌≤◌, ◌<◌}
 use native.Mathlib.Omega.{arith}
 use lib.ListN.{length}
 use borrow.Author.Tests.{leb-true, leb-false}
-use Rattle.directory.specs.Facts.Out.{number_out}
+use Rattle.directory.specs.Facts.Out.{out}
 use Rattle.directory.specs.Widths.{entry_width}
 use Rattle.directory.proofs.Entries.{wide_most, entry_most}
 use Rattle.directory.proofs.Shapes.{ifd_outside, ifd_empty, ifd_cut, ifd_refused, ifd_is}
@@ -61,7 +61,7 @@ returns-in-Refused c =
     let i = (goal.at.returns-in-Refused c).Then-many_inside in
     let v = (goal.at.returns-in-Refused c).After-value-count in
     let a = v.args in
-    let e = ap number_out (sym c.in-Refused.is) ∙ c.check_entries.ensures in (
+    let e = ap out (sym c.in-Refused.is) ∙ c.check_entries.ensures in (
       ifd_refused a.widths a.file.now _ _ _ (counted at-then-inside) _ v.value-count.ensures i.if-count-gt0.true (room i) _ _
           e,
       tt,
@@ -71,7 +71,7 @@ pub returns-in-Is : goal.returns-in-Is
 returns-in-Is c =
     let i = (goal.at.returns-in-Is c).Then-many_inside in
     let v = (goal.at.returns-in-Is c).After-value-count in
-    let e = ap number_out (sym c.in-Is.is) ∙ c.check_entries.ensures in (
+    let e = ap out (sym c.in-Is.is) ∙ c.check_entries.ensures in (
       ifd_is v.args.widths v.args.file.now _ _ _ (counted (goal.at.returns-in-Is c).Then-inside) _ v.value-count.ensures i.if-count-gt0.true
           (room (goal.at.returns-in-Is c).Then-many_inside) _ e,
       record { laid = v.requires.1; inside = omega (arith, room (goal.at.returns-in-Is c).Then-many_inside); next = _; shape = e },

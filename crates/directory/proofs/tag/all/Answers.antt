@@ -2,9 +2,9 @@ use mathlib.Core.Path.{◌≡◌, sym, ap, ◌∙◌}
 use lib.ListN.{length}
 use Rattle.reading.specs.Reading.{run}
 use Rattle.directory.specs.Out.{Out.is}
-use Rattle.directory.specs.Facts.Out.{number_out}
+use Rattle.directory.specs.Facts.Out.{out}
 use Rattle.directory.specs.Tag.{values_reading, all_reading}
-use Rattle.directory.specs.Facts.Tag.{values_out, PlacedValues}
+use Rattle.directory.specs.Facts.Tag.{PlacedValues}
 use Rattle.directory.proofs.Outs.{bind_refused, bind_is}
 use Rattle.directory.proofs.Tags.{looked_up, wide}
 use Rattle.reading.proofs.Reading.{run_answer}
@@ -15,7 +15,7 @@ pub returns-in-Refused : goal.returns-in-Refused
 unfolding all_reading
 returns-in-Refused c =
     let look_up = c.look_up in
-    (bind_refused _ _ _ _ _ (ap values_out (sym c.in-Refused.is) ∙ look_up.ensures.0), tt)
+    (bind_refused _ _ _ _ _ (ap out (sym c.in-Refused.is) ∙ look_up.ensures.0), tt)
 
 -- the tag's values, and what holds of them
 given : (c : In-Is) → let v = c.in-Is.v in let a = c.args in
@@ -30,12 +30,12 @@ pub returns-in-Refused-each : goal.returns-in-Refused-each
 unfolding all_reading
 returns-in-Refused-each c =
     let each = c.each in
-    let e = ap number_out (sym c.in-Refused-each.is) ∙ each.ensures in
+    let e = ap out (sym c.in-Refused-each.is) ∙ each.ensures in
     (bind_refused _ _ _ _ _ e ∙ sym (bind_is _ _ _ _ (given (goal.at.returns-in-Refused-each c).In-Is).0), tt)
 
 pub returns-in-Is-each : goal.returns-in-Is-each
 unfolding all_reading
 returns-in-Is-each c =
-    let e = ap number_out (sym c.in-Is-each.is) ∙ c.each.ensures in
+    let e = ap out (sym c.in-Is-each.is) ∙ c.each.ensures in
     let g = (goal.at.returns-in-Is-each c).In-Is in
     (sym (bind_is _ _ _ _ (given (goal.at.returns-in-Is-each c).In-Is).0 ∙ bind_is _ _ _ _ e ∙ run_answer _ _), (given (goal.at.returns-in-Is-each c).In-Is).1)

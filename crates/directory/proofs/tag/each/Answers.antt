@@ -2,7 +2,7 @@ use mathlib.Core.Path.{◌≡◌, refl, sym, ap, ◌∙◌}
 use Prim.Native.Nat.{◌-◌}
 use native.Mathlib.Omega.{arith}
 use lib.ListN.{length}
-use Rattle.directory.specs.Facts.Out.{number_out}
+use Rattle.directory.specs.Facts.Out.{out}
 use Rattle.directory.proofs.Entries.{OneMore, one_more}
 use Rattle.directory.proofs.Tags.{each_none, each_bad, each_next}
 use Rattle.directory.proofs.tag.each.Goals as goal
@@ -25,7 +25,7 @@ pub returns-in-Refused : goal.returns-in-Refused
 returns-in-Refused c =
     let judged = c.judged in
     let a = c.args in
-    let e = ap number_out (sym c.in-Refused.is) ∙ judged.ensures.0 in
+    let e = ap out (sym c.in-Refused.is) ∙ judged.ensures.0 in
     each_bad a.file.now _ _ _ _ _ c.loop-left.left (c.loop-left.left - 1) _ (omega arith) c.value.ensures _ _ e ∙ sym c.loop-left.invariant.0
 
 pub overflow_add-p : goal.overflow_add-p
@@ -36,7 +36,7 @@ pub loop-left-preserved : goal.loop-left-preserved
 loop-left-preserved c =
     let v = (goal.at.loop-left-preserved c).After-value in
     let a = v.args in
-    let e = ap number_out (sym c.in-Is.is) ∙ c.judged.ensures.0 in (
+    let e = ap out (sym c.in-Is.is) ∙ c.judged.ensures.0 in (
       v.loop-left.invariant.0 ∙ each_next a.file.now _ _ _ _ _ v.loop-left.left (v.loop-left.left - 1) _ (omega arith) v.value.ensures _ e,
       (spaced (goal.at.loop-left-preserved c).In-loop-left).1,
       λ h. v.loop-left.invariant.2 (omega arith),

@@ -2,10 +2,11 @@ use mathlib.Core.Path.{◌≡◌, sym, ap, ◌∙◌}
 use Prim.Native.Nat.{◌<◌}
 use native.Mathlib.Omega.{arith}
 use lib.ListN.{length}
+use Rattle.directory.specs.Facts.Out.{out}
 use Rattle.reading.specs.Reading.{run}
 use Rattle.directory.specs.Out.{Out.is}
 use Rattle.directory.specs.Tag.{values_reading, one_reading}
-use Rattle.directory.specs.Facts.Tag.{values_out, PlacedValues}
+use Rattle.directory.specs.Facts.Tag.{PlacedValues}
 use Rattle.directory.proofs.Outs.{bind_refused, bind_is}
 use Rattle.directory.proofs.Entries.{one_more}
 use Rattle.directory.proofs.Tags.{looked_up, wide, first_default, first_is}
@@ -16,7 +17,7 @@ pub returns-in-Refused : goal.returns-in-Refused
 unfolding one_reading
 returns-in-Refused c =
     let look_up = c.look_up in
-    (bind_refused _ _ _ _ _ (ap values_out (sym c.in-Refused.is) ∙ look_up.ensures.0), tt)
+    (bind_refused _ _ _ _ _ (ap out (sym c.in-Refused.is) ∙ look_up.ensures.0), tt)
 
 -- the tag's values, and what holds of them
 given : (c : In-Is) → let v = c.in-Is.v in let a = c.args in

@@ -1,8 +1,8 @@
 use native.Mathlib.Omega.{arith}
 use mathlib.Core.Path.{◌≡◌, sym, ap, ◌∙◌}
 use Prim.Native.Nat.{◌+◌, ◌-◌}
+use Rattle.directory.specs.Facts.Out.{out}
 use Rattle.reading.proofs.Reading.{run_answer}
-use Rattle.directory.specs.Facts.Shape.{ifd_out}
 use Rattle.directory.specs.Tree.{raw_one, parent, raw, left}
 use Rattle.directory.specs.Facts.Tree.{look_out, walk_out}
 use Rattle.directory.proofs.Trees.{visit_deep, visit_late, visit_refused, visit_unseen, visit_seen, children_none, child_refused}
@@ -18,14 +18,14 @@ visit-returns-then-visits-eq0-clause-result_value t c =
 
 pub visit-returns-in-Refused-clause-result_value : goal.visit-returns-in-Refused-clause-result_value
 visit-returns-in-Refused-clause-result_value t c =
-    let e = ap ifd_out (sym c.in-Refused.is) ∙ c.ifd_at.ensures.0 in
+    let e = ap out (sym c.in-Refused.is) ∙ c.ifd_at.ensures.0 in
     visit_refused _ _ _ _ _ _ _ (c.args.depth - 1) (omega arith) (c.args.visits - 1) (omega arith) _ _ e
 
 -- the directory that was opened, and then what it is
 pub visit-returns-in-Raw-clause-result_value : goal.visit-returns-in-Raw-clause-result_value
 visit-returns-in-Raw-clause-result_value t c =
     let a = c.args in
-    let i = ap ifd_out (sym c.in-Is.is) ∙ c.ifd_at.ensures.0 in
+    let i = ap out (sym c.in-Is.is) ∙ c.ifd_at.ensures.0 in
     let e = ap look_out (sym c.in-Raw.is) ∙ c.inspect.ensures.0 in
     let d : a.depth ≡ a.depth - 1 + 1 = omega arith in
     let r : a.visits ≡ a.visits - 1 + 1 = omega arith in
@@ -33,14 +33,14 @@ visit-returns-in-Raw-clause-result_value t c =
 
 pub visit-returns-in-Refused-inspect-clause-result_value : goal.visit-returns-in-Refused-inspect-clause-result_value
 visit-returns-in-Refused-inspect-clause-result_value t c =
-    let i = ap ifd_out (sym c.in-Is.is) ∙ c.ifd_at.ensures.0 in
+    let i = ap out (sym c.in-Is.is) ∙ c.ifd_at.ensures.0 in
     let e = ap look_out (sym c.in-Refused-inspect.is) ∙ c.inspect.ensures.0 in
     visit_unseen _ _ _ _ _ _ _ (c.args.depth - 1) (omega arith) (c.args.visits - 1) (omega arith) _ i _ _ e
 
 pub visit-returns-in-Into-clause-result_value : goal.visit-returns-in-Into-clause-result_value
 visit-returns-in-Into-clause-result_value t c =
     let a = c.args in
-    let i = ap ifd_out (sym c.in-Is.is) ∙ c.ifd_at.ensures.0 in
+    let i = ap out (sym c.in-Is.is) ∙ c.ifd_at.ensures.0 in
     let e = ap look_out (sym c.in-Into.is) ∙ c.inspect.ensures.0 in
     let d : a.depth ≡ a.depth - 1 + 1 = omega (arith, c.if-depth-eq0.false) in
     let r : a.visits ≡ a.visits - 1 + 1 = omega (arith, c.if-visits-eq0.false) in

@@ -1,9 +1,10 @@
 use mathlib.Core.Path.{◌≡◌, sym, ap, subst, ◌∙◌}
 use lib.ListN.{length}
+use Rattle.directory.specs.Facts.Out.{out}
 use Rattle.reading.specs.Reading.{run}
 use Rattle.directory.specs.Out.{Out.is}
 use Rattle.directory.specs.Tag.{values_reading}
-use Rattle.directory.specs.Facts.Tag.{values_out, ValuesIn}
+use Rattle.directory.specs.Facts.Tag.{ValuesIn}
 use Rattle.directory.specs.Tree.{version_rule, backward_rule}
 use Rattle.directory.proofs.Trees.{version_refused, backward_refused, version_above, version_is}
 use Rattle.directory.proofs.tree.check_version.Goals as goal
@@ -12,16 +13,16 @@ use Rattle.directory.proofs.tree.check_version.Goals.{After-look_up-2, In-Is, In
 pub returns-in-Refused : goal.returns-in-Refused
 returns-in-Refused c =
     let look_up = c.look_up in
-    (version_refused _ _ _ _ (ap values_out (sym c.in-Refused.is) ∙ look_up.ensures.0))
+    (version_refused _ _ _ _ (ap out (sym c.in-Refused.is) ∙ look_up.ensures.0))
 
 version : (c : In-Is) → let a = c.args in
     is c.in-Is.v ≡ run a.file.now (values_reading a.ifd version_rule)
-version c = ap values_out (sym c.in-Is.is) ∙ c.look_up.ensures.0
+version c = ap out (sym c.in-Is.is) ∙ c.look_up.ensures.0
 
 pub returns-in-Refused-look_up : goal.returns-in-Refused-look_up
 returns-in-Refused-look_up c =
     let k = (goal.at.returns-in-Refused-look_up c).After-look_up-2 in
-    backward_refused _ _ _ (version (goal.at.returns-in-Refused-look_up c).In-Is) _ _ (ap values_out (sym c.in-Refused-look_up.is) ∙ k.look_up-2.ensures.0)
+    backward_refused _ _ _ (version (goal.at.returns-in-Refused-look_up c).In-Is) _ _ (ap out (sym c.in-Refused-look_up.is) ∙ k.look_up-2.ensures.0)
 
 pub backward-n-requires : goal.backward-n-requires
 backward-n-requires c =
@@ -33,7 +34,7 @@ backward-n-requires c =
 
 backward_values : (c : In-Is-look_up) → let a = c.args in
     is c.in-Is-look_up.v ≡ run a.file.now (values_reading a.ifd backward_rule)
-backward_values c = ap values_out (sym c.in-Is-look_up.is) ∙ c.look_up-2.ensures.0
+backward_values c = ap out (sym c.in-Is-look_up.is) ∙ c.look_up-2.ensures.0
 
 pub returns-then-n-gt17236224 : goal.returns-then-n-gt17236224
 returns-then-n-gt17236224 c =

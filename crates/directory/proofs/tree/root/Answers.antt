@@ -3,9 +3,9 @@ use lib.ListN.{length}
 use Rattle.reading.specs.Reading.{run}
 use Rattle.reading.proofs.Reading.{run_answer}
 use Rattle.directory.specs.Out.{Out.is, bind}
-use Rattle.directory.specs.Facts.Out.{number_out}
+use Rattle.directory.specs.Facts.Out.{out}
 use Rattle.directory.specs.Shape.{ifd_reading}
-use Rattle.directory.specs.Facts.Shape.{ifd_out, IfdIn, Tested}
+use Rattle.directory.specs.Facts.Shape.{IfdIn, Tested}
 use Rattle.directory.specs.Tree.{raw, left, after_walk, walk_reading, root_reading}
 use Rattle.directory.specs.Facts.Tree.{walk_out, WalkIn}
 use Rattle.directory.proofs.Outs.{bind_refused, bind_is}
@@ -16,11 +16,11 @@ pub returns-in-Refused : goal.returns-in-Refused
 unfolding root_reading
 returns-in-Refused c =
     let ifd-at = c.ifd_at in
-    (bind_refused _ _ _ _ _ (ap ifd_out (sym c.in-Refused.is) ∙ ifd-at.ensures.0), tt)
+    (bind_refused _ _ _ _ _ (ap out (sym c.in-Refused.is) ∙ ifd-at.ensures.0), tt)
 
 opened : (c : In-Is) → let a = c.args in
     is c.in-Is.d ≡ run a.file.now (ifd_reading a.widths (length a.file.now) a.order a.at)
-opened c = ap ifd_out (sym c.in-Is.is) ∙ c.ifd_at.ensures.0
+opened c = ap out (sym c.in-Is.is) ∙ c.ifd_at.ensures.0
 
 tested : (c : In-Is) → Tested c.args.file.now c.in-Is.d
 tested c =
@@ -36,7 +36,7 @@ pub returns-in-Refused-check_version : goal.returns-in-Refused-check_version
 unfolding root_reading
 returns-in-Refused-check_version c =
     let k = (goal.at.returns-in-Refused-check_version c).After-check_version in
-    let e = ap number_out (sym c.in-Refused-check_version.is) ∙ k.check_version.ensures in
+    let e = ap out (sym c.in-Refused-check_version.is) ∙ k.check_version.ensures in
     (bind_refused _ _ _ _ _ e ∙ sym (bind_is _ _ _ _ (opened (goal.at.returns-in-Refused-check_version c).In-Is)), tt)
 
 pub walk_from-requires : goal.walk_from-requires
@@ -51,8 +51,8 @@ walked : (c : After-walk_from) → let a = c.args in
 unfolding root_reading
 walked c =
     let check-version = c.check_version in
-    bind_is _ _ _ _ (ap ifd_out (sym c.in-Is.is) ∙ c.ifd_at.ensures.0)
-    ∙ bind_is _ _ _ _ (ap number_out (sym c.in-Is-check_version.is) ∙ check-version.ensures)
+    bind_is _ _ _ _ (ap out (sym c.in-Is.is) ∙ c.ifd_at.ensures.0)
+    ∙ bind_is _ _ _ _ (ap out (sym c.in-Is-check_version.is) ∙ check-version.ensures)
 
 pub returns-in-Raw : goal.returns-in-Raw
 unfolding root_reading

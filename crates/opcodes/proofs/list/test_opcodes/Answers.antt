@@ -1,10 +1,11 @@
 use Rattle.std.proofs.Common.{◌≡◌, ℕ, ◌+◌, ◌-◌, ◌<◌, ◌≤◌, sym, refl, ap, ◌∙◌, arith}
 use native.Mathlib.Nat.{sub-zero}
+use Rattle.directory.specs.Facts.Out.{out}
 use Rattle.reading.specs.Bytes.{part}
 use Rattle.reading.specs.Reading.{run}
 use Rattle.directory.specs.Out.{Out.is}
 use Rattle.opcodes.specs.OpcodeList.{header_of, class_of, opcode_reading, list_from}
-use Rattle.opcodes.specs.Facts.OpcodeList.{none, counted_one, counted_on, list_out}
+use Rattle.opcodes.specs.Facts.OpcodeList.{none, counted_one, counted_on}
 use Rattle.opcodes.proofs.Listing.{list_short, list_over, list_refused, list_next, list_end, list_left, counted_bound}
 use Rattle.opcodes.proofs.list.test_opcodes.Goals as goal
 
@@ -80,7 +81,7 @@ returns-in-Refused c =
     let e : header_at.result ≡ header_of (part f p 16) = header_at.ensures.value in
     let l : 16 + (header_of (part f p 16)).length ≤ n = rw (← e) if2.false in
     list_refused f z i p n loop.counts h l (a.count - i) some _ _
-    (rw (← e) (ap list_out (sym c.in-Refused.is) ∙ judge.ensures)) ∙ sym loop.invariant.0
+    (rw (← e) (ap out (sym c.in-Refused.is) ∙ judge.ensures)) ∙ sym loop.invariant.0
 
 pub overflow_add-p : goal.overflow_add-p
 overflow_add-p c =
@@ -120,7 +121,7 @@ loop-i-preserved c =
     let l : 16 + (header_of (part f p 16)).length ≤ n = rw (← e) if2.false in
     let hd = header_of (part f p 16) in
     let g : is told.c ≡ counted_one loop.counts (run f (opcode_reading (class_of hd) z i p hd)) =
-    (rw (← e) (ap list_out (sym told.is) ∙ judge.ensures)) in
+    (rw (← e) (ap out (sym told.is) ∙ judge.ensures)) in
     let k = counted_bound loop.counts told.c (run f (opcode_reading (class_of hd) z i p hd)) g in
     let j : a.count - i - 1 ≡ a.count - (i + 1) = omega arith in
     let t = list_next f z i p n loop.counts h l (a.count - i) some told.c g in (

@@ -1,11 +1,12 @@
 use mathlib.Core.Path.{refl, sym, ap, subst, ◌∙◌}
+use Rattle.directory.specs.Facts.Out.{out}
 use Rattle.reading.specs.Reading.{Reading.answer}
 use Rattle.reading.proofs.Reading.{run_answer, run_then}
 use Rattle.directory.proofs.Outs.{bind_refused, bind_is}
-use Rattle.rawtags.specs.Facts.Raw.{tags_out, TagsIn}
+use Rattle.rawtags.specs.Facts.Raw.{TagsIn}
 use Rattle.raw.specs.Stored.{levels_reading}
 use Rattle.raw.specs.Spans.{spanned_of}
-use Rattle.raw.specs.Facts.Spans.{spans_out, SpansIn}
+use Rattle.raw.specs.Facts.Spans.{SpansIn}
 use Rattle.raw.specs.Front.{raw_reading}
 use Rattle.raw.proofs.front.raw_of.Goals as goal
 
@@ -13,7 +14,7 @@ pub returns-in-Refused : goal.returns-in-Refused
 unfolding raw_reading
 returns-in-Refused c =
     let tags-of = c.tags_of in
-    (bind_refused _ _ _ _ _ (ap tags_out (sym c.in-Refused.is) ∙ tags-of.ensures.0), tt)
+    (bind_refused _ _ _ _ _ (ap out (sym c.in-Refused.is) ∙ tags-of.ensures.0), tt)
 
 pub spans_of-requires : goal.spans_of-requires
 spans_of-requires c =
@@ -27,9 +28,9 @@ returns-in-Refused-spans_of c =
     let a = c.args in
     let tags-of = c.tags_of in
     let spans-of = c.spans_of in (
-      bind_refused _ _ _ _ _ (ap spans_out (sym c.in-Refused-spans_of.is) ∙ spans-of.ensures.0
+      bind_refused _ _ _ _ _ (ap out (sym c.in-Refused-spans_of.is) ∙ spans-of.ensures.0
           ∙ sym (run_then a.file.now (levels_reading a.ifd.order c.in-Is.v) (λ l. answer (spanned_of l)) _ refl
-          ∙ run_answer _ _)) ∙ sym (bind_is _ _ _ _ (ap tags_out (sym c.in-Is.is) ∙ tags-of.ensures.0)),
+          ∙ run_answer _ _)) ∙ sym (bind_is _ _ _ _ (ap out (sym c.in-Is.is) ∙ tags-of.ensures.0)),
       tt,
     )
 
@@ -39,8 +40,8 @@ returns-in-Is-spans_of c =
     let a = c.args in
     let tags-of = c.tags_of in
     let spans-of = c.spans_of in (
-      sym (bind_is _ _ _ _ (ap tags_out (sym c.in-Is.is) ∙ tags-of.ensures.0)
-          ∙ bind_is _ _ _ _ (ap spans_out (sym c.in-Is-spans_of.is) ∙ spans-of.ensures.0
+      sym (bind_is _ _ _ _ (ap out (sym c.in-Is.is) ∙ tags-of.ensures.0)
+          ∙ bind_is _ _ _ _ (ap out (sym c.in-Is-spans_of.is) ∙ spans-of.ensures.0
           ∙ sym (run_then a.file.now (levels_reading a.ifd.order c.in-Is.v) (λ l. answer (spanned_of l)) _ refl ∙ run_answer _ _))
           ∙ run_answer _ _),
       record {
@@ -50,7 +51,7 @@ returns-in-Is-spans_of c =
         spans =
             subst (SpansIn c.in-Is.v.frame.samples) c.in-Is-spans_of.is
             spans-of.ensures.1;
-        spanned = ap spans_out (sym c.in-Is-spans_of.is)
+        spanned = ap out (sym c.in-Is-spans_of.is)
             ∙ spans-of.ensures.0;
       },
     )

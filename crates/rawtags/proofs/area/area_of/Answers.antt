@@ -1,10 +1,11 @@
+use Rattle.directory.specs.Facts.Out.{out}
 use Rattle.directory.specs.Names.{active_area}
 use mathlib.Core.Path.{sym, ap, subst, ◌∙◌}
 use native.Mathlib.Omega.{arith}
 use lib.ListN.{length}
 use Rattle.directory.proofs.Outs.{bind_refused, bind_is}
 use Rattle.directory.specs.Tag.{optional}
-use Rattle.directory.specs.Facts.Tag.{values_out, ValuesIn}
+use Rattle.directory.specs.Facts.Tag.{ValuesIn}
 use Rattle.directory.specs.declared.tag.Kinds.TheVariants as kinds
 use Rattle.directory.proofs.Tags.{counted}
 use Rattle.rawtags.specs.Area.{area_reading}
@@ -15,14 +16,14 @@ pub returns-in-Refused : goal.returns-in-Refused
 unfolding area_reading
 returns-in-Refused c =
     let look_up = c.look_up in
-    (bind_refused _ _ _ _ _ (ap values_out (sym c.in-Refused.is) ∙ look_up.ensures.0), tt)
+    (bind_refused _ _ _ _ _ (ap out (sym c.in-Refused.is) ∙ look_up.ensures.0), tt)
 
 pub returns-then-count-eq0 : goal.returns-then-count-eq0
 unfolding area_reading
 returns-then-count-eq0 c =
     let look_up = c.look_up in
     let f = c.requires.dimensions_in in (
-      four_whole _ _ _ _ c.if-count-eq0.true ∙ sym (bind_is _ _ _ _ (ap values_out (sym c.in-Is.is) ∙ look_up.ensures.0)),
+      four_whole _ _ _ _ c.if-count-eq0.true ∙ sym (bind_is _ _ _ _ (ap out (sym c.in-Is.is) ∙ look_up.ensures.0)),
       record { rows = f.some_rows; columns = f.some_columns; bottom = omega arith; right = omega arith },
     )
 
@@ -110,7 +111,7 @@ value-right-requires c =
 pub returns : goal.returns
 unfolding area_reading
 returns c =
-    let e = ap values_out (sym c.in-Is.is) ∙ c.look_up.ensures.0 in
+    let e = ap out (sym c.in-Is.is) ∙ c.look_up.ensures.0 in
     let f = four_is _ _ _ _ c.if-count-eq0.false _ _ _ _ c.value-top.ensures c.value-left.ensures c.value-bottom.ensures
     c.value-right.ensures in
     (c.tested_area.ensures.0 ∙ f ∙ sym (bind_is _ _ _ _ e), c.tested_area.ensures.1)

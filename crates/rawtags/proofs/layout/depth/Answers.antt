@@ -4,11 +4,11 @@ use Prim.Native.Nat.{◌<◌}
 use native.Mathlib.Omega.{arith}
 use lib.ListN.{length}
 use Rattle.directory.specs.Out.{Out.is}
-use Rattle.directory.specs.Facts.Out.{number_out}
+use Rattle.directory.specs.Facts.Out.{out}
 use Rattle.directory.proofs.Outs.{bind_refused}
 use mathlib.Core.Logic.{inl}
 use Rattle.directory.specs.Tag.{required}
-use Rattle.directory.specs.Facts.Tag.{values_out, ValuesIn}
+use Rattle.directory.specs.Facts.Tag.{ValuesIn}
 use Rattle.directory.specs.declared.tag.Kinds.TheVariants as kinds
 use Rattle.directory.proofs.Entries.{one_more}
 use Rattle.rawtags.specs.Layout.{depth_reading}
@@ -19,7 +19,7 @@ pub returns-in-Refused : goal.returns-in-Refused
 unfolding depth_reading
 returns-in-Refused c =
     let look_up = c.look_up in
-    (bind_refused _ _ _ _ _ (ap values_out (sym c.in-Refused.is) ∙ look_up.ensures.0), tt)
+    (bind_refused _ _ _ _ _ (ap out (sym c.in-Refused.is) ∙ look_up.ensures.0), tt)
 
 pub value-bits-requires : goal.value-bits-requires
 value-bits-requires c =
@@ -33,7 +33,7 @@ value-bits-requires c =
 
 pub returns-then-bytes-eq0 : goal.returns-then-bytes-eq0
 returns-then-bytes-eq0 c =
-    let e = ap values_out (sym c.in-Is.is) ∙ c.look_up.ensures.0 in
+    let e = ap out (sym c.in-Is.is) ∙ c.look_up.ensures.0 in
     (depth_other _ _ _ _ e _ c.value-bits.ensures (sym c.bytes_per-bytes.ensures.0 ∙ c.if-bytes-eq0.true), tt)
 
 pub each-requires : goal.each-requires
@@ -46,14 +46,14 @@ each-requires c =
 pub returns-in-Refused-each : goal.returns-in-Refused-each
 returns-in-Refused-each c =
     let each = c.each in
-    let e = ap values_out (sym c.in-Is.is) ∙ c.look_up.ensures.0 in
-    let k = ap number_out (sym c.in-Refused-each.is) ∙ each.ensures in
+    let e = ap out (sym c.in-Is.is) ∙ c.look_up.ensures.0 in
+    let k = ap out (sym c.in-Refused-each.is) ∙ each.ensures in
     (depth_refused _ _ _ _ e _ c.value-bits.ensures (λ h. c.if-bytes-eq0.false (c.bytes_per-bytes.ensures.0 ∙ h)) _ _ k, tt)
 
 pub returns-in-Is-each : goal.returns-in-Is-each
 returns-in-Is-each c =
     let b = c.bytes_per-bytes in
-    let e = ap values_out (sym c.in-Is.is) ∙ c.look_up.ensures.0 in
-    let k = ap number_out (sym c.in-Is-each.is) ∙ c.each.ensures in
+    let e = ap out (sym c.in-Is.is) ∙ c.look_up.ensures.0 in
+    let k = ap out (sym c.in-Is-each.is) ∙ c.each.ensures in
     let z = depth_is _ _ _ _ e _ c.value-bits.ensures (λ h. c.if-bytes-eq0.false (b.ensures.0 ∙ h)) _ k in
     (ap is b.ensures.0 ∙ z, record { legal = omega arith; from = omega arith; to = b.ensures.1 })

@@ -1,9 +1,9 @@
 use mathlib.Core.Path.{sym, ap, subst, ◌∙◌}
-use Rattle.directory.specs.Facts.Out.{number_out}
+use Rattle.directory.specs.Facts.Out.{out}
 use Rattle.directory.proofs.Outs.{bind_refused, bind_is}
 use Rattle.reading.proofs.Reading.{run_answer}
 use Rattle.directory.specs.Tag.{range}
-use Rattle.directory.specs.Facts.Tag.{NumberIn, values_out}
+use Rattle.directory.specs.Facts.Tag.{NumberIn}
 use Rattle.rawtags.specs.Layout.{layout_reading}
 use Rattle.rawtags.proofs.layout.layout_of.Goals as goal
 
@@ -11,15 +11,15 @@ pub returns-in-Refused : goal.returns-in-Refused
 unfolding layout_reading
 returns-in-Refused c =
     let depth = c.depth in
-    (bind_refused _ _ _ _ _ (ap number_out (sym c.in-Refused.is) ∙ depth.ensures.0), tt)
+    (bind_refused _ _ _ _ _ (ap out (sym c.in-Refused.is) ∙ depth.ensures.0), tt)
 
 pub returns-in-Refused-only_one : goal.returns-in-Refused-only_one
 unfolding layout_reading
 returns-in-Refused-only_one c =
     let depth = c.depth in
     let only_one = c.only_one in (
-      bind_refused _ _ _ _ _ (ap number_out (sym c.in-Refused-only_one.is) ∙ only_one.ensures)
-          ∙ sym (bind_is _ _ _ _ (ap number_out (sym c.in-Is.is) ∙ depth.ensures.0)),
+      bind_refused _ _ _ _ _ (ap out (sym c.in-Refused-only_one.is) ∙ only_one.ensures)
+          ∙ sym (bind_is _ _ _ _ (ap out (sym c.in-Is.is) ∙ depth.ensures.0)),
       tt,
     )
 
@@ -29,9 +29,9 @@ returns-in-Refused-only_one-2 c =
     let depth = c.depth in
     let only_one = c.only_one in
     let only-one2 = c.only_one-2 in (
-      bind_refused _ _ _ _ _ (ap number_out (sym c.in-Refused-only_one-2.is) ∙ only-one2.ensures)
-          ∙ sym (bind_is _ _ _ _ (ap number_out (sym c.in-Is.is) ∙ depth.ensures.0)
-          ∙ bind_is _ _ _ _ (ap number_out (sym c.in-Is-only_one.is) ∙ only_one.ensures)),
+      bind_refused _ _ _ _ _ (ap out (sym c.in-Refused-only_one-2.is) ∙ only-one2.ensures)
+          ∙ sym (bind_is _ _ _ _ (ap out (sym c.in-Is.is) ∙ depth.ensures.0)
+          ∙ bind_is _ _ _ _ (ap out (sym c.in-Is-only_one.is) ∙ only_one.ensures)),
       tt,
     )
 
@@ -42,10 +42,10 @@ returns-in-Refused-format c =
     let only_one = c.only_one in
     let only-one2 = c.only_one-2 in
     let format = c.format in (
-      bind_refused _ _ _ _ _ (ap values_out (sym c.in-Refused-format.is) ∙ format.ensures)
-          ∙ sym (bind_is _ _ _ _ (ap number_out (sym c.in-Is.is) ∙ depth.ensures.0)
-          ∙ bind_is _ _ _ _ (ap number_out (sym c.in-Is-only_one.is) ∙ only_one.ensures)
-          ∙ bind_is _ _ _ _ (ap number_out (sym c.in-Is-only_one-2.is) ∙ only-one2.ensures)),
+      bind_refused _ _ _ _ _ (ap out (sym c.in-Refused-format.is) ∙ format.ensures)
+          ∙ sym (bind_is _ _ _ _ (ap out (sym c.in-Is.is) ∙ depth.ensures.0)
+          ∙ bind_is _ _ _ _ (ap out (sym c.in-Is-only_one.is) ∙ only_one.ensures)
+          ∙ bind_is _ _ _ _ (ap out (sym c.in-Is-only_one-2.is) ∙ only-one2.ensures)),
       tt,
     )
 
@@ -57,11 +57,11 @@ returns-in-Refused-only_one-3 c =
     let only-one2 = c.only_one-2 in
     let format = c.format in
     let only-one3 = c.only_one-3 in (
-      bind_refused _ _ _ _ _ (ap number_out (sym c.in-Refused-only_one-3.is) ∙ only-one3.ensures)
-          ∙ sym (bind_is _ _ _ _ (ap number_out (sym c.in-Is.is) ∙ depth.ensures.0)
-          ∙ bind_is _ _ _ _ (ap number_out (sym c.in-Is-only_one.is) ∙ only_one.ensures)
-          ∙ bind_is _ _ _ _ (ap number_out (sym c.in-Is-only_one-2.is) ∙ only-one2.ensures)
-          ∙ bind_is _ _ _ _ (ap values_out (sym c.in-Is-format.is) ∙ format.ensures)),
+      bind_refused _ _ _ _ _ (ap out (sym c.in-Refused-only_one-3.is) ∙ only-one3.ensures)
+          ∙ sym (bind_is _ _ _ _ (ap out (sym c.in-Is.is) ∙ depth.ensures.0)
+          ∙ bind_is _ _ _ _ (ap out (sym c.in-Is-only_one.is) ∙ only_one.ensures)
+          ∙ bind_is _ _ _ _ (ap out (sym c.in-Is-only_one-2.is) ∙ only-one2.ensures)
+          ∙ bind_is _ _ _ _ (ap out (sym c.in-Is-format.is) ∙ format.ensures)),
       tt,
     )
 
@@ -74,12 +74,12 @@ returns-in-Refused-only_one-4 c =
     let format = c.format in
     let only-one3 = c.only_one-3 in
     let only-one4 = c.only_one-4 in (
-      bind_refused _ _ _ _ _ (ap number_out (sym c.in-Refused-only_one-4.is) ∙ only-one4.ensures)
-          ∙ sym (bind_is _ _ _ _ (ap number_out (sym c.in-Is.is) ∙ depth.ensures.0)
-          ∙ bind_is _ _ _ _ (ap number_out (sym c.in-Is-only_one.is) ∙ only_one.ensures)
-          ∙ bind_is _ _ _ _ (ap number_out (sym c.in-Is-only_one-2.is) ∙ only-one2.ensures)
-          ∙ bind_is _ _ _ _ (ap values_out (sym c.in-Is-format.is) ∙ format.ensures)
-          ∙ bind_is _ _ _ _ (ap number_out (sym c.in-Is-only_one-3.is) ∙ only-one3.ensures)),
+      bind_refused _ _ _ _ _ (ap out (sym c.in-Refused-only_one-4.is) ∙ only-one4.ensures)
+          ∙ sym (bind_is _ _ _ _ (ap out (sym c.in-Is.is) ∙ depth.ensures.0)
+          ∙ bind_is _ _ _ _ (ap out (sym c.in-Is-only_one.is) ∙ only_one.ensures)
+          ∙ bind_is _ _ _ _ (ap out (sym c.in-Is-only_one-2.is) ∙ only-one2.ensures)
+          ∙ bind_is _ _ _ _ (ap out (sym c.in-Is-format.is) ∙ format.ensures)
+          ∙ bind_is _ _ _ _ (ap out (sym c.in-Is-only_one-3.is) ∙ only-one3.ensures)),
       tt,
     )
 
@@ -93,13 +93,13 @@ returns-in-Refused-strip_rows c =
     let only-one3 = c.only_one-3 in
     let only-one4 = c.only_one-4 in
     let strip-rows = c.strip_rows in (
-      bind_refused _ _ _ _ _ (ap number_out (sym c.in-Refused-strip_rows.is) ∙ strip-rows.ensures.0)
-          ∙ sym (bind_is _ _ _ _ (ap number_out (sym c.in-Is.is) ∙ depth.ensures.0)
-          ∙ bind_is _ _ _ _ (ap number_out (sym c.in-Is-only_one.is) ∙ only_one.ensures)
-          ∙ bind_is _ _ _ _ (ap number_out (sym c.in-Is-only_one-2.is) ∙ only-one2.ensures)
-          ∙ bind_is _ _ _ _ (ap values_out (sym c.in-Is-format.is) ∙ format.ensures)
-          ∙ bind_is _ _ _ _ (ap number_out (sym c.in-Is-only_one-3.is) ∙ only-one3.ensures)
-          ∙ bind_is _ _ _ _ (ap number_out (sym c.in-Is-only_one-4.is) ∙ only-one4.ensures)),
+      bind_refused _ _ _ _ _ (ap out (sym c.in-Refused-strip_rows.is) ∙ strip-rows.ensures.0)
+          ∙ sym (bind_is _ _ _ _ (ap out (sym c.in-Is.is) ∙ depth.ensures.0)
+          ∙ bind_is _ _ _ _ (ap out (sym c.in-Is-only_one.is) ∙ only_one.ensures)
+          ∙ bind_is _ _ _ _ (ap out (sym c.in-Is-only_one-2.is) ∙ only-one2.ensures)
+          ∙ bind_is _ _ _ _ (ap out (sym c.in-Is-format.is) ∙ format.ensures)
+          ∙ bind_is _ _ _ _ (ap out (sym c.in-Is-only_one-3.is) ∙ only-one3.ensures)
+          ∙ bind_is _ _ _ _ (ap out (sym c.in-Is-only_one-4.is) ∙ only-one4.ensures)),
       tt,
     )
 
@@ -115,12 +115,12 @@ returns c =
     let strip-rows = c.strip_rows in
     let b = subst (NumberIn (range 1 1 2)) c.in-Is.is depth.ensures.1 in
     let r = subst (NumberIn (range 1 1 0xFFFF_FFFF_FFFF_FFFF)) c.in-Is-strip_rows.is strip-rows.ensures.1 in (
-      sym (bind_is _ _ _ _ (ap number_out (sym c.in-Is.is) ∙ depth.ensures.0)
-          ∙ bind_is _ _ _ _ (ap number_out (sym c.in-Is-only_one.is) ∙ only_one.ensures)
-          ∙ bind_is _ _ _ _ (ap number_out (sym c.in-Is-only_one-2.is) ∙ only-one2.ensures)
-          ∙ bind_is _ _ _ _ (ap values_out (sym c.in-Is-format.is) ∙ format.ensures)
-          ∙ bind_is _ _ _ _ (ap number_out (sym c.in-Is-only_one-3.is) ∙ only-one3.ensures)
-          ∙ bind_is _ _ _ _ (ap number_out (sym c.in-Is-only_one-4.is) ∙ only-one4.ensures)
-          ∙ bind_is _ _ _ _ (ap number_out (sym c.in-Is-strip_rows.is) ∙ strip-rows.ensures.0) ∙ run_answer _ _),
+      sym (bind_is _ _ _ _ (ap out (sym c.in-Is.is) ∙ depth.ensures.0)
+          ∙ bind_is _ _ _ _ (ap out (sym c.in-Is-only_one.is) ∙ only_one.ensures)
+          ∙ bind_is _ _ _ _ (ap out (sym c.in-Is-only_one-2.is) ∙ only-one2.ensures)
+          ∙ bind_is _ _ _ _ (ap out (sym c.in-Is-format.is) ∙ format.ensures)
+          ∙ bind_is _ _ _ _ (ap out (sym c.in-Is-only_one-3.is) ∙ only-one3.ensures)
+          ∙ bind_is _ _ _ _ (ap out (sym c.in-Is-only_one-4.is) ∙ only-one4.ensures)
+          ∙ bind_is _ _ _ _ (ap out (sym c.in-Is-strip_rows.is) ∙ strip-rows.ensures.0) ∙ run_answer _ _),
       record { some_bytes = b.legal; bytes = b.to; some_rows = r.legal; rows = r.to },
     )

@@ -1,10 +1,11 @@
+use Rattle.directory.specs.Facts.Out.{out}
 use Rattle.directory.specs.Names.{black_level_delta_h, black_level_delta_v}
 use mathlib.Core.Path.{sym, ap, subst, ◌∙◌}
 use lib.ListN.{length}
 use Rattle.directory.proofs.Outs.{bind_refused, bind_is}
 use Rattle.reading.proofs.Reading.{run_answer}
-use Rattle.directory.specs.Facts.Tag.{values_out, ValuesIn}
-use Rattle.rawtags.specs.Facts.Repeat.{repeat_out, RepeatIn}
+use Rattle.directory.specs.Facts.Tag.{ValuesIn}
+use Rattle.rawtags.specs.Facts.Repeat.{RepeatIn}
 use Rattle.rawtags.specs.Black.{black_rule, delta_rule}
 use Rattle.rawtags.specs.White.{table_rule, white_rule}
 use Rattle.rawtags.specs.Facts.White.{WhitesIn}
@@ -14,15 +15,15 @@ use Rattle.rawtags.proofs.level_tags.level_tags_of.Goals as goal
 pub returns-in-Refused : goal.returns-in-Refused
 unfolding level_tags_reading
 returns-in-Refused c =
-    let table_of = c.table_of in record { result_value = bind_refused _ _ _ _ _ (ap values_out (sym c.in-Refused.is) ∙ table_of.ensures.0); level_tags_in = tt }
+    let table_of = c.table_of in record { result_value = bind_refused _ _ _ _ _ (ap out (sym c.in-Refused.is) ∙ table_of.ensures.0); level_tags_in = tt }
 
 pub returns-in-Refused-repeat_of : goal.returns-in-Refused-repeat_of
 unfolding level_tags_reading
 returns-in-Refused-repeat_of c =
     let table_of = c.table_of in
     let repeat-of = c.repeat_of in record {
-      result_value = bind_refused _ _ _ _ _ (ap repeat_out (sym c.in-Refused-repeat_of.is) ∙ repeat-of.ensures.0)
-          ∙ sym (bind_is _ _ _ _ (ap values_out (sym c.in-Is.is) ∙ table_of.ensures.0));
+      result_value = bind_refused _ _ _ _ _ (ap out (sym c.in-Refused-repeat_of.is) ∙ repeat-of.ensures.0)
+          ∙ sym (bind_is _ _ _ _ (ap out (sym c.in-Is.is) ∙ table_of.ensures.0));
       level_tags_in = tt;
     }
 
@@ -37,9 +38,9 @@ returns-in-Refused-black_of c =
     let table_of = c.table_of in
     let repeat-of = c.repeat_of in
     let black-of = c.black_of in record {
-      result_value = bind_refused _ _ _ _ _ (ap values_out (sym c.in-Refused-black_of.is) ∙ black-of.ensures.result_value)
-          ∙ sym (bind_is _ _ _ _ (ap values_out (sym c.in-Is.is) ∙ table_of.ensures.0)
-          ∙ bind_is _ _ _ _ (ap repeat_out (sym c.in-Is-repeat_of.is) ∙ repeat-of.ensures.0));
+      result_value = bind_refused _ _ _ _ _ (ap out (sym c.in-Refused-black_of.is) ∙ black-of.ensures.result_value)
+          ∙ sym (bind_is _ _ _ _ (ap out (sym c.in-Is.is) ∙ table_of.ensures.0)
+          ∙ bind_is _ _ _ _ (ap out (sym c.in-Is-repeat_of.is) ∙ repeat-of.ensures.0));
       level_tags_in = tt;
     }
 
@@ -55,10 +56,10 @@ returns-in-Refused-delta_of c =
     let repeat-of = c.repeat_of in
     let black-of = c.black_of in
     let delta-of = c.delta_of in record {
-      result_value = bind_refused _ _ _ _ _ (ap values_out (sym c.in-Refused-delta_of.is) ∙ delta-of.ensures.result_value)
-          ∙ sym (bind_is _ _ _ _ (ap values_out (sym c.in-Is.is) ∙ table_of.ensures.0)
-          ∙ bind_is _ _ _ _ (ap repeat_out (sym c.in-Is-repeat_of.is) ∙ repeat-of.ensures.0)
-          ∙ bind_is _ _ _ _ (ap values_out (sym c.in-Is-black_of.is) ∙ black-of.ensures.result_value));
+      result_value = bind_refused _ _ _ _ _ (ap out (sym c.in-Refused-delta_of.is) ∙ delta-of.ensures.result_value)
+          ∙ sym (bind_is _ _ _ _ (ap out (sym c.in-Is.is) ∙ table_of.ensures.0)
+          ∙ bind_is _ _ _ _ (ap out (sym c.in-Is-repeat_of.is) ∙ repeat-of.ensures.0)
+          ∙ bind_is _ _ _ _ (ap out (sym c.in-Is-black_of.is) ∙ black-of.ensures.result_value));
       level_tags_in = tt;
     }
 
@@ -75,11 +76,11 @@ returns-in-Refused-delta_of-2 c =
     let black-of = c.black_of in
     let delta-of = c.delta_of in
     let delta-of2 = c.delta_of-2 in record {
-      result_value = bind_refused _ _ _ _ _ (ap values_out (sym c.in-Refused-delta_of-2.is) ∙ delta-of2.ensures.result_value)
-          ∙ sym (bind_is _ _ _ _ (ap values_out (sym c.in-Is.is) ∙ table_of.ensures.0)
-          ∙ bind_is _ _ _ _ (ap repeat_out (sym c.in-Is-repeat_of.is) ∙ repeat-of.ensures.0)
-          ∙ bind_is _ _ _ _ (ap values_out (sym c.in-Is-black_of.is) ∙ black-of.ensures.result_value)
-          ∙ bind_is _ _ _ _ (ap values_out (sym c.in-Is-delta_of.is) ∙ delta-of.ensures.result_value));
+      result_value = bind_refused _ _ _ _ _ (ap out (sym c.in-Refused-delta_of-2.is) ∙ delta-of2.ensures.result_value)
+          ∙ sym (bind_is _ _ _ _ (ap out (sym c.in-Is.is) ∙ table_of.ensures.0)
+          ∙ bind_is _ _ _ _ (ap out (sym c.in-Is-repeat_of.is) ∙ repeat-of.ensures.0)
+          ∙ bind_is _ _ _ _ (ap out (sym c.in-Is-black_of.is) ∙ black-of.ensures.result_value)
+          ∙ bind_is _ _ _ _ (ap out (sym c.in-Is-delta_of.is) ∙ delta-of.ensures.result_value));
       level_tags_in = tt;
     }
 
@@ -97,12 +98,12 @@ returns-in-Refused-white_of c =
     let delta-of = c.delta_of in
     let delta-of2 = c.delta_of-2 in
     let white-of = c.white_of in record {
-      result_value = bind_refused _ _ _ _ _ (ap values_out (sym c.in-Refused-white_of.is) ∙ white-of.ensures.0)
-          ∙ sym (bind_is _ _ _ _ (ap values_out (sym c.in-Is.is) ∙ table_of.ensures.0)
-          ∙ bind_is _ _ _ _ (ap repeat_out (sym c.in-Is-repeat_of.is) ∙ repeat-of.ensures.0)
-          ∙ bind_is _ _ _ _ (ap values_out (sym c.in-Is-black_of.is) ∙ black-of.ensures.result_value)
-          ∙ bind_is _ _ _ _ (ap values_out (sym c.in-Is-delta_of.is) ∙ delta-of.ensures.result_value)
-          ∙ bind_is _ _ _ _ (ap values_out (sym c.in-Is-delta_of-2.is) ∙ delta-of2.ensures.result_value));
+      result_value = bind_refused _ _ _ _ _ (ap out (sym c.in-Refused-white_of.is) ∙ white-of.ensures.0)
+          ∙ sym (bind_is _ _ _ _ (ap out (sym c.in-Is.is) ∙ table_of.ensures.0)
+          ∙ bind_is _ _ _ _ (ap out (sym c.in-Is-repeat_of.is) ∙ repeat-of.ensures.0)
+          ∙ bind_is _ _ _ _ (ap out (sym c.in-Is-black_of.is) ∙ black-of.ensures.result_value)
+          ∙ bind_is _ _ _ _ (ap out (sym c.in-Is-delta_of.is) ∙ delta-of.ensures.result_value)
+          ∙ bind_is _ _ _ _ (ap out (sym c.in-Is-delta_of-2.is) ∙ delta-of2.ensures.result_value));
       level_tags_in = tt;
     }
 
@@ -112,12 +113,12 @@ returns c =
     let a = c.args in
     let f = a.file.now in
     record {
-      result_value = sym (bind_is _ _ _ _ (ap values_out (sym c.in-Is.is) ∙ c.table_of.ensures.0)
-          ∙ bind_is _ _ _ _ (ap repeat_out (sym c.in-Is-repeat_of.is) ∙ c.repeat_of.ensures.0)
-          ∙ bind_is _ _ _ _ (ap values_out (sym c.in-Is-black_of.is) ∙ c.black_of.ensures.result_value)
-          ∙ bind_is _ _ _ _ (ap values_out (sym c.in-Is-delta_of.is) ∙ c.delta_of.ensures.result_value)
-          ∙ bind_is _ _ _ _ (ap values_out (sym c.in-Is-delta_of-2.is) ∙ c.delta_of-2.ensures.result_value)
-          ∙ bind_is _ _ _ _ (ap values_out (sym c.in-Is-white_of.is) ∙ c.white_of.ensures.0)
+      result_value = sym (bind_is _ _ _ _ (ap out (sym c.in-Is.is) ∙ c.table_of.ensures.0)
+          ∙ bind_is _ _ _ _ (ap out (sym c.in-Is-repeat_of.is) ∙ c.repeat_of.ensures.0)
+          ∙ bind_is _ _ _ _ (ap out (sym c.in-Is-black_of.is) ∙ c.black_of.ensures.result_value)
+          ∙ bind_is _ _ _ _ (ap out (sym c.in-Is-delta_of.is) ∙ c.delta_of.ensures.result_value)
+          ∙ bind_is _ _ _ _ (ap out (sym c.in-Is-delta_of-2.is) ∙ c.delta_of-2.ensures.result_value)
+          ∙ bind_is _ _ _ _ (ap out (sym c.in-Is-white_of.is) ∙ c.white_of.ensures.0)
           ∙ run_answer _ _);
       level_tags_in = record {
         table = subst (ValuesIn (length f) table_rule) c.in-Is.is c.table_of.ensures.1;

@@ -1,5 +1,5 @@
 use mathlib.Core.Path.{sym, ap, ◌∙◌}
-use Rattle.directory.specs.Facts.Out.{number_out}
+use Rattle.directory.specs.Facts.Out.{out}
 use Rattle.directory.proofs.Outs.{bind_refused, bind_is}
 use Rattle.rawtags.specs.Lists.{list_tag_reading}
 use Rattle.rawtags.proofs.lists.list_of.Goals as goal
@@ -8,15 +8,15 @@ pub returns-in-Refused : goal.returns-in-Refused
 unfolding list_tag_reading
 returns-in-Refused c =
     let not-Carried = c.not_carried in
-    (bind_refused _ _ _ _ _ (ap number_out (sym c.in-Refused.is) ∙ not-Carried.ensures), tt)
+    (bind_refused _ _ _ _ _ (ap out (sym c.in-Refused.is) ∙ not-Carried.ensures), tt)
 
 pub returns-in-Refused-not_carried : goal.returns-in-Refused-not_carried
 unfolding list_tag_reading
 returns-in-Refused-not_carried c =
     let not-Carried = c.not_carried in
     let not-carried2 = c.not_carried-2 in (
-      bind_refused _ _ _ _ _ (ap number_out (sym c.in-Refused-not_carried.is) ∙ not-carried2.ensures)
-          ∙ sym (bind_is _ _ _ _ (ap number_out (sym c.in-Is.is) ∙ not-Carried.ensures)),
+      bind_refused _ _ _ _ _ (ap out (sym c.in-Refused-not_carried.is) ∙ not-carried2.ensures)
+          ∙ sym (bind_is _ _ _ _ (ap out (sym c.in-Is.is) ∙ not-Carried.ensures)),
       tt,
     )
 
@@ -25,7 +25,7 @@ unfolding list_tag_reading
 returns c =
     let not-Carried = c.not_carried in
     let not-carried2 = c.not_carried-2 in (
-      c.look_up.ensures.0 ∙ sym (bind_is _ _ _ _ (ap number_out (sym c.in-Is.is) ∙ not-Carried.ensures)
-          ∙ bind_is _ _ _ _ (ap number_out (sym c.in-Is-not_carried.is) ∙ not-carried2.ensures)),
+      c.look_up.ensures.0 ∙ sym (bind_is _ _ _ _ (ap out (sym c.in-Is.is) ∙ not-Carried.ensures)
+          ∙ bind_is _ _ _ _ (ap out (sym c.in-Is-not_carried.is) ∙ not-carried2.ensures)),
       c.look_up.ensures.1,
     )

@@ -1,7 +1,7 @@
+use Rattle.directory.specs.Facts.Out.{out}
 use Rattle.directory.specs.Names.{cfa_pattern}
 use mathlib.Core.Path.{sym, ap, ◌∙◌}
 use native.Mathlib.Omega.{arith}
-use Rattle.directory.specs.Facts.Tag.{values_out}
 use Rattle.directory.specs.declared.tag.Kinds.TheVariants as kinds
 use Rattle.directory.proofs.Outs.{bind_refused, bind_is}
 use Rattle.directory.proofs.Tags.{looked_up, exactly}
@@ -12,7 +12,7 @@ use Rattle.rawtags.proofs.pattern.cfa_pattern_of.Goals as goal
 pub returns-in-Refused : goal.returns-in-Refused
 unfolding cfa_pattern_reading
 returns-in-Refused c =
-    bind_refused _ _ _ _ _ (ap values_out (sym c.in-Refused.is) ∙ c.look_up.ensures.0)
+    bind_refused _ _ _ _ _ (ap out (sym c.in-Refused.is) ∙ c.look_up.ensures.0)
 
 pub byte-a-requires : goal.byte-a-requires
 byte-a-requires c =

@@ -4,10 +4,10 @@ use Prim.Native.Nat.{◌-◌}
 use native.Mathlib.Nat.{div-le_self}
 use native.Mathlib.Omega.{arith}
 use lib.ListN.{length}
-use Rattle.directory.specs.Facts.Out.{number_out}
+use Rattle.directory.specs.Facts.Out.{out}
 use Rattle.directory.proofs.Outs.{bind_refused, bind_is}
 use Rattle.reading.proofs.Reading.{run_answer}
-use Rattle.directory.specs.Facts.Tag.{values_out, ValuesIn}
+use Rattle.directory.specs.Facts.Tag.{ValuesIn}
 use Rattle.directory.specs.declared.tag.Kinds.TheVariants as kinds
 use Rattle.directory.proofs.Tags.{exactly}
 use Rattle.rawtags.specs.Strips.{offsets_rule, counts_rule, strips_reading}
@@ -45,15 +45,15 @@ overflow_mul-row-2 c =
 pub returns-in-Refused : goal.returns-in-Refused
 unfolding strips_reading
 returns-in-Refused c =
-    let look_up = c.look_up in record { result_value = bind_refused _ _ _ _ _ (ap values_out (sym c.in-Refused.is) ∙ look_up.ensures.0); strips_in = tt }
+    let look_up = c.look_up in record { result_value = bind_refused _ _ _ _ _ (ap out (sym c.in-Refused.is) ∙ look_up.ensures.0); strips_in = tt }
 
 pub returns-in-Refused-look_up : goal.returns-in-Refused-look_up
 unfolding strips_reading
 returns-in-Refused-look_up c =
     let look_up = c.look_up in
     let look-up2 = c.look_up-2 in record {
-      result_value = bind_refused _ _ _ _ _ (ap values_out (sym c.in-Refused-look_up.is) ∙ look-up2.ensures.0)
-          ∙ sym (bind_is _ _ _ _ (ap values_out (sym c.in-Is.is) ∙ look_up.ensures.0));
+      result_value = bind_refused _ _ _ _ _ (ap out (sym c.in-Refused-look_up.is) ∙ look-up2.ensures.0)
+          ∙ sym (bind_is _ _ _ _ (ap out (sym c.in-Is.is) ∙ look_up.ensures.0));
       strips_in = tt;
     }
 
@@ -78,9 +78,9 @@ returns-in-Refused-check_strips c =
     let look_up = c.look_up in
     let look-up2 = c.look_up-2 in
     let check-strips = c.check_strips in record {
-      result_value = bind_refused _ _ _ _ _ (ap number_out (sym c.in-Refused-check_strips.is) ∙ check-strips.ensures)
-          ∙ sym (bind_is _ _ _ _ (ap values_out (sym c.in-Is.is) ∙ look_up.ensures.0)
-          ∙ bind_is _ _ _ _ (ap values_out (sym c.in-Is-look_up.is) ∙ look-up2.ensures.0));
+      result_value = bind_refused _ _ _ _ _ (ap out (sym c.in-Refused-check_strips.is) ∙ check-strips.ensures)
+          ∙ sym (bind_is _ _ _ _ (ap out (sym c.in-Is.is) ∙ look_up.ensures.0)
+          ∙ bind_is _ _ _ _ (ap out (sym c.in-Is-look_up.is) ∙ look-up2.ensures.0));
       strips_in = tt;
     }
 
@@ -92,10 +92,10 @@ returns-in-Is-check_strips c =
     let look_up = c.look_up in
     let look-up2 = c.look_up-2 in
     let check-strips = c.check_strips in
-    let k = ap number_out (sym c.in-Is-check_strips.is) ∙ check-strips.ensures in record {
-      result_value = sym (bind_is _ _ _ _ (ap values_out (sym c.in-Is.is) ∙ look_up.ensures.0)
-          ∙ bind_is _ _ _ _ (ap values_out (sym c.in-Is-look_up.is) ∙ look-up2.ensures.0)
-          ∙ bind_is _ _ _ _ (ap number_out (sym c.in-Is-check_strips.is) ∙ check-strips.ensures) ∙ run_answer _ _);
+    let k = ap out (sym c.in-Is-check_strips.is) ∙ check-strips.ensures in record {
+      result_value = sym (bind_is _ _ _ _ (ap out (sym c.in-Is.is) ∙ look_up.ensures.0)
+          ∙ bind_is _ _ _ _ (ap out (sym c.in-Is-look_up.is) ∙ look-up2.ensures.0)
+          ∙ bind_is _ _ _ _ (ap out (sym c.in-Is-check_strips.is) ∙ check-strips.ensures) ∙ run_answer _ _);
       strips_in = record {
         placed = subst (ValuesIn (length a.file.now) (offsets_rule a.frame a.layout)) c.in-Is.is look_up.ensures.1;
         inside = λ i h. strip_in a.file.now _ _ _ _ _ _ _ _ i _ _ _ k h;

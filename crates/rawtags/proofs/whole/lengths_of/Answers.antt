@@ -1,7 +1,6 @@
 use mathlib.Core.Path.{sym, ap, ◌∙◌}
 use native.Mathlib.Omega.{arith}
-use Rattle.directory.specs.Facts.Out.{number_out}
-use Rattle.directory.specs.Facts.Tag.{values_out}
+use Rattle.directory.specs.Facts.Out.{out}
 use Rattle.directory.specs.declared.tag.Kinds.TheVariants as kinds
 use Rattle.directory.proofs.Outs.{bind_refused, bind_last}
 use Rattle.directory.proofs.Tags.{counted, looked_up}
@@ -12,7 +11,7 @@ use Rattle.rawtags.proofs.whole.lengths_of.Goals as goal
 pub returns-in-Refused : goal.returns-in-Refused
 unfolding lengths_reading
 returns-in-Refused c =
-    bind_refused _ _ _ _ _ (ap values_out (sym c.in-Refused.is) ∙ c.look_up.ensures.0)
+    bind_refused _ _ _ _ _ (ap out (sym c.in-Refused.is) ∙ c.look_up.ensures.0)
 
 pub returns-then-count-eq0 : goal.returns-then-count-eq0
 unfolding lengths_reading
@@ -30,7 +29,7 @@ pub returns-in-Refused-whole_number_at : goal.returns-in-Refused-whole_number_at
 unfolding lengths_reading
 returns-in-Refused-whole_number_at c =
     let q = looked_up c.args.file.now c.args.ifd _ c.in-Is.is c.look_up.ensures in
-    let k = ap number_out (sym c.in-Refused-whole_number_at.is) ∙ c.whole_number_at.ensures in
+    let k = ap out (sym c.in-Refused-whole_number_at.is) ∙ c.whole_number_at.ensures in
     bind_last _ _ _ _ _ q.0 (horizontal_refused _ _ _ _ _ c.if-count-eq0.false _ _ k)
 
 pub overflow_add-place : goal.overflow_add-place
@@ -49,14 +48,14 @@ pub returns-in-Refused-whole_number_at-2 : goal.returns-in-Refused-whole_number_
 unfolding lengths_reading
 returns-in-Refused-whole_number_at-2 c =
     let q = looked_up c.args.file.now c.args.ifd _ c.in-Is.is c.look_up.ensures in
-    let h = ap number_out (sym c.in-Is-whole_number_at.is) ∙ c.whole_number_at.ensures in
-    let k = ap number_out (sym c.in-Refused-whole_number_at-2.is) ∙ c.whole_number_at-2.ensures in
+    let h = ap out (sym c.in-Is-whole_number_at.is) ∙ c.whole_number_at.ensures in
+    let k = ap out (sym c.in-Refused-whole_number_at-2.is) ∙ c.whole_number_at-2.ensures in
     bind_last _ _ _ _ _ q.0 (vertical_refused _ _ _ _ _ c.if-count-eq0.false _ h _ _ k)
 
 pub returns : goal.returns
 unfolding lengths_reading
 returns c =
     let q = looked_up c.args.file.now c.args.ifd _ c.in-Is.is c.look_up.ensures in
-    let h = ap number_out (sym c.in-Is-whole_number_at.is) ∙ c.whole_number_at.ensures in
-    let k = ap number_out (sym c.in-Is-whole_number_at-2.is) ∙ c.whole_number_at-2.ensures in
+    let h = ap out (sym c.in-Is-whole_number_at.is) ∙ c.whole_number_at.ensures in
+    let k = ap out (sym c.in-Is-whole_number_at-2.is) ∙ c.whole_number_at-2.ensures in
     bind_last _ _ _ _ _ q.0 (both_is _ _ _ _ _ c.if-count-eq0.false _ h _ k)

@@ -1,6 +1,6 @@
 use Rattle.std.proofs.Common.{◌∙◌}
 use Rattle.opcodes.proofs.GainMaps.{fault_map, fault_plain}
-use Rattle.opcodes.proofs.list.own_fault.Goals as goal
+use Rattle.opcodes.proofs.list.test_parameters.Goals as goal
 
 pub returns-then-id-eq9 : goal.returns-then-id-eq9
 returns-then-id-eq9 c =

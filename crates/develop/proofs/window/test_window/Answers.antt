@@ -7,8 +7,8 @@ use Rattle.reading.proofs.Bytes.{some_inside_law}
 use Rattle.opcodes.specs.declared.grid.Size.{Size}
 use Rattle.rows.specs.Facts.Part.{SizedIn}
 use Rattle.develop.proofs.Called.{rows_inside, columns_inside, fault_none, fault_length, fault_rows, fault_columns}
-use Rattle.develop.proofs.window.window_fault.Goals as goal
-use Rattle.develop.proofs.window.window_fault.Goals.{Start, Then-some_inside-2}
+use Rattle.develop.proofs.window.test_window.Goals as goal
+use Rattle.develop.proofs.window.test_window.Goals.{Start, Then-some_inside-2}
 
 few : (z : Size) (t l h w : ℕ) → rows_inside z t l h w ≡ true → columns_inside z t l h w ≡ true → SizedIn z → (h ≤ 16384) × (w ≤ 16384)
 few z t l h w a b s =

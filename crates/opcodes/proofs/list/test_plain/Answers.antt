@@ -2,8 +2,8 @@ use Rattle.std.proofs.Common.{◌≡◌, true, false, sym, ◌∙◌, arith}
 use Rattle.opcodes.specs.Grid.{grid_of, fits_of}
 use Rattle.opcodes.proofs.OpcodeLists.{fault_short, fault_grid, fault_inexact, fault_numbers, fits_in, own_grid, own_fits}
 use Rattle.opcodes.proofs.OpcodeLists.{FormIn, form_in, exact_bytes}
-use Rattle.opcodes.proofs.list.plain_fault.Goals as goal
-use Rattle.opcodes.proofs.list.plain_fault.Goals.{After-form_for-m}
+use Rattle.opcodes.proofs.list.test_plain.Goals as goal
+use Rattle.opcodes.proofs.list.test_plain.Goals.{After-form_for-m}
 
 pub returns-then-ps-lt36 : goal.returns-then-ps-lt36
 returns-then-ps-lt36 c = let a =

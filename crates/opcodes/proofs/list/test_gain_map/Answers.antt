@@ -1,8 +1,8 @@
 use Rattle.std.proofs.Common.{true, false, sym, ◌∙◌}
 use Rattle.opcodes.proofs.OpcodeLists.{own_fits}
 use Rattle.opcodes.proofs.GainMaps.{legal_in, map_short, map_grid, map_illegal, map_other, map_read}
-use Rattle.opcodes.proofs.list.gain_map_fault.Goals as goal
-use Rattle.opcodes.proofs.list.gain_map_fault.Goals.{After-count-n}
+use Rattle.opcodes.proofs.list.test_gain_map.Goals as goal
+use Rattle.opcodes.proofs.list.test_gain_map.Goals.{After-count-n}
 
 pub returns-then-ps-lt76 : goal.returns-then-ps-lt76
 returns-then-ps-lt76 c = let a =
