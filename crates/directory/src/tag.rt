@@ -217,10 +217,7 @@ pub fn judged(tag: usize, range: Range, v: usize) -> Result<usize, Refusal>
     if v < range.legal {
         return Err(Refusal::Illegal(tag));
     }
-    if v < range.from {
-        return Err(Refusal::NotCarried(tag));
-    }
-    if range.to < v {
+    if v < range.from || range.to < v {
         return Err(Refusal::NotCarried(tag));
     }
     Ok(v)
