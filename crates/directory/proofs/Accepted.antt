@@ -1,6 +1,6 @@
 -- What holds of whatever is accepted, by the definitions alone: a directory's shape, the tree's two directories, a tag's values.
 -- Assumes nothing.
-use mathlib.Core.Path.{◌≡◌, refl, sym, subst, ◌∙◌}
+use mathlib.Core.Path.{◌≡◌, refl, sym, ap, subst, ◌∙◌}
 use mathlib.Core.Bool.{Bool, true, false}
 use mathlib.Core.List.{List}
 use Prim.Native.Nat.{ℕ, zero, suc, ◌+◌, ◌*◌, ◌≤◌}
@@ -19,7 +19,7 @@ use Rattle.directory.specs.Widths.{head_width, entry_width, classic, big_tiff}
 use Rattle.directory.specs.Facts.Widths.{WidthsIn}
 use Rattle.directory.specs.Entry.{bytes_of, entry_of}
 use Rattle.directory.specs.Shape.{shape_from, ifd, ifd_reading}
-use Rattle.directory.specs.Facts.Shape.{Tested}
+use Rattle.directory.specs.Facts.Shape.{Tested, accepts}
 use Rattle.directory.specs.Tag.{find_from, found_reading, allows_of, tested_reading, absent_of, no_values, values_reading}
 use Rattle.directory.specs.Facts.Tag.{FoundIn, Placed, PlacedValues, InRange}
 use Rattle.directory.specs.Tag.{range_fault, judged_of, first_reading, one_reading}
@@ -36,7 +36,7 @@ use Rattle.directory.specs.declared.tag.Range.{Range}
 use Rattle.directory.specs.declared.tag.Rule.{Rule}
 use Rattle.directory.specs.declared.tag.Values.{Values}
 use Rattle.directory.specs.declared.tree.Roots.{Roots}
-use Rattle.directory.proofs.Outs.{bind_inverse, not_refused, same_value}
+use Rattle.directory.proofs.Outs.{accepted, bind_inverse, not_refused, same_value}
 use Rattle.directory.proofs.Tags.{find_none, find_here, find_later, PlacedIn, found_placed, values_found_law, absent_in}
 use Rattle.directory.proofs.Tags.{in_entry, elsewhere, inside_entry, inside_file, judged_is, judged_bad, first_default, first_is}
 use Rattle.directory.proofs.Trees.{classic_laid, big_tiff_laid}
@@ -72,7 +72,7 @@ ifd_tested w laid f o at d e =
     let s = bind_inverse f (shape_from w (length f) o n (at + w.entries) 0) _ d c.1 in
     let q : d ≡ ifd w o n (at + w.entries) = same_value d (ifd w o n (at + w.entries)) (s.2 ∙ simp running) in
     let h : at + w.entries + entry_width w * n + w.word ≤ length f = leb-true _ _ c.0 in
-    subst (Tested f) (sym q) (record { laid = laid; inside = omega arith; next = s.0; shape = s.1 })
+    subst (Tested f) (sym q) (record { laid = laid; inside = omega arith; shape = ap accepts (sym s.1) })
 
 -- ---- the tree: its first directory and its raw one were tested
 module _ (f : List ℕ) where
@@ -214,7 +214,7 @@ module _ (f : List ℕ) (r : Rule) (v : Values) where
   values_placed d t e =
       go (run f (found_reading d r.tag)) refl
       (found_inside w f o r.tag (length f) d.count d.at t.inside)
-      (found_placed w f o r.tag d.count d.at 0 t.next t.shape)
+      (let s = accepted _ t.shape in found_placed w f o r.tag d.count d.at 0 s.0 s.1)
     where
       w : Widths
       w = d.widths

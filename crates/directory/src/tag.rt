@@ -5,7 +5,6 @@ ghost use Rattle.reading.specs.Reading.{run};
 ghost use Rattle.directory.specs.Facts.Out.{out, passed};
 ghost use Rattle.directory.specs.Widths.{entry_width};
 ghost use Rattle.directory.specs.Facts.Widths.{WidthsIn};
-ghost use Rattle.directory.specs.Facts.Shape.{Tested};
 ghost use Rattle.directory.specs.Tag.{found_reading, allows_of, absent_of, tested_reading, values_reading, not_carried};
 ghost use Rattle.directory.specs.Facts.Tag.{FoundIn, Placed, ValuesIn, NumberIn, Numeric};
 ghost use Rattle.directory.specs.Tag.{each_reading, one_reading, judged_of, all_reading};
@@ -13,7 +12,7 @@ ghost use Rattle.directory.specs.Tag.{required, optional, range};
 
 use crate::entry::{Entry, Kind};
 use crate::refusal::Refusal;
-use crate::{Ifd, entry};
+use crate::{Directory, entry};
 use reading::number;
 use reading::number::Order;
 
@@ -102,19 +101,18 @@ impl Range {
 }
 
 // The first entry with a tag: of the others only the tag is read.
-fn find(file: &[u8], ifd: Ifd, tag: usize) -> Option<Found>
-    requires { Tested file.now ifd }
-    ensures { (result ≡ run file.now (found_reading ifd tag)) × FoundIn ifd.widths (length file.now) result }
+fn find(dir: Directory, tag: usize) -> Option<Found>
+    ensures { (result ≡ run dir.entry.file.now (found_reading dir.entry.ifd tag)) × FoundIn dir.entry.ifd.widths (length dir.entry.file.now) result }
 {
-    let word = ifd.widths.word;
+    let word = dir.ifd.widths.word;
     let head = 4 + word;
     let step = head + word;
-    let mut p = ifd.at;
-    for _ in 0..ifd.count {
-        if number::short(file, ifd.order, p) as usize == tag {
+    let mut p = dir.ifd.at;
+    for _ in 0..dir.ifd.count {
+        if number::short(dir.file, dir.ifd.order, p) as usize == tag {
             return Some(Found {
                 place: p + head,
-                entry: entry::header(file, ifd.order, ifd.widths, p),
+                entry: entry::header(dir.file, dir.ifd.order, dir.ifd.widths, p),
             });
         }
         p += step;
@@ -156,10 +154,10 @@ fn absent(rule: Rule) -> Result<Values, Refusal>
 }
 
 // The entry of a tag, whose value or offset stands at a place.
-fn tested(file: &[u8], ifd: Ifd, rule: Rule, found: Found) -> Result<Values, Refusal>
-    requires word_in_bounds { (found.place + ifd.widths.word ≤ length file.now) × WidthsIn ifd.widths }
-    requires placed { Placed ifd.widths file.now ifd.order found.place found.entry }
-    ensures { (out result ≡ run file.now (tested_reading ifd.widths ifd.order rule found.place found.entry)) × ValuesIn (length file.now) rule result }
+fn tested(dir: Directory, rule: Rule, found: Found) -> Result<Values, Refusal>
+    requires word_in_bounds { (found.place + dir.ifd.widths.word ≤ length dir.file.now) × WidthsIn dir.ifd.widths }
+    requires placed { Placed dir.ifd.widths dir.file.now dir.ifd.order found.place found.entry }
+    ensures { (out result ≡ run dir.entry.file.now (tested_reading dir.entry.ifd.widths dir.entry.ifd.order rule found.place found.entry)) × ValuesIn (length dir.entry.file.now) rule result }
 {
     let entry = found.entry;
     if !allows(rule.kinds, entry.kind) {
@@ -172,11 +170,11 @@ fn tested(file: &[u8], ifd: Ifd, rule: Rule, found: Found) -> Result<Values, Ref
         return Err(Refusal::Illegal(rule.tag));
     }
     let size = entry::size(entry.kind);
-    let word = ifd.widths.word;
+    let word = dir.ifd.widths.word;
     let place = if entry::fits(size, entry.count, word) {
         found.place
     } else {
-        number::value(file, ifd.order, word, found.place)
+        number::value(dir.file, dir.ifd.order, word, found.place)
     };
     Ok(Values {
         place,
@@ -187,23 +185,21 @@ fn tested(file: &[u8], ifd: Ifd, rule: Rule, found: Found) -> Result<Values, Ref
 }
 
 // A tag by its rule.
-pub fn look_up(file: &[u8], ifd: Ifd, rule: Rule) -> Result<Values, Refusal>
-    requires { Tested file.now ifd }
-    ensures { (out result ≡ run file.now (values_reading ifd rule)) × ValuesIn (length file.now) rule result }
+pub fn look_up(dir: Directory, rule: Rule) -> Result<Values, Refusal>
+    ensures { (out result ≡ run dir.entry.file.now (values_reading dir.entry.ifd rule)) × ValuesIn (length dir.entry.file.now) rule result }
 {
-    match find(file, ifd, rule.tag) {
+    match find(dir, rule.tag) {
         None => absent(rule),
-        Some(found) => tested(file, ifd, rule, found),
+        Some(found) => tested(dir, rule, found),
     }
 }
 
 // A tag that must not be there.
 #[tactic(auto, using(reading::proofs::Reading::run_then, reading::proofs::Reading::run_answer), unfolding(crate::specs::Tag::not_carried))]
-pub fn not_carried(file: &[u8], ifd: Ifd, tag: usize) -> Result<(), Refusal>
-    requires { Tested file.now ifd }
-    ensures { passed result ≡ run file.now (not_carried ifd tag) }
+pub fn not_carried(dir: Directory, tag: usize) -> Result<(), Refusal>
+    ensures { passed result ≡ run dir.entry.file.now (not_carried dir.entry.ifd tag) }
 {
-    match find(file, ifd, tag) {
+    match find(dir, tag) {
         None => Ok(()),
         Some(_) => Err(Refusal::NotCarried(tag)),
     }
@@ -246,36 +242,36 @@ pub fn each(
 
 // A tag that holds one number, or its default.
 #[tactic(auto, using(crate::proofs::Outs::bind_refused), unfolding(crate::specs::Tag::one_reading))]
-pub fn one(
-    file: &[u8],
-    ifd: Ifd,
-    rule: Rule,
-    default: usize,
-    range: Range,
-) -> Result<usize, Refusal>
-    requires tested { Tested file.now ifd }
+pub fn one(dir: Directory, rule: Rule, default: usize, range: Range) -> Result<usize, Refusal>
     requires numeric { Numeric rule.kinds }
-    ensures { (out result ≡ run file.now (one_reading ifd rule default range)) × NumberIn range result }
+    ensures { (out result ≡ run dir.entry.file.now (one_reading dir.entry.ifd rule default range)) × NumberIn range result }
 {
-    let v = look_up(file, ifd, rule)?;
+    let v = look_up(dir, rule)?;
     if v.count == 0 {
         return judged(rule.tag, range, default);
     }
     judged(
         rule.tag,
         range,
-        number::value(file, ifd.order, v.size, v.place),
+        number::value(dir.file, dir.ifd.order, v.size, v.place),
     )
 }
 
 // A tag whose numbers must all be in a range.
 #[tactic(auto, using(crate::proofs::Outs::bind_refused), unfolding(crate::specs::Tag::all_reading))]
-pub fn all(file: &[u8], ifd: Ifd, rule: Rule, range: Range) -> Result<Values, Refusal>
-    requires tested { Tested file.now ifd }
+pub fn all(dir: Directory, rule: Rule, range: Range) -> Result<Values, Refusal>
     requires numeric { Numeric rule.kinds }
-    ensures { (out result ≡ run file.now (all_reading ifd rule range)) × ValuesIn (length file.now) rule result }
+    ensures { (out result ≡ run dir.entry.file.now (all_reading dir.entry.ifd rule range)) × ValuesIn (length dir.entry.file.now) rule result }
 {
-    let v = look_up(file, ifd, rule)?;
-    each(file, ifd.order, v.size, rule.tag, range, v.count, v.place)?;
+    let v = look_up(dir, rule)?;
+    each(
+        dir.file,
+        dir.ifd.order,
+        v.size,
+        rule.tag,
+        range,
+        v.count,
+        v.place,
+    )?;
     Ok(v)
 }

@@ -12,7 +12,7 @@ ghost use Rattle.directory.specs.Tree.{big_tiff_reading, tree_reading};
 
 use crate::refusal::Refusal;
 use crate::tag::{Kinds, Range, Rule, Values};
-use crate::{Ifd, Widths, names, shape, tag};
+use crate::{Directory, Ifd, Widths, names, shape, tag};
 use reading::number;
 use reading::number::Order;
 
@@ -39,13 +39,12 @@ pub struct Roots {
 }
 
 // NewSubfileType and SubIFDs: the children of a directory that is not the raw one.
-fn inspect(file: &[u8], ifd: Ifd) -> Result<Option<Children>, Refusal>
-    requires { Tested file.now ifd }
-    ensures { (look_out result ≡ run file.now (look_reading ifd)) × LookIn (length file.now) result }
+fn inspect(dir: Directory) -> Result<Option<Children>, Refusal>
+    ensures { (look_out result ≡ run dir.entry.file.now (look_reading dir.entry.ifd)) × LookIn (length dir.entry.file.now) result }
 {
     let subfile = Rule::optional(names::NEW_SUBFILE_TYPE, Kinds::Long, 1);
     let any = Range::new(0, 0, 0xFFFF_FFFF_FFFF_FFFF);
-    if tag::one(file, ifd, subfile, 0, any)? == 0 {
+    if tag::one(dir, subfile, 0, any)? == 0 {
         return Ok(None);
     }
     let rule = Rule {
@@ -55,7 +54,7 @@ fn inspect(file: &[u8], ifd: Ifd) -> Result<Option<Children>, Refusal>
         least: 1,
         most: 16,
     };
-    let children = tag::look_up(file, ifd, rule)?;
+    let children = tag::look_up(dir, rule)?;
     Ok(Some(Children {
         place: children.place,
         size: children.size,
@@ -78,21 +77,15 @@ fn backward(file: &[u8], version: Values, given: Values) -> usize
 }
 
 // DNGVersion, DNGBackwardVersion and refusal 7.
-fn check_version(file: &[u8], ifd: Ifd) -> Result<usize, Refusal>
-    requires { Tested file.now ifd }
-    ensures { out result ≡ run file.now (version_reading ifd) }
+fn check_version(dir: Directory) -> Result<usize, Refusal>
+    ensures { out result ≡ run dir.entry.file.now (version_reading dir.entry.ifd) }
 {
-    let version = tag::look_up(
-        file,
-        ifd,
-        Rule::required(names::DNG_VERSION, Kinds::Byte, 4),
-    )?;
+    let version = tag::look_up(dir, Rule::required(names::DNG_VERSION, Kinds::Byte, 4))?;
     let given = tag::look_up(
-        file,
-        ifd,
+        dir,
         Rule::optional(names::DNG_BACKWARD_VERSION, Kinds::Byte, 4),
     )?;
-    let n = backward(file, version, given);
+    let n = backward(dir.file, version, given);
     if 0x01070100 < n {
         Err(Refusal::Version)
     } else {
@@ -121,7 +114,7 @@ fn visit(
         return Err(Refusal::Tree);
     }
     let ifd = shape::ifd_at(file, order, widths, at)?;
-    match inspect(file, ifd)? {
+    match inspect(Directory { file, ifd })? {
         None => Ok(Walk::Raw(ifd)),
         Some(children) => visit_children(file, order, widths, depth - 1, children, visits - 1),
     }
@@ -160,15 +153,15 @@ fn visit_children(
 }
 
 // What stands at or below IFD 0: levels 1 to 3 and fifteen visits are left.
-fn walk_from(file: &[u8], first: Ifd) -> Result<Walk, Refusal>
-    requires { (length file.now ≤ 67108864) × Tested file.now first }
-    ensures { (walk_out result ≡ run file.now (walk_reading (length file.now) first)) × WalkIn file.now result }
+fn walk_from(dir: Directory) -> Result<Walk, Refusal>
+    requires { length dir.file.now ≤ 67108864 }
+    ensures { (walk_out result ≡ run dir.entry.file.now (walk_reading (length dir.entry.file.now) dir.entry.ifd)) × WalkIn dir.entry.file.now result }
 {
-    let order = first.order;
-    let widths = first.widths;
-    match inspect(file, first)? {
-        None => Ok(Walk::Raw(first)),
-        Some(children) => visit_children(file, order, widths, 3, children, 15),
+    let order = dir.ifd.order;
+    let widths = dir.ifd.widths;
+    match inspect(dir)? {
+        None => Ok(Walk::Raw(dir.ifd)),
+        Some(children) => visit_children(dir.file, order, widths, 3, children, 15),
     }
 }
 
@@ -178,8 +171,9 @@ fn root(file: &[u8], order: Order, widths: Widths, at: usize) -> Result<Roots, R
     ensures { (out result ≡ run file.now (root_reading widths (length file.now) order at)) × TreeIn file.now result }
 {
     let first = shape::ifd_at(file, order, widths, at)?;
-    check_version(file, first)?;
-    match walk_from(file, first)? {
+    let dir = Directory { file, ifd: first };
+    check_version(dir)?;
+    match walk_from(dir)? {
         Walk::Raw(raw) => Ok(Roots { first, raw }),
         Walk::Left(_) => Err(Refusal::Tree),
     }

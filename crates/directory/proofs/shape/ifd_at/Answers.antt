@@ -1,10 +1,11 @@
-use mathlib.Core.Path.{sym, ◌∙◌}
+use mathlib.Core.Path.{sym, ap, ◌∙◌}
 use Prim.Native.Nat.{◌+◌, ◌*◌, ◌≤◌, ◌<◌}
 use native.Mathlib.Omega.{arith}
 use lib.ListN.{length}
 use borrow.Author.Tests.{leb-true, leb-false}
 use Rattle.std.proofs.lemmas.Result.{err_from_is_err_and}
 use Rattle.directory.specs.Widths.{entry_width}
+use Rattle.directory.specs.Facts.Shape.{accepts}
 use Rattle.directory.proofs.Shapes.{ifd_outside, ifd_empty, ifd_cut, ifd_refused, ifd_is}
 use Rattle.directory.proofs.shape.ifd_at.Goals as goal
 use Rattle.directory.proofs.shape.ifd_at.Goals.{Else-not-inside, Else-not-many_inside}
@@ -52,5 +53,5 @@ returns c =
     let r = room (goal.at.returns c).Else-not-many_inside in
     let e = c.in_ok-check_entries.ensures in (
       ifd_is c.args.widths _ _ _ _ i _ c.value-count.ensures (omega arith) r _ e,
-      record { laid = c.requires.1; inside = omega (arith, r); next = _; shape = e },
+      record { laid = c.requires.1; inside = omega (arith, r); shape = ap accepts (sym e) },
     )

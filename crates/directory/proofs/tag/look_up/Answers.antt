@@ -2,6 +2,7 @@ use mathlib.Core.Path.{sym, subst, ◌∙◌}
 use Rattle.std.specs.Prelude.{Some, None}
 use lib.ListN.{length}
 use Rattle.reading.proofs.Reading.{run_answer}
+use Rattle.directory.proofs.Outs.{accepted}
 use Rattle.directory.proofs.Tags.{PlacedIn, found_placed, values_found_law}
 use Rattle.directory.proofs.tag.look_up.Goals as goal
 
@@ -9,7 +10,7 @@ pub tested-requires-clause-placed : goal.tested-requires-clause-placed
 unfolding PlacedIn
 tested-requires-clause-placed c =
     let a = c.args in
-    subst (PlacedIn a.ifd.widths a.file.now a.ifd.order) (sym c.find.ensures.0 ∙ c.in-Some.is) (found_placed _ _ _ _ _ _ _ _ c.requires.shape)
+    subst (PlacedIn a.dir.ifd.widths a.dir.file.now a.dir.ifd.order) (sym c.find.ensures.0 ∙ c.in-Some.is) (let s = accepted _ c.args.dir.tested.shape in found_placed _ _ _ _ _ _ _ s.0 s.1)
 
 pub returns-in-None : goal.returns-in-None
 returns-in-None c =

@@ -18,7 +18,7 @@ pub returns-in-None : goal.returns-in-None
 unfolding walk_reading
 returns-in-None c =
     let e = ap (λ (x : Option Children). look_out (Ok x)) (sym c.in-None.is) ∙ c.in_ok-inspect.ensures.0 in
-    (sym (bind_is _ _ _ raw_one e ∙ run_answer _ _), c.requires.1)
+    (sym (bind_is _ _ _ raw_one e ∙ run_answer _ _), c.args.dir.tested)
 
 pub returns-in-Some : goal.returns-in-Some
 unfolding walk_reading
