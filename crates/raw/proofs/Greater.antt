@@ -31,6 +31,6 @@ max_small a b m h k = by (int_lt b a)
 -- one more of a family is looked at: the greatest so far and the next as the code holds them
 pub fold_max : (f : ℕ → ℤ) (n i : ℕ) {a b : ℤ} (best next found : ℤ) (m : ℕ) → Folded f n i best × (nat_abs best ≤ m) → i < n →
     (next ≡ f i) × (nat_abs next ≤ m) → a ≡ best → b ≡ next → found ≡ int_max a b → Folded f n (i + 1) found × (nat_abs found ≤ m)
-fold_max f n i best next found m s h e p q g =
-    let k : found ≡ int_max best next = g ∙ ap (λ (z : ℤ). int_max z _) p ∙ ap (λ (z : ℤ). int_max best z) q in
+fold_max f n i {a} {b} best next found m s h e p q g =
+    let k : found ≡ int_max best next = g ∙ ap (λ (z : ℤ). int_max z b) p ∙ ap (λ (z : ℤ). int_max best z) q in
     (fold_step f n i best next found s.0 h e.0 (k ∙ greater_is best next), rw k (max_small best next m s.1 e.1))

@@ -14,7 +14,7 @@ returns-in_err-roots c =
 pub returns-in_err-raw : goal.returns-in_err-raw
 unfolding front_reading
 returns-in_err-raw c =
-    let p = err_from_is_err_and c.from_residual.result c.from_residual.ensures.1 in
+    let p = err_from_is_err_and c.from_residual-in_err-raw.result c.from_residual-in_err-raw.ensures.1 in
     rw (p.1, p.2) (bind_refused _ _ _ _ _ c.in_err-raw.ensures.0 ∙ sym (bind_is _ _ _ _ c.in_ok-roots.ensures.0), tt)
 
 pub returns : goal.returns

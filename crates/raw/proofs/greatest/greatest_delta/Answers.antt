@@ -1,4 +1,4 @@
-use mathlib.Core.Path.{◌≡◌, sym}
+use mathlib.Core.Path.{◌≡◌, refl, sym}
 use Prim.Native.Nat.{ℕ, ◌+◌, ◌*◌}
 use native.Mathlib.Nat.{mul-zero}
 use native.Mathlib.Omega.{arith}
@@ -44,7 +44,7 @@ loop-k-preserved c =
     let n = c.delta_at in
     let f : SFits w64 c.max-best.result = search rules in
     let k : SFits w64 n.result = search rules in
-    rw (to_z-of_z f) (fold_max _ _ l.k _ n.result _ _ l.invariant c.loop-k-test.true (n.ensures.value, n.ensures.result_bound) l.best-is (to_z-of_z k)
+    rw (to_z-of_z f) (fold_max _ _ l.k _ n.result _ _ l.invariant c.loop-k-test.true (n.ensures.value, n.ensures.result_bound) refl (to_z-of_z k)
     c.max-best.ensures.value)
 
 pub returns-clause-value : goal.returns-clause-value

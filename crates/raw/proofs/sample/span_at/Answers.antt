@@ -1,3 +1,4 @@
+use mathlib.Core.Path.{refl}
 use Rattle.raw.specs.Facts.Spans.{span_at}
 use lib.ListN.{get_or}
 use lib.IntN.{pos}
