@@ -279,15 +279,7 @@ fn halved_in(
     requires { Viewed file.now view × (view.size.samples ≡ 1) × PatternIn half.pattern }
     ensures { (q : Viewed file.now view) → window_with result out.new ≡ halved_of file.now blocks.top blocks.left blocks.height blocks.width out.old q.file (Out.is half) }
 {
-    window::test_window(
-        whole_blocks(view.size),
-        3,
-        blocks.top,
-        blocks.left,
-        blocks.height,
-        blocks.width,
-        out.len(),
-    )?;
+    window::test_window(whole_blocks(view.size), 3, blocks, out.len())?;
     fill_blocks(file, view, half, blocks, out);
     Ok(())
 }
