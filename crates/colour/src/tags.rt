@@ -2,7 +2,6 @@
 ghost use Rattle.std.specs.Prelude.{◌≡◌, true};
 ghost use Rattle.directory.specs.Facts.Out.{out};
 ghost use Rattle.reading.specs.Reading.{run};
-ghost use Rattle.directory.specs.Facts.Shape.{Tested};
 ghost use Rattle.colour.specs.Facts.Value.{TripleIn};
 ghost use Rattle.colour.specs.Tags.{neutral_kind, colour_of, matrix_reading, neutral_reading, colour_reading};
 ghost use Rattle.colour.specs.Facts.Tags.{MatrixIn, ColourIn};
@@ -12,7 +11,7 @@ use crate::{Colour, value};
 use directory::entry::Kind;
 use directory::refusal::Refusal;
 use directory::tag::{Kinds, Rule};
-use directory::{Ifd, names, tag};
+use directory::{Directory, names, tag};
 use reading::fraction::FractionKind;
 
 #[derive(Clone, Copy)]
@@ -23,9 +22,8 @@ pub struct Matrix {
 }
 
 // ForwardMatrix1.
-fn matrix_of(file: &[u8], ifd: Ifd) -> Result<Matrix, Refusal>
-    requires { Tested file.now ifd }
-    ensures { (out result ≡ run file.now (matrix_reading ifd)) × MatrixIn result }
+fn matrix_of(dir: Directory) -> Result<Matrix, Refusal>
+    ensures { (out result ≡ run dir.entry.file.now (matrix_reading dir.entry.ifd)) × MatrixIn result }
 {
     let rule = Rule {
         tag: names::FORWARD_MATRIX_1,
@@ -34,14 +32,14 @@ fn matrix_of(file: &[u8], ifd: Ifd) -> Result<Matrix, Refusal>
         least: 9,
         most: 9,
     };
-    let v = tag::look_up(file, ifd, rule)?;
+    let v = tag::look_up(dir, rule)?;
     let place = v.place;
-    let order = ifd.order;
+    let order = dir.ifd.order;
     let kind = FractionKind::SignedRational;
     let detail = names::FORWARD_MATRIX_1;
-    let x = value::triple_at(file, order, kind, 8, detail, false, place)?;
-    let y = value::triple_at(file, order, kind, 8, detail, false, place + 24)?;
-    let z = value::triple_at(file, order, kind, 8, detail, false, place + 48)?;
+    let x = value::triple_at(dir.file, order, kind, 8, detail, false, place)?;
+    let y = value::triple_at(dir.file, order, kind, 8, detail, false, place + 24)?;
+    let z = value::triple_at(dir.file, order, kind, 8, detail, false, place + 48)?;
     Ok(Matrix { x, y, z })
 }
 
@@ -56,9 +54,8 @@ fn neutral_kind(kind: Kind) -> FractionKind
 }
 
 // AsShotNeutral.
-fn neutral_of(file: &[u8], ifd: Ifd) -> Result<Triple, Refusal>
-    requires { Tested file.now ifd }
-    ensures { (out result ≡ run file.now (neutral_reading ifd)) × TripleIn true result }
+fn neutral_of(dir: Directory) -> Result<Triple, Refusal>
+    ensures { (out result ≡ run dir.entry.file.now (neutral_reading dir.entry.ifd)) × TripleIn true result }
 {
     let rule = Rule {
         tag: names::AS_SHOT_NEUTRAL,
@@ -67,11 +64,11 @@ fn neutral_of(file: &[u8], ifd: Ifd) -> Result<Triple, Refusal>
         least: 3,
         most: 3,
     };
-    let v = tag::look_up(file, ifd, rule)?;
-    let order = ifd.order;
+    let v = tag::look_up(dir, rule)?;
+    let order = dir.ifd.order;
     let kind = neutral_kind(v.kind);
     let tag = names::AS_SHOT_NEUTRAL;
-    value::triple_at(file, order, kind, v.size, tag, true, v.place)
+    value::triple_at(dir.file, order, kind, v.size, tag, true, v.place)
 }
 
 fn colour_from(m: Matrix, n: Triple) -> Colour
@@ -94,14 +91,13 @@ fn colour_from(m: Matrix, n: Triple) -> Colour
 }
 
 // The colour tags, in order of test.
-pub fn colour_of(file: &[u8], ifd: Ifd) -> Result<Colour, Refusal>
-    requires { Tested file.now ifd }
-    ensures { (out result ≡ run file.now (colour_reading ifd)) × ColourIn result }
+pub fn colour_of(dir: Directory) -> Result<Colour, Refusal>
+    ensures { (out result ≡ run dir.entry.file.now (colour_reading dir.entry.ifd)) × ColourIn result }
 {
-    tag::not_carried(file, ifd, names::CAMERA_CALIBRATION_1)?;
-    tag::not_carried(file, ifd, names::ANALOG_BALANCE)?;
-    tag::not_carried(file, ifd, names::FORWARD_MATRIX_2)?;
-    let matrix = matrix_of(file, ifd)?;
-    let neutral = neutral_of(file, ifd)?;
+    tag::not_carried(dir, names::CAMERA_CALIBRATION_1)?;
+    tag::not_carried(dir, names::ANALOG_BALANCE)?;
+    tag::not_carried(dir, names::FORWARD_MATRIX_2)?;
+    let matrix = matrix_of(dir)?;
+    let neutral = neutral_of(dir)?;
     Ok(colour_from(matrix, neutral))
 }

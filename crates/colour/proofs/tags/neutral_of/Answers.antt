@@ -21,13 +21,13 @@ returns-in_err-v c =
 
 pub triple_at-requires : goal.triple_at-requires
 triple_at-requires c =
-    let l = neutral_room c.args.file.now _ c.in_ok-v.ensures.1 in (l.0, l.1 ∙ ap width_of (sym c.neutral_kind-kind.ensures))
+    let l = neutral_room c.args.dir.file.now _ c.in_ok-v.ensures.1 in (l.0, l.1 ∙ ap width_of (sym c.neutral_kind-kind.ensures))
 
 pub returns : goal.returns
 unfolding neutral_reading
 returns c =
     let a = c.args in
     let v = c.in_ok-v.v in
-    let k = ap (λ (k : FractionKind). run a.file.now (triple_reading a.ifd.order k v.size as_shot_neutral true v.place))
+    let k = ap (λ (k : FractionKind). run a.dir.file.now (triple_reading a.dir.ifd.order k v.size as_shot_neutral true v.place))
     c.neutral_kind-kind.ensures in
     (c.triple_at.ensures.0 ∙ k ∙ sym (bind_is _ _ _ _ c.in_ok-v.ensures.0), c.triple_at.ensures.1)
