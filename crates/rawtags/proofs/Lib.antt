@@ -1,3 +1,4 @@
+pub mod Chain
 pub mod Strip
 pub mod AreaLaws
 pub mod RepeatLaws

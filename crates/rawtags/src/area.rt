@@ -7,8 +7,8 @@ ghost use Rattle.rawtags.specs.Facts.Frame.{DimensionsWithin};
 ghost use Rattle.rawtags.specs.Area.{area_of, area_reading};
 ghost use Rattle.rawtags.specs.Facts.Area.{AreaIn};
 
-use directory::refusal::Refusal;
 use crate::frame::Dimensions;
+use directory::refusal::Refusal;
 use directory::tag::{Kinds, Rule};
 use directory::{Ifd, names, tag};
 use levels::active::{ActiveColumn, ActiveRow};
@@ -46,19 +46,19 @@ impl Area {
     }
 }
 
+#[tactic(auto, unfolding(crate::specs::Area::area_of, reading::specs::Reading::pick))]
 fn tested_area(frame: Dimensions, area: Area) -> Result<Area, Refusal>
     ensures { (out result ≡ area_of frame area) × AreaIn frame result }
 {
-    if area.top < area.bottom {
-        if area.bottom <= frame.length {
-            if area.left < area.right {
-                if area.right <= frame.width {
-                    return Ok(area);
-                }
-            }
-        }
+    if area.top < area.bottom
+        && area.bottom <= frame.length
+        && area.left < area.right
+        && area.right <= frame.width
+    {
+        Ok(area)
+    } else {
+        Err(Refusal::Illegal(names::ACTIVE_AREA))
     }
-    Err(Refusal::Illegal(names::ACTIVE_AREA))
 }
 
 pub fn area_of(file: &[u8], ifd: Ifd, frame: Dimensions) -> Result<Area, Refusal>
@@ -66,16 +66,9 @@ pub fn area_of(file: &[u8], ifd: Ifd, frame: Dimensions) -> Result<Area, Refusal
     requires dimensions_in { DimensionsWithin frame }
     ensures { (out result ≡ run file.now (area_reading ifd frame)) × AreaIn frame result }
 {
-    let rule = Rule {
-        tag: names::ACTIVE_AREA,
-        kinds: Kinds::ShortOrLong,
-        required: false,
-        least: 4,
-        most: 4,
-    };
+    let rule = Rule::optional(names::ACTIVE_AREA, Kinds::ShortOrLong, 4);
     let v = tag::look_up(file, ifd, rule)?;
-    let count = v.count;
-    if count == 0 {
+    if v.count == 0 {
         return Ok(Area {
             top: 0,
             left: 0,

@@ -9,29 +9,24 @@ ghost use Rattle.rawtags.specs.Facts.Repeat.{RepeatWithin};
 ghost use Rattle.rawtags.specs.Black.{kind_for, blacks_test, black_rule, black_reading, delta_rule, delta_reading};
 
 use crate::repeat::Repeat;
-use directory::tag::{Kinds, Rule, Values};
+use directory::entry::Kind;
 use directory::refusal::Refusal;
-use directory::{Ifd, entry, names, tag};
+use directory::tag::{Kinds, Rule, Values};
+use directory::{Ifd, names, tag};
 use levels::black;
 use levels::black::{BlackFault, BlackKind};
 use reading::number::Order;
 
 // The type of a black level by its entry's.
+#[tactic(auto, unfolding(crate::specs::Black::kind_for, reading::specs::Reading::pick))]
 pub fn kind_for(values: Values) -> BlackKind
     ensures { result ≡ kind_for values.kind }
 {
-    let kind = values.kind;
-    let t = entry::code(kind);
-    if t == 3 {
-        return BlackKind::Short;
-    }
-    if t == 4 {
-        return BlackKind::Long;
-    }
-    if t == 16 {
-        BlackKind::Long8
-    } else {
-        BlackKind::Rational
+    match values.kind {
+        Kind::Short => BlackKind::Short,
+        Kind::Long => BlackKind::Long,
+        Kind::Long8 => BlackKind::Long8,
+        _ => BlackKind::Rational,
     }
 }
 
@@ -63,21 +58,18 @@ pub fn black_of(file: &[u8], ifd: Ifd, repeat: Repeat, samples: usize) -> Result
     ensures values_in { ValuesIn (length file.now) (black_rule repeat samples) result }
 {
     let cells = repeat.rows * repeat.columns * samples;
-    let rule = Rule {
-        tag: names::BLACK_LEVEL,
-        kinds: Kinds::ShortLongOrRational,
-        required: false,
-        least: cells,
-        most: cells,
-    };
+    let rule = Rule::optional(names::BLACK_LEVEL, Kinds::ShortLongOrRational, cells);
     let v = tag::look_up(file, ifd, rule)?;
-    let size = v.size;
-    let place = v.place;
-    let count = v.count;
-    let order = ifd.order;
-    let kind = kind_for(v);
-    check_blacks(file, order, names::BLACK_LEVEL, kind, size, count, place)?;
-Ok(v)
+    check_blacks(
+        file,
+        ifd.order,
+        names::BLACK_LEVEL,
+        kind_for(v),
+        v.size,
+        v.count,
+        v.place,
+    )?;
+    Ok(v)
 }
 
 // BlackLevelDeltaH or BlackLevelDeltaV.
@@ -86,26 +78,15 @@ pub fn delta_of(file: &[u8], ifd: Ifd, tag: usize, many: usize) -> Result<Values
     ensures result_value { out result ≡ run file.now (delta_reading ifd tag many) }
     ensures values_in { ValuesIn (length file.now) (delta_rule tag many) result }
 {
-    let rule = Rule {
-        tag,
-        kinds: Kinds::SignedRational,
-        required: false,
-        least: many,
-        most: many,
-    };
-    let v = tag::look_up(file, ifd, rule)?;
-    let size = v.size;
-    let place = v.place;
-    let count = v.count;
-    let order = ifd.order;
+    let v = tag::look_up(file, ifd, Rule::optional(tag, Kinds::SignedRational, many))?;
     check_blacks(
         file,
-        order,
+        ifd.order,
         tag,
         BlackKind::SignedRational,
-        size,
-        count,
-        place,
+        v.size,
+        v.count,
+        v.place,
     )?;
-Ok(v)
+    Ok(v)
 }

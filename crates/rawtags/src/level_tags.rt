@@ -6,9 +6,9 @@ ghost use Rattle.directory.specs.Facts.Shape.{Tested};
 ghost use Rattle.rawtags.specs.LevelTags.{level_tags_reading};
 ghost use Rattle.rawtags.specs.Facts.LevelTags.{LevelTagsIn};
 
-use directory::refusal::Refusal;
 use crate::repeat::Repeat;
 use crate::{black, repeat, white};
+use directory::refusal::Refusal;
 use directory::tag::Values;
 use directory::{Ifd, names};
 

@@ -8,10 +8,10 @@ ghost use Rattle.directory.specs.Facts.Shape.{Tested};
 ghost use Rattle.rawtags.specs.Raw.{tags_reading};
 ghost use Rattle.rawtags.specs.Facts.Raw.{TagsIn};
 
-use directory::refusal::Refusal;
 use area::Area;
 use crop::Crop;
 use directory::Ifd;
+use directory::refusal::Refusal;
 use directory::tag::Values;
 use frame::Dimensions;
 use layout::Layout;

@@ -6,8 +6,8 @@ ghost use Rattle.directory.specs.Facts.Shape.{Tested};
 ghost use Rattle.directory.specs.Facts.Tag.{ValuesIn};
 ghost use Rattle.rawtags.specs.Lists.{list_rule, list_tag_reading};
 
-use directory::tag::{Kinds, Rule, Values};
 use directory::refusal::Refusal;
+use directory::tag::{Kinds, Rule, Values};
 use directory::{Ifd, names, tag};
 
 pub fn list_of(file: &[u8], ifd: Ifd) -> Result<Values, Refusal>

@@ -11,8 +11,8 @@ ghost use Rattle.rawtags.specs.Facts.Strips.{StripsIn};
 
 use crate::frame::Dimensions;
 use crate::layout::Layout;
-use directory::tag::{Kinds, Rule, Values};
 use directory::refusal::Refusal;
+use directory::tag::{Kinds, Rule, Values};
 use directory::{Ifd, names, tag};
 use reading::number;
 use reading::number::Order;
@@ -46,7 +46,7 @@ fn check_strips(
     let mut q = counts.place;
     let mut rest = lines;
     for _ in 0..count {
-        let here = number::smaller(rows, rest);
+        let here = rows.min(rest);
         let bytes = number::value(file, order, breadth, q);
         if bytes != here * row {
             return Err(Refusal::Illegal(names::STRIP_BYTE_COUNTS));
@@ -63,7 +63,12 @@ fn check_strips(
 }
 
 // StripOffsets and StripByteCounts: where the strips' offsets stand.
-pub fn strips_of(file: &[u8], ifd: Ifd, frame: Dimensions, layout: Layout) -> Result<Values, Refusal>
+pub fn strips_of(
+    file: &[u8],
+    ifd: Ifd,
+    frame: Dimensions,
+    layout: Layout,
+) -> Result<Values, Refusal>
     requires tested { Tested file.now ifd }
     requires dimensions_in { DimensionsWithin frame × LayoutWithin layout }
     ensures result_value { out result ≡ run file.now (strips_reading (length file.now) ifd frame layout) }
@@ -72,23 +77,10 @@ pub fn strips_of(file: &[u8], ifd: Ifd, frame: Dimensions, layout: Layout) -> Re
     let rows = layout.rows;
     let count = (frame.length - 1) / rows + 1;
     let row = frame.width * frame.samples * layout.bytes;
-    let offsets_rule = Rule {
-        tag: names::STRIP_OFFSETS,
-        kinds: Kinds::ShortOrLong,
-        required: true,
-        least: count,
-        most: count,
-    };
+    let offsets_rule = Rule::required(names::STRIP_OFFSETS, Kinds::ShortOrLong, count);
     let offsets = tag::look_up(file, ifd, offsets_rule)?;
-    let counts_rule = Rule {
-        tag: names::STRIP_BYTE_COUNTS,
-        kinds: Kinds::ShortOrLong,
-        required: true,
-        least: count,
-        most: count,
-    };
+    let counts_rule = Rule::required(names::STRIP_BYTE_COUNTS, Kinds::ShortOrLong, count);
     let counts = tag::look_up(file, ifd, counts_rule)?;
-    let order = ifd.order;
     let at = Run {
         place: offsets.place,
         size: offsets.size,
@@ -97,6 +89,6 @@ pub fn strips_of(file: &[u8], ifd: Ifd, frame: Dimensions, layout: Layout) -> Re
         place: counts.place,
         size: counts.size,
     };
-    check_strips(file, order, at, long, count, rows, frame.length, row)?;
-Ok(offsets)
+    check_strips(file, ifd.order, at, long, count, rows, frame.length, row)?;
+    Ok(offsets)
 }
