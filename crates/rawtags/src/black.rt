@@ -51,6 +51,7 @@ fn check_blacks(
 }
 
 // BlackLevel.
+#[tactic(auto, using(crate::proofs::Chain::chain), unfolding(crate::specs::Black::black_reading))]
 pub fn black_of(file: &[u8], ifd: Ifd, repeat: Repeat, samples: usize) -> Result<Values, Refusal>
     requires tested { Tested file.now ifd }
     requires repeat_in { RepeatWithin repeat × (samples ≤ 3) }
@@ -73,6 +74,7 @@ pub fn black_of(file: &[u8], ifd: Ifd, repeat: Repeat, samples: usize) -> Result
 }
 
 // BlackLevelDeltaH or BlackLevelDeltaV.
+#[tactic(auto, using(crate::proofs::Chain::chain), unfolding(crate::specs::Black::delta_reading))]
 pub fn delta_of(file: &[u8], ifd: Ifd, tag: usize, many: usize) -> Result<Values, Refusal>
     requires { Tested file.now ifd }
     ensures result_value { out result ≡ run file.now (delta_reading ifd tag many) }

@@ -41,6 +41,7 @@ fn tested_crop(origin: Lengths, size: Lengths, rows: usize, columns: usize) -> R
 }
 
 // Of so many active rows and columns.
+#[tactic(auto, using(crate::proofs::Chain::chain), unfolding(crate::specs::Crop::crop_reading))]
 pub fn crop_of(file: &[u8], ifd: Ifd, rows: usize, columns: usize) -> Result<Crop, Refusal>
     requires { Tested file.now ifd }
     ensures { (out result ≡ run file.now (crop_reading ifd rows columns)) × CropIn rows columns result }

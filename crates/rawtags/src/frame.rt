@@ -56,6 +56,7 @@ fn dimension(file: &[u8], ifd: Ifd, tag: usize) -> Result<usize, Refusal>
     tag::one(file, ifd, rule, 0, Range::new(1, 1, 16384))
 }
 
+#[tactic(auto, using(crate::proofs::Chain::chain), unfolding(crate::specs::Frame::frame_reading))]
 pub fn frame_of(file: &[u8], ifd: Ifd) -> Result<Dimensions, Refusal>
     requires { Tested file.now ifd }
     ensures { (out result ≡ run file.now (frame_reading ifd)) × DimensionsIn result }

@@ -100,6 +100,7 @@ fn strip_rows(file: &[u8], ifd: Ifd) -> Result<usize, Refusal>
     )
 }
 
+#[tactic(auto, using(crate::proofs::Chain::chain), unfolding(crate::specs::Layout::layout_reading))]
 pub fn layout_of(file: &[u8], ifd: Ifd, samples: usize) -> Result<Layout, Refusal>
     requires tested { Tested file.now ifd }
     requires le_samples { 1 ≤ samples }

@@ -22,6 +22,7 @@ pub struct LevelTags {
     pub white: Values,
 }
 
+#[tactic(auto, using(crate::proofs::Chain::chain), unfolding(crate::specs::LevelTags::level_tags_reading))]
 pub fn level_tags_of(
     file: &[u8],
     ifd: Ifd,

@@ -10,6 +10,7 @@ use directory::refusal::Refusal;
 use directory::tag::{Kinds, Rule, Values};
 use directory::{Ifd, names, tag};
 
+#[tactic(auto, using(crate::proofs::Chain::chain), unfolding(crate::specs::Lists::list_tag_reading))]
 pub fn list_of(file: &[u8], ifd: Ifd) -> Result<Values, Refusal>
     requires { Tested file.now ifd }
     ensures { (out result ≡ run file.now (list_tag_reading ifd)) × ValuesIn (length file.now) list_rule result }

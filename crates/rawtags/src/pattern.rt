@@ -1,14 +1,16 @@
 // The mosaic's pattern: CFARepeatPatternDim, CFAPattern, CFAPlaneColor, CFALayout.
-ghost use Rattle.std.specs.Prelude.{◌≡◌, ◌≤◌};
+ghost use Rattle.std.specs.Prelude.{◌≡◌, ◌+◌, ◌≤◌, ◌<◌, length};
 ghost use Rattle.reading.specs.Reading.{run};
 ghost use Rattle.directory.specs.Facts.Out.{out, passed};
 ghost use Rattle.directory.specs.Facts.Shape.{Tested};
-ghost use Rattle.rawtags.specs.Pattern.{one_of, times_of, first_of, last_of, places_of, repeat_dim_reading, cfa_pattern_reading, plane_color_of, plane_color_reading, cfa_layout_reading, pattern_reading};
+ghost use Rattle.rawtags.specs.Pattern.{one_of, times_of, first_of, last_of, places_of, four_colours_reading, plane_color_of, three_colours_reading};
+ghost use Rattle.rawtags.specs.Pattern.{repeat_dim_reading, cfa_pattern_reading, plane_color_reading, cfa_layout_reading, pattern_reading};
 
 use directory::refusal::Refusal;
 use directory::tag::{Kinds, Range, Rule, Values};
 use directory::{Ifd, names, tag};
 use reading::number;
+use reading::number::Order;
 
 // The places of a block's red, its two greens and its blue: 0 to 3, row by row.
 #[derive(Clone, Copy)]
@@ -92,22 +94,28 @@ fn repeat_dim_of(file: &[u8], ifd: Ifd) -> Result<Values, Refusal>
     tag::all(file, ifd, rule, Range::new(0, 2, 2))
 }
 
-// CFAPattern.
-fn cfa_pattern_of(file: &[u8], ifd: Ifd) -> Result<Pattern, Refusal>
-    requires { Tested file.now ifd }
-    ensures { out result ≡ run file.now (cfa_pattern_reading ifd) }
+// Four BYTEs, the colours of a block row by row.
+#[tactic(auto, using(reading::proofs::Reading::running), unfolding(crate::specs::Pattern::four_colours_reading))]
+fn four_colours(file: &[u8], order: Order, v: Values) -> Result<Pattern, Refusal>
+    requires { v.place + 4 ≤ length file.now }
+    ensures { out result ≡ run file.now (four_colours_reading order v) }
 {
-    let v = tag::look_up(
-        file,
-        ifd,
-        Rule::required(names::CFA_PATTERN, Kinds::Byte, 4),
-    )?;
-    let order = ifd.order;
     let a = number::byte(file, order, v.place) as usize;
     let b = number::byte(file, order, v.place + 1) as usize;
     let c = number::byte(file, order, v.place + 2) as usize;
     let d = number::byte(file, order, v.place + 3) as usize;
     places(a, b, c, d)
+}
+
+// CFAPattern.
+#[tactic(auto, using(crate::proofs::Chain::chain), unfolding(crate::specs::Pattern::cfa_pattern_reading))]
+fn cfa_pattern_of(file: &[u8], ifd: Ifd) -> Result<Pattern, Refusal>
+    requires { Tested file.now ifd }
+    ensures { out result ≡ run file.now (cfa_pattern_reading ifd) }
+{
+    let rule = Rule::required(names::CFA_PATTERN, Kinds::Byte, 4);
+    let v = tag::look_up(file, ifd, rule)?;
+    four_colours(file, ifd.order, v)
 }
 
 // 8 of three planes' colours that are not 0, 1, 2.
@@ -122,24 +130,30 @@ fn plane_color(a: usize, b: usize, c: usize) -> Result<(), Refusal>
     }
 }
 
-// CFAPlaneColor.
-fn plane_color_of(file: &[u8], ifd: Ifd) -> Result<(), Refusal>
-    requires { Tested file.now ifd }
-    ensures { passed result ≡ run file.now (plane_color_reading ifd) }
+// Three BYTEs, the planes' colours, or 0, 1, 2.
+#[tactic(auto, using(reading::proofs::Reading::running), unfolding(crate::specs::Pattern::three_colours_reading))]
+fn three_colours(file: &[u8], order: Order, v: Values) -> Result<(), Refusal>
+    requires { 0 < v.count → v.place + 3 ≤ length file.now }
+    ensures { passed result ≡ run file.now (three_colours_reading order v) }
 {
-    let v = tag::look_up(
-        file,
-        ifd,
-        Rule::optional(names::CFA_PLANE_COLOR, Kinds::Byte, 3),
-    )?;
     if v.count == 0 {
         return plane_color(0, 1, 2);
     }
-    let order = ifd.order;
     let a = number::byte(file, order, v.place) as usize;
     let b = number::byte(file, order, v.place + 1) as usize;
     let c = number::byte(file, order, v.place + 2) as usize;
     plane_color(a, b, c)
+}
+
+// CFAPlaneColor.
+#[tactic(auto, using(crate::proofs::Chain::chain), unfolding(crate::specs::Pattern::plane_color_reading))]
+fn plane_color_of(file: &[u8], ifd: Ifd) -> Result<(), Refusal>
+    requires { Tested file.now ifd }
+    ensures { passed result ≡ run file.now (plane_color_reading ifd) }
+{
+    let rule = Rule::optional(names::CFA_PLANE_COLOR, Kinds::Byte, 3);
+    let v = tag::look_up(file, ifd, rule)?;
+    three_colours(file, ifd.order, v)
 }
 
 // CFALayout.
@@ -152,6 +166,7 @@ fn cfa_layout_of(file: &[u8], ifd: Ifd) -> Result<usize, Refusal>
 }
 
 // The four tags of the raw IFD, in order of test.
+#[tactic(auto, using(crate::proofs::Chain::chain), unfolding(crate::specs::Pattern::pattern_reading))]
 pub fn pattern_of(file: &[u8], ifd: Ifd) -> Result<Pattern, Refusal>
     requires { Tested file.now ifd }
     ensures { out result ≡ run file.now (pattern_reading ifd) }

@@ -63,6 +63,7 @@ fn check_strips(
 }
 
 // StripOffsets and StripByteCounts: where the strips' offsets stand.
+#[tactic(auto, using(crate::proofs::Chain::chain), unfolding(crate::specs::Strips::strips_reading))]
 pub fn strips_of(
     file: &[u8],
     ifd: Ifd,

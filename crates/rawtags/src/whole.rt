@@ -1,11 +1,11 @@
 // Values that must be whole numbers: SHORT, LONG or RATIONAL.
-ghost use Rattle.std.specs.Prelude.{◌≡◌, ◌+◌, ◌≤◌, length};
+ghost use Rattle.std.specs.Prelude.{◌≡◌, ◌+◌, ◌*◌, ◌≤◌, ◌<◌, length};
 ghost use Rattle.reading.specs.Facts.Number.{Wide};
 ghost use Rattle.reading.specs.Reading.{run};
 ghost use Rattle.directory.specs.Entry.{kind_width};
 ghost use Rattle.directory.specs.Facts.Out.{out};
 ghost use Rattle.directory.specs.Facts.Shape.{Tested};
-ghost use Rattle.rawtags.specs.Whole.{whole_number_of, whole_number_reading, lengths_reading};
+ghost use Rattle.rawtags.specs.Whole.{whole_number_of, whole_number_reading, both_reading, lengths_reading};
 
 use directory::entry::Kind;
 use directory::refusal::Refusal;
@@ -57,7 +57,31 @@ fn whole_number_at(
     }
 }
 
+// Both values, or the default.
+#[tactic(auto, using(reading::proofs::Reading::running), unfolding(crate::specs::Whole::both_reading))]
+fn both_of(
+    file: &[u8],
+    order: Order,
+    tag: usize,
+    default: Lengths,
+    v: Values,
+) -> Result<Lengths, Refusal>
+    requires { 0 < v.count → (v.place + v.size * 2 ≤ length file.now) × Wide v.size × (v.size ≡ kind_width v.kind) }
+    ensures { out result ≡ run file.now (both_reading order tag default v) }
+{
+    if v.count == 0 {
+        return Ok(default);
+    }
+    let horizontal = whole_number_at(file, order, tag, v, v.place)?;
+    let vertical = whole_number_at(file, order, tag, v, v.place + v.size)?;
+    Ok(Lengths {
+        horizontal,
+        vertical,
+    })
+}
+
 // A tag with two values, or its default.
+#[tactic(auto, using(crate::proofs::Chain::chain), unfolding(crate::specs::Whole::lengths_reading))]
 pub fn lengths_of(file: &[u8], ifd: Ifd, tag: usize, default: Lengths) -> Result<Lengths, Refusal>
     requires { Tested file.now ifd }
     ensures { out result ≡ run file.now (lengths_reading ifd tag default) }
@@ -67,13 +91,5 @@ pub fn lengths_of(file: &[u8], ifd: Ifd, tag: usize, default: Lengths) -> Result
         ifd,
         Rule::optional(tag, Kinds::ShortLongOrRational, 2),
     )?;
-    if v.count == 0 {
-        return Ok(default);
-    }
-    let horizontal = whole_number_at(file, ifd.order, tag, v, v.place)?;
-    let vertical = whole_number_at(file, ifd.order, tag, v, v.place + v.size)?;
-    Ok(Lengths {
-        horizontal,
-        vertical,
-    })
+    both_of(file, ifd.order, tag, default, v)
 }

@@ -20,4 +20,4 @@ returns-in_err-samples c = (exit _ _ _ _ c.from_residual-in_err-samples.ensures.
 pub returns : goal.returns
 unfolding frame_reading
 returns c =
-  (on _ _ _ c.in_ok-width.ensures.0 (on _ _ _ c.in_ok-length.ensures.0 (on _ _ _ c.in_ok-samples.ensures.0 (end _ _))), search rules)
+    (on _ _ _ c.in_ok-width.ensures.0 (on _ _ _ c.in_ok-length.ensures.0 (on _ _ _ c.in_ok-samples.ensures.0 (end _ _))), search rules)
