@@ -102,6 +102,7 @@ fn allows(kinds: Kinds, kind: Kind) -> bool
     }
 }
 
+#[tactic(auto, unfolding(crate::specs::Tag::absent_of, reading::specs::Reading::pick))]
 fn absent(rule: Rule) -> Result<Values, Refusal>
     ensures { (out result ≡ absent_of rule) × ((size : ℕ) → ValuesIn size rule result) }
 {
@@ -176,6 +177,7 @@ pub fn look_up(file: &[u8], ifd: Ifd, rule: Rule) -> Result<Values, Refusal>
 }
 
 // A tag that must not be there.
+#[tactic(auto, using(reading::proofs::Reading::run_then, reading::proofs::Reading::run_answer), unfolding(crate::specs::Tag::not_carried))]
 pub fn not_carried(file: &[u8], ifd: Ifd, tag: usize) -> Result<(), Refusal>
     requires { Tested file.now ifd }
     ensures { passed result ≡ run file.now (not_carried ifd tag) }
@@ -189,6 +191,7 @@ pub fn not_carried(file: &[u8], ifd: Ifd, tag: usize) -> Result<(), Refusal>
 }
 
 // A number that must be in a range.
+#[tactic(auto, unfolding(crate::specs::Tag::judged_of, crate::specs::Tag::range_fault, reading::specs::Reading::pick))]
 pub fn judged(tag: usize, range: Range, v: usize) -> Result<usize, Refusal>
     ensures { (out result ≡ judged_of tag range v) × NumberIn range result }
 {
@@ -226,6 +229,7 @@ pub fn each(
 }
 
 // A tag that holds one number, or its default.
+#[tactic(auto, using(crate::proofs::Outs::bind_refused), unfolding(crate::specs::Tag::one_reading))]
 pub fn one(file: &[u8], ifd: Ifd, rule: Rule, default: usize, range: Range) -> Result<usize, Refusal>
     requires tested { Tested file.now ifd }
     requires numeric { Numeric rule.kinds }
@@ -243,6 +247,7 @@ pub fn one(file: &[u8], ifd: Ifd, rule: Rule, default: usize, range: Range) -> R
 }
 
 // A tag whose numbers must all be in a range.
+#[tactic(auto, using(crate::proofs::Outs::bind_refused), unfolding(crate::specs::Tag::all_reading))]
 pub fn all(file: &[u8], ifd: Ifd, rule: Rule, range: Range) -> Result<Values, Refusal>
     requires tested { Tested file.now ifd }
     requires numeric { Numeric rule.kinds }
