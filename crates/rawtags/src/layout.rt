@@ -1,12 +1,13 @@
 // How the samples stand: BitsPerSample, Compression, PlanarConfiguration, SampleFormat, RowInterleaveFactor,
 // ColumnInterleaveFactor, RowsPerStrip.
-ghost use Rattle.std.specs.Prelude.{◌≡◌, ◌≤◌, MatchOption};
+ghost use Rattle.std.specs.Prelude.{◌≡◌, ◌+◌, ◌*◌, ◌≤◌, ◌<◌, length, MatchOption};
 ghost use Rattle.reading.specs.Reading.{run};
 ghost use Rattle.directory.specs.Facts.Out.{out};
+ghost use Rattle.reading.specs.Facts.Number.{Wide};
 ghost use Rattle.directory.specs.Facts.Shape.{Tested};
 ghost use Rattle.directory.specs.Tag.{range};
 ghost use Rattle.directory.specs.Facts.Tag.{Numeric, NumberIn};
-ghost use Rattle.rawtags.specs.Layout.{bytes_per, depth_reading, only_one, format_reading, strip_rows_reading, layout_reading};
+ghost use Rattle.rawtags.specs.Layout.{bytes_per, depth_from, depth_reading, only_one, format_reading, strip_rows_reading, layout_reading};
 ghost use Rattle.rawtags.specs.Facts.Layout.{LayoutIn};
 
 use directory::refusal::Refusal;
@@ -33,15 +34,12 @@ fn bytes_per(bits: usize) -> Option<usize>
     }
 }
 
-// BitsPerSample.
-fn depth(file: &[u8], ifd: Ifd, samples: usize) -> Result<usize, Refusal>
-    requires tested { Tested file.now ifd }
-    requires le_samples { 1 ≤ samples }
-    ensures { (out result ≡ run file.now (depth_reading ifd samples)) × NumberIn (range 1 1 2) result }
+// All as the first one.
+#[tactic(auto, using(reading::proofs::Reading::running), unfolding(crate::specs::Layout::depth_from))]
+fn depth_from(file: &[u8], ifd: Ifd, v: Values, bits: usize) -> Result<usize, Refusal>
+    requires { (v.place + v.size * v.count ≤ length file.now) × (0 < v.count → Wide v.size) }
+    ensures { (out result ≡ run file.now (depth_from ifd v bits)) × NumberIn (range 1 1 2) result }
 {
-    let rule = Rule::required(names::BITS_PER_SAMPLE, Kinds::Short, samples);
-    let v = tag::look_up(file, ifd, rule)?;
-    let bits = number::value(file, ifd.order, v.size, v.place);
     let Some(bytes) = bytes_per(bits) else {
         return Err(Refusal::NotCarried(names::BITS_PER_SAMPLE));
     };
@@ -56,6 +54,23 @@ fn depth(file: &[u8], ifd: Ifd, samples: usize) -> Result<usize, Refusal>
         v.place,
     )?;
     Ok(bytes)
+}
+
+// BitsPerSample.
+#[tactic(auto, using(crate::proofs::Chain::chain), unfolding(crate::specs::Layout::depth_reading))]
+fn depth(file: &[u8], ifd: Ifd, samples: usize) -> Result<usize, Refusal>
+    requires tested { Tested file.now ifd }
+    requires le_samples { 1 ≤ samples }
+    ensures { (out result ≡ run file.now (depth_reading ifd samples)) × NumberIn (range 1 1 2) result }
+{
+    let rule = Rule::required(names::BITS_PER_SAMPLE, Kinds::Short, samples);
+    let v = tag::look_up(file, ifd, rule)?;
+    depth_from(
+        file,
+        ifd,
+        v,
+        number::value(file, ifd.order, v.size, v.place),
+    )
 }
 
 // A tag of which only 1 is carried, its default.
