@@ -1,5 +1,3 @@
-use mathlib.Core.Logic.{⊎_elim}
-use native.Mathlib.Omega.{arith}
 use Rattle.std.proofs.Common.{rules}
 use Rattle.rawtags.specs.Frame.{frame_reading}
 use Rattle.rawtags.proofs.Chain.{on, off, end, exit}
