@@ -9,11 +9,13 @@ returns-in_err-width c = (exit _ _ _ _ c.from_residual.ensures.1 (off _ _ _ c.in
 
 pub returns-in_err-length : goal.returns-in_err-length
 unfolding frame_reading
-returns-in_err-length c = (exit _ _ _ _ c.from_residual-in_err-length.ensures.1 (on _ _ _ c.in_ok-width.ensures.0 (off _ _ _ c.in_err-length.ensures.0)), search rules)
+returns-in_err-length c = (exit _ _ _ _ c.from_residual-in_err-length.ensures.1 (on _ _ _ c.in_ok-width.ensures.0
+(off _ _ _ c.in_err-length.ensures.0)), search rules)
 
 pub returns-in_err-samples : goal.returns-in_err-samples
 unfolding frame_reading
-returns-in_err-samples c = (exit _ _ _ _ c.from_residual-in_err-samples.ensures.1 (on _ _ _ c.in_ok-width.ensures.0 (on _ _ _ c.in_ok-length.ensures.0 (off _ _ _ c.in_err-samples.ensures.0))), search rules)
+returns-in_err-samples c = (exit _ _ _ _ c.from_residual-in_err-samples.ensures.1 (on _ _ _ c.in_ok-width.ensures.0
+(on _ _ _ c.in_ok-length.ensures.0 (off _ _ _ c.in_err-samples.ensures.0))), search rules)
 
 pub returns : goal.returns
 unfolding frame_reading

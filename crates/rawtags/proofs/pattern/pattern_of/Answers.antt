@@ -10,14 +10,17 @@ returns-in_err-pattern c =
 pub returns-in_err-plane_color_of : goal.returns-in_err-plane_color_of
 unfolding pattern_reading
 returns-in_err-plane_color_of c =
-    exit _ _ _ _ c.from_residual-in_err-plane_color_of.ensures.1 (on _ _ _ c.in_ok-repeat_dim_of.ensures (on _ _ _ c.in_ok-pattern.ensures (off _ _ _ c.in_err-plane_color_of.ensures)))
+    exit _ _ _ _ c.from_residual-in_err-plane_color_of.ensures.1 (on _ _ _ c.in_ok-repeat_dim_of.ensures (on _ _ _ c.in_ok-pattern.ensures
+    (off _ _ _ c.in_err-plane_color_of.ensures)))
 
 pub returns-in_err-cfa_layout_of : goal.returns-in_err-cfa_layout_of
 unfolding pattern_reading
 returns-in_err-cfa_layout_of c =
-    exit _ _ _ _ c.from_residual-in_err-cfa_layout_of.ensures.1 (on _ _ _ c.in_ok-repeat_dim_of.ensures (on _ _ _ c.in_ok-pattern.ensures (on _ _ _ c.in_ok-plane_color_of.ensures (off _ _ _ c.in_err-cfa_layout_of.ensures))))
+    exit _ _ _ _ c.from_residual-in_err-cfa_layout_of.ensures.1 (on _ _ _ c.in_ok-repeat_dim_of.ensures (on _ _ _ c.in_ok-pattern.ensures
+    (on _ _ _ c.in_ok-plane_color_of.ensures (off _ _ _ c.in_err-cfa_layout_of.ensures))))
 
 pub returns : goal.returns
 unfolding pattern_reading
 returns c =
-    on _ _ _ c.in_ok-repeat_dim_of.ensures (on _ _ _ c.in_ok-pattern.ensures (on _ _ _ c.in_ok-plane_color_of.ensures (on _ _ _ c.in_ok-cfa_layout_of.ensures (end _ _))))
+    on _ _ _ c.in_ok-repeat_dim_of.ensures (on _ _ _ c.in_ok-pattern.ensures (on _ _ _ c.in_ok-plane_color_of.ensures
+    (on _ _ _ c.in_ok-cfa_layout_of.ensures (end _ _))))

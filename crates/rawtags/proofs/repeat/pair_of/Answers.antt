@@ -12,8 +12,11 @@ returns-in_err-rows c =
 
 pub returns-in_err-columns : goal.returns-in_err-columns
 unfolding pair_reading
-returns-in_err-columns c =
-    (exit _ _ _ _ c.from_residual-in_err-columns.ensures.1 (rw (ne_eqb _ _ c.if-v-eq0.false, pick_no) (on _ _ _ c.in_ok-rows.ensures.0 (off _ _ _ c.in_err-columns.ensures.0))), search rules)
+returns-in_err-columns c = (
+  exit _ _ _ _ c.from_residual-in_err-columns.ensures.1 (rw (ne_eqb _ _ c.if-v-eq0.false, pick_no) (on _ _ _ c.in_ok-rows.ensures.0
+      (off _ _ _ c.in_err-columns.ensures.0))),
+  search rules,
+)
 
 pub returns : goal.returns
 unfolding pair_reading

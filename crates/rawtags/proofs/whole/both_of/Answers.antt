@@ -12,7 +12,8 @@ returns-in_err-horizontal c =
 pub returns-in_err-vertical : goal.returns-in_err-vertical
 unfolding both_reading
 returns-in_err-vertical c =
-    exit _ _ _ _ c.from_residual-in_err-vertical.ensures.1 (rw (ne_eqb _ _ c.if-v-eq0.false, pick_no) (on _ _ _ c.in_ok-horizontal.ensures (off _ _ _ c.in_err-vertical.ensures)))
+    exit _ _ _ _ c.from_residual-in_err-vertical.ensures.1 (rw (ne_eqb _ _ c.if-v-eq0.false, pick_no) (on _ _ _ c.in_ok-horizontal.ensures
+    (off _ _ _ c.in_err-vertical.ensures)))
 
 pub returns : goal.returns
 unfolding both_reading
