@@ -9,8 +9,8 @@ use lib.Ieee.Fits.{down_pos}
 use lib.Ieee.Exact.{HasValue}
 use lib.Ieee.Scale.{finite}
 use lib.Ieee.Positive.{positive, positive_of_value, first_pos}
+use Rattle.std.specs.Prelude.{Option}
 use Rattle.reading.specs.Real.{refused_pattern, real_of}
-use Rattle.reading.specs.declared.real.Real.{Real}
 use Rattle.reading.proofs.Pattern.{is_refused, is_value, bits_finite}
 use Rattle.reading.proofs.Wholes.{in_float_law, int_value}
 use Rattle.levels.specs.Clip.{plus_zero}
@@ -38,8 +38,8 @@ pub real_finite : (f : Format) (b : ℕ) → T (finite (value_of (real_of f b)))
 real_finite f b = go (refused_pattern f b) refl
   where
     go : (r : Bool) → refused_pattern f b ≡ r → T (finite (value_of (real_of f b)))
-    go true e = subst (λ (v : Real). T (finite (value_of v))) (is_refused f b e) tt
-    go false e = subst (λ (v : Real). T (finite (value_of v))) (is_value f b e) (bits_finite f b e)
+    go true e = subst (λ (v : Option Float). T (finite (value_of v))) (is_refused f b e) tt
+    go false e = subst (λ (v : Option Float). T (finite (value_of v))) (is_value f b e) (bits_finite f b e)
 
 -- and above 0 where its pattern is
 above_positive : (x : Float) → T (finite x) → lt plus_zero x ≡ true → T (positive x)
@@ -57,7 +57,7 @@ real_positive f b h a = go (refused_pattern f b) refl
   where
     go : (r : Bool) → refused_pattern f b ≡ r → T (positive (value_of (real_of f b)))
     go true e = absurd (true≢false (ap refused_real (is_refused f b e) ∙ h))
-    go false e = subst (λ (v : Real). T (positive (value_of v))) (is_value f b e) (above_positive (of_bits f b) (bits_finite f b e) a)
+    go false e = subst (λ (v : Option Float). T (positive (value_of v))) (is_value f b e) (above_positive (of_bits f b) (bits_finite f b e) a)
 
 -- ---- a place is no NaN
 round_number : (s : Bool) (a c : ℕ) → is_nan (round binary64 s a c) ≡ false
