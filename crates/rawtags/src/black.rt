@@ -30,20 +30,18 @@ pub fn kind_for(values: Values) -> BlackKind
     }
 }
 
-// So many black levels from a place on.
+// The black levels of a tag.
 fn check_blacks(
     file: &[u8],
     order: Order,
     tag: usize,
     kind: BlackKind,
-    size: usize,
-    count: usize,
-    place: usize,
+    v: Values,
 ) -> Result<(), Refusal>
-    requires { (place + size * count ≤ length file.now) × (0 < count → size ≡ width_of kind) }
-    ensures { passed result ≡ run file.now (blacks_test order tag kind size count place) }
+    requires { (v.place + v.size * v.count ≤ length file.now) × (0 < v.count → v.size ≡ width_of kind) }
+    ensures { passed result ≡ run file.now (blacks_test order tag kind v.size v.count v.place) }
 {
-    match black::first_refused(file, order, kind, place, size, count) {
+    match black::first_refused(file, order, kind, v.place, v.size, v.count) {
         Ok(()) => Ok(()),
         Err(BlackFault::Illegal) => Err(Refusal::Illegal(tag)),
         Err(BlackFault::NotCarried) => Err(Refusal::NotCarried(tag)),
@@ -61,15 +59,7 @@ pub fn black_of(file: &[u8], ifd: Ifd, repeat: Repeat, samples: usize) -> Result
     let cells = repeat.rows * repeat.columns * samples;
     let rule = Rule::optional(names::BLACK_LEVEL, Kinds::ShortLongOrRational, cells);
     let v = tag::look_up(file, ifd, rule)?;
-    check_blacks(
-        file,
-        ifd.order,
-        names::BLACK_LEVEL,
-        kind_for(v),
-        v.size,
-        v.count,
-        v.place,
-    )?;
+    check_blacks(file, ifd.order, names::BLACK_LEVEL, kind_for(v), v)?;
     Ok(v)
 }
 
@@ -81,14 +71,6 @@ pub fn delta_of(file: &[u8], ifd: Ifd, tag: usize, many: usize) -> Result<Values
     ensures values_in { ValuesIn (length file.now) (delta_rule tag many) result }
 {
     let v = tag::look_up(file, ifd, Rule::optional(tag, Kinds::SignedRational, many))?;
-    check_blacks(
-        file,
-        ifd.order,
-        tag,
-        BlackKind::SignedRational,
-        v.size,
-        v.count,
-        v.place,
-    )?;
+    check_blacks(file, ifd.order, tag, BlackKind::SignedRational, v)?;
     Ok(v)
 }

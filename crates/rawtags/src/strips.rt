@@ -17,19 +17,12 @@ use directory::{Ifd, names, tag};
 use reading::number;
 use reading::number::Order;
 
-// Where the numbers of one tag stand and how wide they are.
-#[derive(Clone, Copy)]
-pub struct Run {
-    pub place: usize,
-    pub size: usize,
-}
-
 // Strip by strip: its byte count (4, StripByteCounts), then its place (4, StripOffsets).
 fn check_strips(
     file: &[u8],
     order: Order,
-    offsets: Run,
-    counts: Run,
+    offsets: Values,
+    counts: Values,
     count: usize,
     rows: usize,
     lines: usize,
@@ -40,23 +33,21 @@ fn check_strips(
     requires lines_bound { (lines ≤ 16384) × (row ≤ 98304) }
     ensures { passed result ≡ run file.now (strip_from (length file.now) order offsets.size counts.size rows row count offsets.place counts.place lines) }
 {
-    let width = offsets.size;
-    let breadth = counts.size;
     let mut p = offsets.place;
     let mut q = counts.place;
     let mut rest = lines;
     for _ in 0..count {
         let here = rows.min(rest);
-        let bytes = number::value(file, order, breadth, q);
+        let bytes = number::value(file, order, counts.size, q);
         if bytes != here * row {
             return Err(Refusal::Illegal(names::STRIP_BYTE_COUNTS));
         }
-        let place = number::value(file, order, width, p);
+        let place = number::value(file, order, offsets.size, p);
         if !number::inside(place, bytes, file.len()) {
             return Err(Refusal::Illegal(names::STRIP_OFFSETS));
         }
-        p += width;
-        q += breadth;
+        p += offsets.size;
+        q += counts.size;
         rest -= here;
     }
     Ok(())
@@ -82,14 +73,15 @@ pub fn strips_of(
     let offsets = tag::look_up(file, ifd, offsets_rule)?;
     let counts_rule = Rule::required(names::STRIP_BYTE_COUNTS, Kinds::ShortOrLong, count);
     let counts = tag::look_up(file, ifd, counts_rule)?;
-    let at = Run {
-        place: offsets.place,
-        size: offsets.size,
-    };
-    let long = Run {
-        place: counts.place,
-        size: counts.size,
-    };
-    check_strips(file, ifd.order, at, long, count, rows, frame.length, row)?;
+    check_strips(
+        file,
+        ifd.order,
+        offsets,
+        counts,
+        count,
+        rows,
+        frame.length,
+        row,
+    )?;
     Ok(offsets)
 }

@@ -8,7 +8,7 @@ pub first_refused-requires : goal.first_refused-requires
 first_refused-requires c =
     let a = c.args in
     let p = c.requires in (
-      λ i h. let s : 0 < a.count = omega arith in omega (arith, within a.size a.count i h, p.0, p.1 s),
+      λ i h. let s : 0 < a.v.count = omega arith in omega (arith, within a.v.size a.v.count i h, p.0, p.1 s),
       λ h. omega (arith, p.1 h, width_most a.kind),
     )
 
