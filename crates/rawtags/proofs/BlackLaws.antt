@@ -32,7 +32,7 @@ use Rattle.directory.specs.declared.tag.Values.{Values}
 use Rattle.directory.proofs.Outs.{bind_inverse}
 use Rattle.levels.specs.Run.{run_of}
 use Rattle.levels.specs.Black.{black_of, width_of, value_of, black_at, first_refused}
-use Rattle.levels.specs.declared.black.Black.{Black}
+use Rattle.levels.specs.declared.black.BlackFault.{BlackFault}
 use Rattle.rawtags.specs.Black.{kind_for, black_out, blacks_test}
 use Rattle.rawtags.specs.White.{white_reading, white_rule}
 use Rattle.rawtags.specs.Facts.White.{WhitesIn}
@@ -69,7 +69,7 @@ module _ (f : List ℕ) (o : Order) (k : BlackKind) (size n p : ℕ) (sized : 0 
       ap (λ (bs : List ℕ). black_of (value_of k o bs))
       (part_part f p (size * n) (0 + size * i) (width_of k) b ∙ ap (λ (q : ℕ). part f q (width_of k)) g))
 
-  pub blacks_test_law : (tag : ℕ) (b : Black) → b ≡ first_refused (run_of (black_at k o f) size p n) →
+  pub blacks_test_law : (tag : ℕ) (b : Result (Unit {0}) BlackFault) → b ≡ first_refused (run_of (black_at k o f) size p n) →
       black_out tag b ≡ run f (blacks_test o tag k size n p)
   unfolding blacks_test
   blacks_test_law tag b e = ap (black_out tag) (e ∙ sym (ap first_refused same_run)) ∙ sym (simp running)
