@@ -2,14 +2,13 @@
 ghost use Rattle.std.specs.Prelude.{◌≡◌, length};
 ghost use Rattle.directory.specs.Facts.Out.{out};
 ghost use Rattle.reading.specs.Reading.{run, run_whole};
-ghost use Rattle.directory.specs.Facts.Shape.{Tested};
 ghost use Rattle.raw.specs.Front.{raw_reading, front_reading};
 ghost use Rattle.raw.specs.Facts.Front.{RawIn, FrontIn};
 
 use crate::spans;
 use crate::spans::Spans;
 use directory::refusal::Refusal;
-use directory::{Ifd, tree};
+use directory::{Directory, Ifd, tree};
 use rawtags::Tags;
 use reading::number::Order;
 
@@ -30,13 +29,12 @@ pub struct Picture {
 }
 
 // The raw tags, then refusal 9.
-fn raw_of(file: &[u8], ifd: Ifd) -> Result<Raw, Refusal>
-    requires { Tested file.now ifd }
-    ensures { (out result ≡ run file.now (raw_reading (length file.now) ifd)) × RawIn file.now ifd.order result }
+fn raw_of(dir: Directory) -> Result<Raw, Refusal>
+    ensures { (out result ≡ run dir.entry.file.now (raw_reading (length dir.entry.file.now) dir.entry.ifd)) × RawIn dir.entry.file.now dir.entry.ifd.order result }
 {
-    let order = ifd.order;
-    let tags = rawtags::tags_of(file, ifd)?;
-    let spans = spans::spans_of(file, order, tags)?;
+    let order = dir.ifd.order;
+    let tags = rawtags::tags_of(dir)?;
+    let spans = spans::spans_of(dir.file, order, tags)?;
     Ok(Raw { tags, spans })
 }
 

@@ -3,7 +3,6 @@ ghost use Rattle.std.specs.Prelude.{◌≡◌, ◌+◌, ◌*◌, ◌≤◌, ◌<
 ghost use Rattle.directory.specs.Facts.Out.{out};
 ghost use Rattle.reading.specs.Reading.{run};
 ghost use Rattle.reading.specs.Facts.Number.{Wide};
-ghost use Rattle.directory.specs.Facts.Shape.{Tested};
 ghost use Rattle.rawtags.specs.Facts.Frame.{DimensionsWithin};
 ghost use Rattle.rawtags.specs.Area.{area_of, four_reading, area_reading};
 ghost use Rattle.rawtags.specs.Facts.Area.{AreaIn};
@@ -11,7 +10,7 @@ ghost use Rattle.rawtags.specs.Facts.Area.{AreaIn};
 use crate::frame::Dimensions;
 use directory::refusal::Refusal;
 use directory::tag::{Kinds, Rule, Values};
-use directory::{Ifd, names, tag};
+use directory::{Directory, names, tag};
 use levels::active::{ActiveColumn, ActiveRow};
 use reading::number;
 use reading::number::Order;
@@ -95,12 +94,11 @@ fn four_of(file: &[u8], order: Order, frame: Dimensions, v: Values) -> Result<Ar
 
 // ActiveArea.
 #[tactic(auto, using(crate::proofs::Chain::chain), unfolding(crate::specs::Area::area_reading))]
-pub fn area_of(file: &[u8], ifd: Ifd, frame: Dimensions) -> Result<Area, Refusal>
-    requires tested { Tested file.now ifd }
+pub fn area_of(dir: Directory, frame: Dimensions) -> Result<Area, Refusal>
     requires dimensions_in { DimensionsWithin frame }
-    ensures { (out result ≡ run file.now (area_reading ifd frame)) × AreaIn frame result }
+    ensures { (out result ≡ run dir.entry.file.now (area_reading dir.entry.ifd frame)) × AreaIn frame result }
 {
     let rule = Rule::optional(names::ACTIVE_AREA, Kinds::ShortOrLong, 4);
-    let v = tag::look_up(file, ifd, rule)?;
-    four_of(file, ifd.order, frame, v)
+    let v = tag::look_up(dir, rule)?;
+    four_of(dir.file, dir.ifd.order, frame, v)
 }

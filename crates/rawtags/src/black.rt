@@ -3,7 +3,6 @@ ghost use Rattle.std.specs.Prelude.{◌≡◌, ◌+◌, ◌*◌, ◌≤◌, ◌<
 ghost use Rattle.reading.specs.Reading.{run};
 ghost use Rattle.levels.specs.Black.{width_of};
 ghost use Rattle.directory.specs.Facts.Out.{out, passed};
-ghost use Rattle.directory.specs.Facts.Shape.{Tested};
 ghost use Rattle.directory.specs.Facts.Tag.{ValuesIn};
 ghost use Rattle.rawtags.specs.Facts.Repeat.{RepeatWithin};
 ghost use Rattle.rawtags.specs.Black.{kind_for, blacks_test, black_rule, black_reading, delta_rule, delta_reading};
@@ -12,7 +11,7 @@ use crate::repeat::Repeat;
 use directory::entry::Kind;
 use directory::refusal::Refusal;
 use directory::tag::{Kinds, Rule, Values};
-use directory::{Ifd, names, tag};
+use directory::{Directory, names, tag};
 use levels::black;
 use levels::black::{BlackFault, BlackKind};
 use reading::number::Order;
@@ -50,27 +49,25 @@ fn check_blacks(
 
 // BlackLevel.
 #[tactic(auto, using(crate::proofs::Chain::chain), unfolding(crate::specs::Black::black_reading))]
-pub fn black_of(file: &[u8], ifd: Ifd, repeat: Repeat, samples: usize) -> Result<Values, Refusal>
-    requires tested { Tested file.now ifd }
+pub fn black_of(dir: Directory, repeat: Repeat, samples: usize) -> Result<Values, Refusal>
     requires repeat_in { RepeatWithin repeat × (samples ≤ 3) }
-    ensures result_value { out result ≡ run file.now (black_reading ifd repeat samples) }
-    ensures values_in { ValuesIn (length file.now) (black_rule repeat samples) result }
+    ensures result_value { out result ≡ run dir.entry.file.now (black_reading dir.entry.ifd repeat samples) }
+    ensures values_in { ValuesIn (length dir.entry.file.now) (black_rule repeat samples) result }
 {
     let cells = repeat.rows * repeat.columns * samples;
     let rule = Rule::optional(names::BLACK_LEVEL, Kinds::ShortLongOrRational, cells);
-    let v = tag::look_up(file, ifd, rule)?;
-    check_blacks(file, ifd.order, names::BLACK_LEVEL, kind_for(v), v)?;
+    let v = tag::look_up(dir, rule)?;
+    check_blacks(dir.file, dir.ifd.order, names::BLACK_LEVEL, kind_for(v), v)?;
     Ok(v)
 }
 
 // BlackLevelDeltaH or BlackLevelDeltaV.
 #[tactic(auto, using(crate::proofs::Chain::chain), unfolding(crate::specs::Black::delta_reading))]
-pub fn delta_of(file: &[u8], ifd: Ifd, tag: usize, many: usize) -> Result<Values, Refusal>
-    requires { Tested file.now ifd }
-    ensures result_value { out result ≡ run file.now (delta_reading ifd tag many) }
-    ensures values_in { ValuesIn (length file.now) (delta_rule tag many) result }
+pub fn delta_of(dir: Directory, tag: usize, many: usize) -> Result<Values, Refusal>
+    ensures result_value { out result ≡ run dir.entry.file.now (delta_reading dir.entry.ifd tag many) }
+    ensures values_in { ValuesIn (length dir.entry.file.now) (delta_rule tag many) result }
 {
-    let v = tag::look_up(file, ifd, Rule::optional(tag, Kinds::SignedRational, many))?;
-    check_blacks(file, ifd.order, tag, BlackKind::SignedRational, v)?;
+    let v = tag::look_up(dir, Rule::optional(tag, Kinds::SignedRational, many))?;
+    check_blacks(dir.file, dir.ifd.order, tag, BlackKind::SignedRational, v)?;
     Ok(v)
 }

@@ -2,14 +2,13 @@
 ghost use Rattle.std.specs.Prelude.{◌≡◌};
 ghost use Rattle.directory.specs.Facts.Out.{out};
 ghost use Rattle.reading.specs.Reading.{run};
-ghost use Rattle.directory.specs.Facts.Shape.{Tested};
 ghost use Rattle.rawtags.specs.Crop.{crop_of, crop_from, crop_reading};
 ghost use Rattle.rawtags.specs.Facts.Crop.{CropIn};
 
 use crate::whole;
 use crate::whole::Lengths;
 use directory::refusal::Refusal;
-use directory::{Ifd, names};
+use directory::{Directory, names};
 use reading::number;
 
 // In active rows and columns.
@@ -42,19 +41,18 @@ fn tested_crop(origin: Lengths, size: Lengths, rows: usize, columns: usize) -> R
 
 // Of so many active rows and columns.
 #[tactic(auto, using(crate::proofs::Chain::chain), unfolding(crate::specs::Crop::crop_reading))]
-pub fn crop_of(file: &[u8], ifd: Ifd, rows: usize, columns: usize) -> Result<Crop, Refusal>
-    requires { Tested file.now ifd }
-    ensures { (out result ≡ run file.now (crop_reading ifd rows columns)) × CropIn rows columns result }
+pub fn crop_of(dir: Directory, rows: usize, columns: usize) -> Result<Crop, Refusal>
+    ensures { (out result ≡ run dir.entry.file.now (crop_reading dir.entry.ifd rows columns)) × CropIn rows columns result }
 {
     let corner = Lengths {
         horizontal: 0,
         vertical: 0,
     };
-    let origin = whole::lengths_of(file, ifd, names::DEFAULT_CROP_ORIGIN, corner)?;
+    let origin = whole::lengths_of(dir, names::DEFAULT_CROP_ORIGIN, corner)?;
     let active = Lengths {
         horizontal: columns,
         vertical: rows,
     };
-    let size = whole::lengths_of(file, ifd, names::DEFAULT_CROP_SIZE, active)?;
+    let size = whole::lengths_of(dir, names::DEFAULT_CROP_SIZE, active)?;
     tested_crop(origin, size, rows, columns)
 }

@@ -4,7 +4,6 @@ ghost use Rattle.std.specs.Prelude.{◌≡◌, ◌+◌, ◌*◌, ◌≤◌, ◌<
 ghost use Rattle.reading.specs.Reading.{run};
 ghost use Rattle.directory.specs.Facts.Out.{out};
 ghost use Rattle.reading.specs.Facts.Number.{Wide};
-ghost use Rattle.directory.specs.Facts.Shape.{Tested};
 ghost use Rattle.directory.specs.Tag.{range};
 ghost use Rattle.directory.specs.Facts.Tag.{Numeric, NumberIn};
 ghost use Rattle.rawtags.specs.Layout.{bytes_per, depth_from, depth_reading, only_one, format_reading, strip_rows_reading, layout_reading};
@@ -12,7 +11,7 @@ ghost use Rattle.rawtags.specs.Facts.Layout.{LayoutIn};
 
 use directory::refusal::Refusal;
 use directory::tag::{Kinds, Range, Rule, Values};
-use directory::{Ifd, names, tag};
+use directory::{Directory, names, tag};
 use reading::number;
 
 // Bytes per sample, and rows per strip.
@@ -36,17 +35,17 @@ fn bytes_per(bits: usize) -> Option<usize>
 
 // All as the first one.
 #[tactic(auto, using(reading::proofs::Reading::running), unfolding(crate::specs::Layout::depth_from))]
-fn depth_from(file: &[u8], ifd: Ifd, v: Values, bits: usize) -> Result<usize, Refusal>
-    requires { (v.place + v.size * v.count ≤ length file.now) × (0 < v.count → Wide v.size) }
-    ensures { (out result ≡ run file.now (depth_from ifd v bits)) × NumberIn (range 1 1 2) result }
+fn depth_from(dir: Directory, v: Values, bits: usize) -> Result<usize, Refusal>
+    requires { (v.place + v.size * v.count ≤ length dir.file.now) × (0 < v.count → Wide v.size) }
+    ensures { (out result ≡ run dir.entry.file.now (depth_from dir.entry.ifd v bits)) × NumberIn (range 1 1 2) result }
 {
     let Some(bytes) = bytes_per(bits) else {
         return Err(Refusal::NotCarried(names::BITS_PER_SAMPLE));
     };
     let same = Range::new(0, bits, bits);
     tag::each(
-        file,
-        ifd.order,
+        dir.file,
+        dir.ifd.order,
         v.size,
         names::BITS_PER_SAMPLE,
         same,
@@ -58,31 +57,27 @@ fn depth_from(file: &[u8], ifd: Ifd, v: Values, bits: usize) -> Result<usize, Re
 
 // BitsPerSample.
 #[tactic(auto, using(crate::proofs::Chain::chain), unfolding(crate::specs::Layout::depth_reading))]
-fn depth(file: &[u8], ifd: Ifd, samples: usize) -> Result<usize, Refusal>
-    requires tested { Tested file.now ifd }
+fn depth(dir: Directory, samples: usize) -> Result<usize, Refusal>
     requires le_samples { 1 ≤ samples }
-    ensures { (out result ≡ run file.now (depth_reading ifd samples)) × NumberIn (range 1 1 2) result }
+    ensures { (out result ≡ run dir.entry.file.now (depth_reading dir.entry.ifd samples)) × NumberIn (range 1 1 2) result }
 {
     let rule = Rule::required(names::BITS_PER_SAMPLE, Kinds::Short, samples);
-    let v = tag::look_up(file, ifd, rule)?;
+    let v = tag::look_up(dir, rule)?;
     depth_from(
-        file,
-        ifd,
+        dir,
         v,
-        number::value(file, ifd.order, v.size, v.place),
+        number::value(dir.file, dir.ifd.order, v.size, v.place),
     )
 }
 
 // A tag of which only 1 is carried, its default.
 #[tactic(auto, unfolding(crate::specs::Layout::only_one))]
-fn only_one(file: &[u8], ifd: Ifd, tag: usize, kinds: Kinds, legal: usize) -> Result<usize, Refusal>
-    requires tested { Tested file.now ifd }
+fn only_one(dir: Directory, tag: usize, kinds: Kinds, legal: usize) -> Result<usize, Refusal>
     requires numeric { Numeric kinds }
-    ensures { out result ≡ run file.now (only_one ifd tag kinds legal) }
+    ensures { out result ≡ run dir.entry.file.now (only_one dir.entry.ifd tag kinds legal) }
 {
     tag::one(
-        file,
-        ifd,
+        dir,
         Rule::optional(tag, kinds, 1),
         1,
         Range::new(legal, 1, 1),
@@ -91,24 +86,21 @@ fn only_one(file: &[u8], ifd: Ifd, tag: usize, kinds: Kinds, legal: usize) -> Re
 
 // SampleFormat.
 #[tactic(auto, unfolding(crate::specs::Layout::format_reading))]
-fn format(file: &[u8], ifd: Ifd, samples: usize) -> Result<Values, Refusal>
-    requires { Tested file.now ifd }
-    ensures { out result ≡ run file.now (format_reading ifd samples) }
+fn format(dir: Directory, samples: usize) -> Result<Values, Refusal>
+    ensures { out result ≡ run dir.entry.file.now (format_reading dir.entry.ifd samples) }
 {
     let rule = Rule::optional(names::SAMPLE_FORMAT, Kinds::Short, samples);
-    tag::all(file, ifd, rule, Range::new(0, 1, 1))
+    tag::all(dir, rule, Range::new(0, 1, 1))
 }
 
 // RowsPerStrip.
 #[tactic(auto, unfolding(crate::specs::Layout::strip_rows_reading))]
-fn strip_rows(file: &[u8], ifd: Ifd) -> Result<usize, Refusal>
-    requires { Tested file.now ifd }
-    ensures { (out result ≡ run file.now (strip_rows_reading ifd)) × NumberIn (range 1 1 0xFFFF_FFFF_FFFF_FFFF) result }
+fn strip_rows(dir: Directory) -> Result<usize, Refusal>
+    ensures { (out result ≡ run dir.entry.file.now (strip_rows_reading dir.entry.ifd)) × NumberIn (range 1 1 0xFFFF_FFFF_FFFF_FFFF) result }
 {
     let rule = Rule::optional(names::ROWS_PER_STRIP, Kinds::ShortOrLong, 1);
     tag::one(
-        file,
-        ifd,
+        dir,
         rule,
         4294967295,
         Range::new(1, 1, 0xFFFF_FFFF_FFFF_FFFF),
@@ -116,29 +108,16 @@ fn strip_rows(file: &[u8], ifd: Ifd) -> Result<usize, Refusal>
 }
 
 #[tactic(auto, using(crate::proofs::Chain::chain), unfolding(crate::specs::Layout::layout_reading))]
-pub fn layout_of(file: &[u8], ifd: Ifd, samples: usize) -> Result<Layout, Refusal>
-    requires tested { Tested file.now ifd }
+pub fn layout_of(dir: Directory, samples: usize) -> Result<Layout, Refusal>
     requires le_samples { 1 ≤ samples }
-    ensures { (out result ≡ run file.now (layout_reading ifd samples)) × LayoutIn result }
+    ensures { (out result ≡ run dir.entry.file.now (layout_reading dir.entry.ifd samples)) × LayoutIn result }
 {
-    let bytes = depth(file, ifd, samples)?;
-    only_one(file, ifd, names::COMPRESSION, Kinds::Short, 0)?;
-    only_one(file, ifd, names::PLANAR_CONFIGURATION, Kinds::Short, 0)?;
-    format(file, ifd, samples)?;
-    only_one(
-        file,
-        ifd,
-        names::ROW_INTERLEAVE_FACTOR,
-        Kinds::ShortOrLong,
-        1,
-    )?;
-    only_one(
-        file,
-        ifd,
-        names::COLUMN_INTERLEAVE_FACTOR,
-        Kinds::ShortOrLong,
-        1,
-    )?;
-    let rows = strip_rows(file, ifd)?;
+    let bytes = depth(dir, samples)?;
+    only_one(dir, names::COMPRESSION, Kinds::Short, 0)?;
+    only_one(dir, names::PLANAR_CONFIGURATION, Kinds::Short, 0)?;
+    format(dir, samples)?;
+    only_one(dir, names::ROW_INTERLEAVE_FACTOR, Kinds::ShortOrLong, 1)?;
+    only_one(dir, names::COLUMN_INTERLEAVE_FACTOR, Kinds::ShortOrLong, 1)?;
+    let rows = strip_rows(dir)?;
     Ok(Layout { bytes, rows })
 }

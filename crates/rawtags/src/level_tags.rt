@@ -2,7 +2,6 @@
 ghost use Rattle.std.specs.Prelude.{◌≡◌, ◌≤◌};
 ghost use Rattle.directory.specs.Facts.Out.{out};
 ghost use Rattle.reading.specs.Reading.{run};
-ghost use Rattle.directory.specs.Facts.Shape.{Tested};
 ghost use Rattle.rawtags.specs.LevelTags.{level_tags_reading};
 ghost use Rattle.rawtags.specs.Facts.LevelTags.{LevelTagsIn};
 
@@ -10,7 +9,7 @@ use crate::repeat::Repeat;
 use crate::{black, repeat, white};
 use directory::refusal::Refusal;
 use directory::tag::Values;
-use directory::{Ifd, names};
+use directory::{Directory, names};
 
 #[derive(Clone, Copy)]
 pub struct LevelTags {
@@ -24,23 +23,21 @@ pub struct LevelTags {
 
 #[tactic(auto, using(crate::proofs::Chain::chain), unfolding(crate::specs::LevelTags::level_tags_reading))]
 pub fn level_tags_of(
-    file: &[u8],
-    ifd: Ifd,
+    dir: Directory,
     samples: usize,
     rows: usize,
     columns: usize,
 ) -> Result<LevelTags, Refusal>
-    requires tested { Tested file.now ifd }
     requires samples_bound { samples ≤ 3 }
-    ensures result_value { out result ≡ run file.now (level_tags_reading ifd samples rows columns) }
-    ensures level_tags_in { LevelTagsIn file.now ifd.order samples rows columns result }
+    ensures result_value { out result ≡ run dir.entry.file.now (level_tags_reading dir.entry.ifd samples rows columns) }
+    ensures level_tags_in { LevelTagsIn dir.entry.file.now dir.entry.ifd.order samples rows columns result }
 {
-    let table = white::table_of(file, ifd)?;
-    let repeat = repeat::repeat_of(file, ifd)?;
-    let black = black::black_of(file, ifd, repeat, samples)?;
-    let column_deltas = black::delta_of(file, ifd, names::BLACK_LEVEL_DELTA_H, columns)?;
-    let row_deltas = black::delta_of(file, ifd, names::BLACK_LEVEL_DELTA_V, rows)?;
-    let white = white::white_of(file, ifd, samples)?;
+    let table = white::table_of(dir)?;
+    let repeat = repeat::repeat_of(dir)?;
+    let black = black::black_of(dir, repeat, samples)?;
+    let column_deltas = black::delta_of(dir, names::BLACK_LEVEL_DELTA_H, columns)?;
+    let row_deltas = black::delta_of(dir, names::BLACK_LEVEL_DELTA_V, rows)?;
+    let white = white::white_of(dir, samples)?;
     Ok(LevelTags {
         table,
         repeat,

@@ -4,13 +4,12 @@
 ghost use Rattle.std.specs.Prelude.{◌≡◌, length};
 ghost use Rattle.directory.specs.Facts.Out.{out};
 ghost use Rattle.reading.specs.Reading.{run};
-ghost use Rattle.directory.specs.Facts.Shape.{Tested};
 ghost use Rattle.rawtags.specs.Raw.{tags_reading};
 ghost use Rattle.rawtags.specs.Facts.Raw.{TagsIn};
 
 use area::Area;
 use crop::Crop;
-use directory::Ifd;
+use directory::Directory;
 use directory::refusal::Refusal;
 use directory::tag::Values;
 use frame::Dimensions;
@@ -44,19 +43,18 @@ pub struct Tags {
 
 // The tags, in order of test.
 #[tactic(auto, using(crate::proofs::Chain::chain), unfolding(crate::specs::Raw::tags_reading))]
-pub fn tags_of(file: &[u8], ifd: Ifd) -> Result<Tags, Refusal>
-    requires { Tested file.now ifd }
-    ensures { (out result ≡ run file.now (tags_reading (length file.now) ifd)) × TagsIn file.now ifd.order result }
+pub fn tags_of(dir: Directory) -> Result<Tags, Refusal>
+    ensures { (out result ≡ run dir.entry.file.now (tags_reading (length dir.entry.file.now) dir.entry.ifd)) × TagsIn dir.entry.file.now dir.entry.ifd.order result }
 {
-    let frame = frame::frame_of(file, ifd)?;
-    let layout = layout::layout_of(file, ifd, frame.samples)?;
-    let strips = strips::strips_of(file, ifd, frame, layout)?;
-    let area = area::area_of(file, ifd, frame)?;
+    let frame = frame::frame_of(dir)?;
+    let layout = layout::layout_of(dir, frame.samples)?;
+    let strips = strips::strips_of(dir, frame, layout)?;
+    let area = area::area_of(dir, frame)?;
     let rows = area.bottom - area.top;
     let columns = area.right - area.left;
-    let levels = level_tags::level_tags_of(file, ifd, frame.samples, rows, columns)?;
-    let crop = crop::crop_of(file, ifd, rows, columns)?;
-    let list = lists::list_of(file, ifd)?;
+    let levels = level_tags::level_tags_of(dir, frame.samples, rows, columns)?;
+    let crop = crop::crop_of(dir, rows, columns)?;
+    let list = lists::list_of(dir)?;
     Ok(Tags {
         frame,
         layout,

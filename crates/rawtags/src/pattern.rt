@@ -2,13 +2,12 @@
 ghost use Rattle.std.specs.Prelude.{◌≡◌, ◌+◌, ◌≤◌, ◌<◌, length};
 ghost use Rattle.reading.specs.Reading.{run};
 ghost use Rattle.directory.specs.Facts.Out.{out, passed};
-ghost use Rattle.directory.specs.Facts.Shape.{Tested};
 ghost use Rattle.rawtags.specs.Pattern.{one_of, times_of, first_of, last_of, places_of, four_colours_reading, plane_color_of, three_colours_reading};
 ghost use Rattle.rawtags.specs.Pattern.{repeat_dim_reading, cfa_pattern_reading, plane_color_reading, cfa_layout_reading, pattern_reading};
 
 use directory::refusal::Refusal;
 use directory::tag::{Kinds, Range, Rule, Values};
-use directory::{Ifd, names, tag};
+use directory::{Directory, names, tag};
 use reading::number;
 use reading::number::Order;
 
@@ -79,12 +78,11 @@ fn places(a: usize, b: usize, c: usize, d: usize) -> Result<Pattern, Refusal>
 }
 
 // CFARepeatPatternDim.
-fn repeat_dim_of(file: &[u8], ifd: Ifd) -> Result<Values, Refusal>
-    requires { Tested file.now ifd }
-    ensures { out result ≡ run file.now (repeat_dim_reading ifd) }
+fn repeat_dim_of(dir: Directory) -> Result<Values, Refusal>
+    ensures { out result ≡ run dir.entry.file.now (repeat_dim_reading dir.entry.ifd) }
 {
     let rule = Rule::required(names::CFA_REPEAT_PATTERN_DIM, Kinds::Short, 2);
-    tag::all(file, ifd, rule, Range::new(0, 2, 2))
+    tag::all(dir, rule, Range::new(0, 2, 2))
 }
 
 // Four BYTEs, the colours of a block row by row.
@@ -102,13 +100,12 @@ fn four_colours(file: &[u8], order: Order, v: Values) -> Result<Pattern, Refusal
 
 // CFAPattern.
 #[tactic(auto, using(crate::proofs::Chain::chain), unfolding(crate::specs::Pattern::cfa_pattern_reading))]
-fn cfa_pattern_of(file: &[u8], ifd: Ifd) -> Result<Pattern, Refusal>
-    requires { Tested file.now ifd }
-    ensures { out result ≡ run file.now (cfa_pattern_reading ifd) }
+fn cfa_pattern_of(dir: Directory) -> Result<Pattern, Refusal>
+    ensures { out result ≡ run dir.entry.file.now (cfa_pattern_reading dir.entry.ifd) }
 {
     let rule = Rule::required(names::CFA_PATTERN, Kinds::Byte, 4);
-    let v = tag::look_up(file, ifd, rule)?;
-    four_colours(file, ifd.order, v)
+    let v = tag::look_up(dir, rule)?;
+    four_colours(dir.file, dir.ifd.order, v)
 }
 
 // 8 of three planes' colours that are not 0, 1, 2.
@@ -140,33 +137,30 @@ fn three_colours(file: &[u8], order: Order, v: Values) -> Result<(), Refusal>
 
 // CFAPlaneColor.
 #[tactic(auto, using(crate::proofs::Chain::chain), unfolding(crate::specs::Pattern::plane_color_reading))]
-fn plane_color_of(file: &[u8], ifd: Ifd) -> Result<(), Refusal>
-    requires { Tested file.now ifd }
-    ensures { passed result ≡ run file.now (plane_color_reading ifd) }
+fn plane_color_of(dir: Directory) -> Result<(), Refusal>
+    ensures { passed result ≡ run dir.entry.file.now (plane_color_reading dir.entry.ifd) }
 {
     let rule = Rule::optional(names::CFA_PLANE_COLOR, Kinds::Byte, 3);
-    let v = tag::look_up(file, ifd, rule)?;
-    three_colours(file, ifd.order, v)
+    let v = tag::look_up(dir, rule)?;
+    three_colours(dir.file, dir.ifd.order, v)
 }
 
 // CFALayout.
-fn cfa_layout_of(file: &[u8], ifd: Ifd) -> Result<usize, Refusal>
-    requires { Tested file.now ifd }
-    ensures { out result ≡ run file.now (cfa_layout_reading ifd) }
+fn cfa_layout_of(dir: Directory) -> Result<usize, Refusal>
+    ensures { out result ≡ run dir.entry.file.now (cfa_layout_reading dir.entry.ifd) }
 {
     let rule = Rule::optional(names::CFA_LAYOUT, Kinds::Short, 1);
-    tag::one(file, ifd, rule, 1, Range::new(0, 1, 1))
+    tag::one(dir, rule, 1, Range::new(0, 1, 1))
 }
 
 // The four tags of the raw IFD, in order of test.
 #[tactic(auto, using(crate::proofs::Chain::chain), unfolding(crate::specs::Pattern::pattern_reading))]
-pub fn pattern_of(file: &[u8], ifd: Ifd) -> Result<Pattern, Refusal>
-    requires { Tested file.now ifd }
-    ensures { out result ≡ run file.now (pattern_reading ifd) }
+pub fn pattern_of(dir: Directory) -> Result<Pattern, Refusal>
+    ensures { out result ≡ run dir.entry.file.now (pattern_reading dir.entry.ifd) }
 {
-    repeat_dim_of(file, ifd)?;
-    let pattern = cfa_pattern_of(file, ifd)?;
-    plane_color_of(file, ifd)?;
-    cfa_layout_of(file, ifd)?;
+    repeat_dim_of(dir)?;
+    let pattern = cfa_pattern_of(dir)?;
+    plane_color_of(dir)?;
+    cfa_layout_of(dir)?;
     Ok(pattern)
 }

@@ -5,13 +5,12 @@ ghost use Rattle.reading.specs.Reading.{run};
 ghost use Rattle.reading.specs.Facts.Number.{Wide};
 ghost use Rattle.directory.specs.Tag.{range};
 ghost use Rattle.directory.specs.Facts.Tag.{NumberIn};
-ghost use Rattle.directory.specs.Facts.Shape.{Tested};
 ghost use Rattle.rawtags.specs.Repeat.{side_reading, pair_reading, repeat_reading};
 ghost use Rattle.rawtags.specs.Facts.Repeat.{RepeatIn};
 
 use directory::refusal::Refusal;
 use directory::tag::{Kinds, Range, Rule, Values};
-use directory::{Ifd, names, tag};
+use directory::{Directory, names, tag};
 use reading::number;
 use reading::number::Order;
 
@@ -50,11 +49,10 @@ fn pair_of(file: &[u8], order: Order, v: Values) -> Result<Repeat, Refusal>
 
 // BlackLevelRepeatDim.
 #[tactic(auto, using(crate::proofs::Chain::chain), unfolding(crate::specs::Repeat::repeat_reading))]
-pub fn repeat_of(file: &[u8], ifd: Ifd) -> Result<Repeat, Refusal>
-    requires { Tested file.now ifd }
-    ensures { (out result ≡ run file.now (repeat_reading ifd)) × RepeatIn result }
+pub fn repeat_of(dir: Directory) -> Result<Repeat, Refusal>
+    ensures { (out result ≡ run dir.entry.file.now (repeat_reading dir.entry.ifd)) × RepeatIn result }
 {
     let rule = Rule::optional(names::BLACK_LEVEL_REPEAT_DIM, Kinds::Short, 2);
-    let v = tag::look_up(file, ifd, rule)?;
-    pair_of(file, ifd.order, v)
+    let v = tag::look_up(dir, rule)?;
+    pair_of(dir.file, dir.ifd.order, v)
 }

@@ -2,7 +2,6 @@
 ghost use Rattle.std.specs.Prelude.{◌≡◌, ◌+◌, ◌*◌, ◌≤◌, ◌<◌, length};
 ghost use Rattle.reading.specs.Reading.{run};
 ghost use Rattle.directory.specs.Facts.Out.{out, passed};
-ghost use Rattle.directory.specs.Facts.Shape.{Tested};
 ghost use Rattle.reading.specs.Facts.Number.{Wide};
 ghost use Rattle.rawtags.specs.Facts.Frame.{DimensionsWithin};
 ghost use Rattle.rawtags.specs.Facts.Layout.{LayoutWithin};
@@ -13,7 +12,7 @@ use crate::frame::Dimensions;
 use crate::layout::Layout;
 use directory::refusal::Refusal;
 use directory::tag::{Kinds, Rule, Values};
-use directory::{Ifd, names, tag};
+use directory::{Directory, names, tag};
 use reading::number;
 use reading::number::Order;
 
@@ -55,27 +54,21 @@ fn check_strips(
 
 // StripOffsets and StripByteCounts: where the strips' offsets stand.
 #[tactic(auto, using(crate::proofs::Chain::chain), unfolding(crate::specs::Strips::strips_reading))]
-pub fn strips_of(
-    file: &[u8],
-    ifd: Ifd,
-    frame: Dimensions,
-    layout: Layout,
-) -> Result<Values, Refusal>
-    requires tested { Tested file.now ifd }
+pub fn strips_of(dir: Directory, frame: Dimensions, layout: Layout) -> Result<Values, Refusal>
     requires dimensions_in { DimensionsWithin frame × LayoutWithin layout }
-    ensures result_value { out result ≡ run file.now (strips_reading (length file.now) ifd frame layout) }
-    ensures strips_in { StripsIn file.now ifd.order frame layout result }
+    ensures result_value { out result ≡ run dir.entry.file.now (strips_reading (length dir.entry.file.now) dir.entry.ifd frame layout) }
+    ensures strips_in { StripsIn dir.entry.file.now dir.entry.ifd.order frame layout result }
 {
     let rows = layout.rows;
     let count = (frame.length - 1) / rows + 1;
     let row = frame.width * frame.samples * layout.bytes;
     let offsets_rule = Rule::required(names::STRIP_OFFSETS, Kinds::ShortOrLong, count);
-    let offsets = tag::look_up(file, ifd, offsets_rule)?;
+    let offsets = tag::look_up(dir, offsets_rule)?;
     let counts_rule = Rule::required(names::STRIP_BYTE_COUNTS, Kinds::ShortOrLong, count);
-    let counts = tag::look_up(file, ifd, counts_rule)?;
+    let counts = tag::look_up(dir, counts_rule)?;
     check_strips(
-        file,
-        ifd.order,
+        dir.file,
+        dir.ifd.order,
         offsets,
         counts,
         count,

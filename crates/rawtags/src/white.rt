@@ -2,29 +2,26 @@
 ghost use Rattle.std.specs.Prelude.{◌≡◌, length};
 ghost use Rattle.directory.specs.Facts.Out.{out};
 ghost use Rattle.reading.specs.Reading.{run};
-ghost use Rattle.directory.specs.Facts.Shape.{Tested};
 ghost use Rattle.directory.specs.Facts.Tag.{ValuesIn};
 ghost use Rattle.rawtags.specs.White.{white_rule, white_reading, table_rule, table_reading};
 ghost use Rattle.rawtags.specs.Facts.White.{WhitesIn};
 
 use directory::refusal::Refusal;
 use directory::tag::{Kinds, Range, Rule, Values};
-use directory::{Ifd, names, tag};
+use directory::{Directory, names, tag};
 
 // WhiteLevel.
-pub fn white_of(file: &[u8], ifd: Ifd, samples: usize) -> Result<Values, Refusal>
-    requires { Tested file.now ifd }
-    ensures { (out result ≡ run file.now (white_reading ifd samples)) × WhitesIn file.now ifd.order (white_rule samples) result }
+pub fn white_of(dir: Directory, samples: usize) -> Result<Values, Refusal>
+    ensures { (out result ≡ run dir.entry.file.now (white_reading dir.entry.ifd samples)) × WhitesIn dir.entry.file.now dir.entry.ifd.order (white_rule samples) result }
 {
     let rule = Rule::optional(names::WHITE_LEVEL, Kinds::ShortOrLong, samples);
-    tag::all(file, ifd, rule, Range::new(0, 0, 65535))
+    tag::all(dir, rule, Range::new(0, 0, 65535))
 }
 
 // LinearizationTable.
 #[tactic(auto, unfolding(crate::specs::White::table_reading))]
-pub fn table_of(file: &[u8], ifd: Ifd) -> Result<Values, Refusal>
-    requires { Tested file.now ifd }
-    ensures { (out result ≡ run file.now (table_reading ifd)) × ValuesIn (length file.now) table_rule result }
+pub fn table_of(dir: Directory) -> Result<Values, Refusal>
+    ensures { (out result ≡ run dir.entry.file.now (table_reading dir.entry.ifd)) × ValuesIn (length dir.entry.file.now) table_rule result }
 {
     let rule = Rule {
         tag: names::LINEARIZATION_TABLE,
@@ -33,5 +30,5 @@ pub fn table_of(file: &[u8], ifd: Ifd) -> Result<Values, Refusal>
         least: 1,
         most: 65536,
     };
-    tag::look_up(file, ifd, rule)
+    tag::look_up(dir, rule)
 }

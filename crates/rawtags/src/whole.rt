@@ -4,13 +4,12 @@ ghost use Rattle.reading.specs.Facts.Number.{Wide};
 ghost use Rattle.reading.specs.Reading.{run};
 ghost use Rattle.directory.specs.Entry.{kind_width};
 ghost use Rattle.directory.specs.Facts.Out.{out};
-ghost use Rattle.directory.specs.Facts.Shape.{Tested};
 ghost use Rattle.rawtags.specs.Whole.{whole_number_of, whole_number_reading, both_reading, lengths_reading};
 
 use directory::entry::Kind;
 use directory::refusal::Refusal;
 use directory::tag::{Kinds, Rule, Values};
-use directory::{Ifd, tag};
+use directory::{Directory, tag};
 use reading::number;
 use reading::number::Order;
 
@@ -82,14 +81,9 @@ fn both_of(
 
 // A tag with two values, or its default.
 #[tactic(auto, using(crate::proofs::Chain::chain), unfolding(crate::specs::Whole::lengths_reading))]
-pub fn lengths_of(file: &[u8], ifd: Ifd, tag: usize, default: Lengths) -> Result<Lengths, Refusal>
-    requires { Tested file.now ifd }
-    ensures { out result ≡ run file.now (lengths_reading ifd tag default) }
+pub fn lengths_of(dir: Directory, tag: usize, default: Lengths) -> Result<Lengths, Refusal>
+    ensures { out result ≡ run dir.entry.file.now (lengths_reading dir.entry.ifd tag default) }
 {
-    let v = tag::look_up(
-        file,
-        ifd,
-        Rule::optional(tag, Kinds::ShortLongOrRational, 2),
-    )?;
-    both_of(file, ifd.order, tag, default, v)
+    let v = tag::look_up(dir, Rule::optional(tag, Kinds::ShortLongOrRational, 2))?;
+    both_of(dir.file, dir.ifd.order, tag, default, v)
 }

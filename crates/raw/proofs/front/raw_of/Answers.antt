@@ -17,7 +17,7 @@ unfolding raw_reading
 returns-in_err-spans c =
     let a = c.args in
     let p = err_from_is_err_and c.from_residual-in_err-spans.result c.from_residual-in_err-spans.ensures.1 in
-    let read = run_and_then a.file.now (levels_reading a.ifd.order c.in_ok-tags.tags) _ ∙ run_answer _ _ in
+    let read = run_and_then a.dir.file.now (levels_reading a.dir.ifd.order c.in_ok-tags.tags) _ ∙ run_answer _ _ in
     rw (p.1, p.2) (bind_refused _ _ _ _ _ (c.in_err-spans.ensures.0 ∙ sym read) ∙ sym (bind_is _ _ _ _ c.in_ok-tags.ensures.0), tt)
 
 pub returns : goal.returns
@@ -26,7 +26,7 @@ returns c =
     let a = c.args in
     let tags = c.in_ok-tags.ensures in
     let spans = c.in_ok-spans.ensures in
-    let read = run_and_then a.file.now (levels_reading a.ifd.order c.in_ok-tags.tags) _ ∙ run_answer _ _ in (
+    let read = run_and_then a.dir.file.now (levels_reading a.dir.ifd.order c.in_ok-tags.tags) _ ∙ run_answer _ _ in (
       sym (bind_is _ _ _ _ tags.0 ∙ bind_is _ _ _ _ (spans.0 ∙ sym read) ∙ run_answer _ _),
       record { tags = tags.1; spans = spans.1; spanned = spans.0 },
     )
