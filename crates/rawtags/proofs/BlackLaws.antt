@@ -8,7 +8,6 @@ use mathlib.Core.List.{List}
 use mathlib.Core.Bool.{true}
 use mathlib.Core.Logic.{⊎_elim}
 use Prim.Native.Nat.{ℕ, ◌+◌, ◌*◌, ◌≤◌, ◌<◌}
-use native.Mathlib.Nat.{mul-le-mul}
 use native.Mathlib.Omega.{arith}
 use lib.ListN.{length}
 use Rattle.levels.proofs.Runs.{within, run_same}
@@ -50,12 +49,6 @@ width_most kind.Long = omega arith
 width_most kind.Long8 = omega arith
 width_most kind.Rational = omega arith
 width_most kind.SignedRational = omega arith
-
-pub cells_fit : (r c s : ℕ) → r ≤ 8 → c ≤ 8 → s ≤ 3 → r * c * s ≤ 192
-cells_fit r c s a b d = mul-le-mul (mul-le-mul a b) d
-
-pub pair_fits : (r c : ℕ) → r ≤ 8 → c ≤ 8 → r * c ≤ 64
-pair_fits r c a b = mul-le-mul a b
 
 module _ (f : List ℕ) (o : Order) (k : BlackKind) (size n p : ℕ) (sized : 0 < n → size ≡ width_of k) where
   -- a tag's values are the same in its bytes and in the file

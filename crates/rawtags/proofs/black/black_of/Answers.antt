@@ -1,22 +1,9 @@
 use mathlib.Core.Path.{sym, ap, ◌∙◌}
-use native.Mathlib.Omega.{arith}
 use Rattle.levels.specs.Black.{width_of}
 use Rattle.rawtags.specs.Black.{black_reading}
-use Rattle.rawtags.proofs.BlackLaws.{width_for, pair_fits, cells_fit}
+use Rattle.rawtags.proofs.BlackLaws.{width_for}
 use Rattle.rawtags.proofs.Chain.{on, off, end, exit}
 use Rattle.rawtags.proofs.black.black_of.Goals as goal
-
-pub overflow_mul-cells : goal.overflow_mul-cells
-overflow_mul-cells c =
-    let a = c.args in
-    let pre = c.requires in
-    omega (arith, pair_fits a.repeat.rows a.repeat.columns pre.repeat_in.0.rows pre.repeat_in.0.columns)
-
-pub overflow_mul-cells-2 : goal.overflow_mul-cells-2
-overflow_mul-cells-2 c =
-    let a = c.args in
-    let pre = c.requires in
-    omega (arith, cells_fit a.repeat.rows a.repeat.columns a.samples pre.repeat_in.0.rows pre.repeat_in.0.columns pre.repeat_in.1)
 
 pub check_blacks-requires : goal.check_blacks-requires
 check_blacks-requires c =

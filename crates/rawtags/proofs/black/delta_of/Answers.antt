@@ -2,11 +2,6 @@ use Rattle.rawtags.specs.Black.{delta_reading}
 use Rattle.rawtags.proofs.Chain.{on, off, end, exit}
 use Rattle.rawtags.proofs.black.delta_of.Goals as goal
 
-pub check_blacks-requires : goal.check_blacks-requires
-check_blacks-requires c =
-    let q = rw c.optional.ensures at c.in_ok-v.ensures.1 in
-    (q.inside, q.sized)
-
 pub returns-in_err-check_blacks-clause-result_value : goal.returns-in_err-check_blacks-clause-result_value
 unfolding delta_reading
 returns-in_err-check_blacks-clause-result_value c =

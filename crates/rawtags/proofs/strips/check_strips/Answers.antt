@@ -1,11 +1,10 @@
 use mathlib.Core.Path.{◌≡◌, sym, ◌∙◌}
 use Prim.Native.Nat.{◌+◌, ◌-◌, ◌*◌, ◌≤◌}
 use native.Mathlib.Omega.{arith}
-use native.Mathlib.Nat.{min-le_right}
 use lib.ListN.{length}
 use borrow.Author.Tests.{leb-true, leb-false}
 use Rattle.directory.proofs.Entries.{one_further}
-use Rattle.rawtags.proofs.Strip.{strip_bytes_fit, strip_none, strip_bytes_law, strip_outside, strip_next}
+use Rattle.rawtags.proofs.Strip.{strip_none, strip_bytes_law, strip_outside, strip_next}
 use Rattle.rawtags.proofs.strips.check_strips.Goals as goal
 use Rattle.rawtags.proofs.strips.check_strips.Goals.{In-loop}
 
@@ -18,24 +17,6 @@ offsets c = one_further _ _ (c.args.count - c.loop.counter) _ _ (omega arith) c.
 counts : (c : In-loop) → let l = c.loop in let a = c.args in
     (l.q + a.counts.size ≤ length a.file.now) × (l.q + a.counts.size + a.counts.size * (a.count - (l.counter + 1)) ≤ length a.file.now)
 counts c = one_further _ _ (c.args.count - c.loop.counter) _ _ (omega arith) c.loop.invariant.2
-
-pub overflow_mul-here : goal.overflow_mul-here
-overflow_mul-here c =
-    let m = min-le_right c.args.rows c.loop.rest in
-    let h : c.min-here.result ≤ 16384 = omega (arith, m, c.min-here.ensures, c.loop.invariant.3, c.requires.lines_bound.0) in
-    omega (arith, strip_bytes_fit c.min-here.result c.args.row h c.requires.lines_bound.1)
-
-pub value-bytes-requires : goal.value-bytes-requires
-value-bytes-requires c = ((counts (goal.at.value-bytes-requires c).In-loop).0, c.requires.count_in_bounds_2.1)
-
-pub value-place-requires : goal.value-place-requires
-value-place-requires c = ((offsets (goal.at.value-place-requires c).In-loop).0, c.requires.count_in_bounds.1)
-
-pub overflow_add-p : goal.overflow_add-p
-overflow_add-p c = omega (arith, (offsets (goal.at.overflow_add-p c).In-loop).0)
-
-pub overflow_add-q : goal.overflow_add-q
-overflow_add-q c = omega (arith, (counts (goal.at.overflow_add-q c).In-loop).0)
 
 pub returns-then-bytes-here : goal.returns-then-bytes-here
 returns-then-bytes-here c =
