@@ -45,7 +45,7 @@ pub fn open(file: &[u8]) -> Result<Picture, Refusal>
     let first = roots.first;
     let ifd = roots.raw;
     let order = ifd.order;
-    let raw = raw_of(file, ifd)?;
+    let raw = raw_of(Directory { file, ifd })?;
     Ok(Picture {
         first,
         directory: ifd,
