@@ -29,7 +29,7 @@ fn times(x: usize, a: usize, b: usize, c: usize, d: usize) -> usize
     usize::from(a == x) + usize::from(b == x) + usize::from(c == x) + usize::from(d == x)
 }
 
-// The place of the first x of four numbers: the fourth, if it is none of the others.
+// The place of the first x of four numbers: the fourth, if it is none of the others. A branch a place, as the definition goes.
 #[tactic(auto, unfolding(crate::specs::Pattern::first_of, reading::specs::Reading::pick))]
 fn first(x: usize, a: usize, b: usize, c: usize) -> usize
     ensures { result ≡ first_of x a b c }
@@ -61,7 +61,7 @@ fn last(x: usize, b: usize, c: usize, d: usize) -> usize
     }
 }
 
-// The places of four colours.
+// The places of four colours, by name as in the definition: an array would say the place of each.
 #[tactic(auto, unfolding(crate::specs::Pattern::places_of, reading::specs::Reading::pick))]
 fn places(a: usize, b: usize, c: usize, d: usize) -> Result<Pattern, Refusal>
     ensures { out result ≡ places_of a b c d }
