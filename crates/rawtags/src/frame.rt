@@ -11,7 +11,7 @@ use directory::refusal::Refusal;
 use directory::tag::{Kinds, Range, Rule};
 use directory::{Ifd, names, tag};
 
-// Columns and rows as stored, and samples per pixel.
+// Columns and rows as stored, and samples per pixel. No ghost field bounds them: `frame_reading` builds one of any numbers.
 #[derive(Clone, Copy)]
 pub struct Dimensions {
     pub width: usize,

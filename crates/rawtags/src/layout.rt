@@ -65,12 +65,8 @@ fn depth(file: &[u8], ifd: Ifd, samples: usize) -> Result<usize, Refusal>
 {
     let rule = Rule::required(names::BITS_PER_SAMPLE, Kinds::Short, samples);
     let v = tag::look_up(file, ifd, rule)?;
-    depth_from(
-        file,
-        ifd,
-        v,
-        number::value(file, ifd.order, v.size, v.place),
-    )
+    let bits = number::value(file, ifd.order, v.size, v.place);
+    depth_from(file, ifd, v, bits)
 }
 
 // A tag of which only 1 is carried, its default.
@@ -80,13 +76,8 @@ fn only_one(file: &[u8], ifd: Ifd, tag: usize, kinds: Kinds, legal: usize) -> Re
     requires numeric { Numeric kinds }
     ensures { out result ≡ run file.now (only_one ifd tag kinds legal) }
 {
-    tag::one(
-        file,
-        ifd,
-        Rule::optional(tag, kinds, 1),
-        1,
-        Range::new(legal, 1, 1),
-    )
+    let rule = Rule::optional(tag, kinds, 1);
+    tag::one(file, ifd, rule, 1, Range::new(legal, 1, 1))
 }
 
 // SampleFormat.
@@ -106,13 +97,8 @@ fn strip_rows(file: &[u8], ifd: Ifd) -> Result<usize, Refusal>
     ensures { (out result ≡ run file.now (strip_rows_reading ifd)) × NumberIn (range 1 1 0xFFFF_FFFF_FFFF_FFFF) result }
 {
     let rule = Rule::optional(names::ROWS_PER_STRIP, Kinds::ShortOrLong, 1);
-    tag::one(
-        file,
-        ifd,
-        rule,
-        4294967295,
-        Range::new(1, 1, 0xFFFF_FFFF_FFFF_FFFF),
-    )
+    let some = Range::new(1, 1, 0xFFFF_FFFF_FFFF_FFFF);
+    tag::one(file, ifd, rule, 4294967295, some)
 }
 
 #[tactic(auto, using(crate::proofs::Chain::chain), unfolding(crate::specs::Layout::layout_reading))]

@@ -86,10 +86,7 @@ pub fn lengths_of(file: &[u8], ifd: Ifd, tag: usize, default: Lengths) -> Result
     requires { Tested file.now ifd }
     ensures { out result ≡ run file.now (lengths_reading ifd tag default) }
 {
-    let v = tag::look_up(
-        file,
-        ifd,
-        Rule::optional(tag, Kinds::ShortLongOrRational, 2),
-    )?;
+    let rule = Rule::optional(tag, Kinds::ShortLongOrRational, 2);
+    let v = tag::look_up(file, ifd, rule)?;
     both_of(file, ifd.order, tag, default, v)
 }
