@@ -52,7 +52,12 @@ loop-i-preserved c =
     let k = counted_bound l.counts _ _ g in
     let j : a.count - l.i - 1 ≡ a.count - (l.i + 1) = omega arith in
     let t = list_next f a.size l.i l.p l.rest l.counts c.if-rest-lt16.false (inside d) (a.count - l.i) some _ g in
-    (sym (rw (j, ← e) at t) ∙ l.invariant.0, omega (arith, l.invariant.1, c.if-rest-whole.false), omega (arith, l.invariant.2, k.0), omega (arith, l.invariant.3, k.1))
+    (
+      sym (rw (j, ← e) at t) ∙ l.invariant.0,
+      omega (arith, l.invariant.1, c.if-rest-whole.false),
+      omega (arith, l.invariant.2, k.0),
+      omega (arith, l.invariant.3, k.1),
+    )
 
 pub returns-then-rest-eq0 : goal.returns-then-rest-eq0
 returns-then-rest-eq0 c =
