@@ -1,6 +1,5 @@
 pub mod Chain
 pub mod Strip
-pub mod AreaLaws
 pub mod WholeLaws
 pub mod CropLaws
 pub mod CropExamples

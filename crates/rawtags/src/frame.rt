@@ -10,7 +10,7 @@ use directory::refusal::Refusal;
 use directory::tag::{Kinds, Range, Rule};
 use directory::{Directory, names, tag};
 
-// Columns and rows as stored, and samples per pixel.
+// Columns and rows as stored, and samples per pixel. No ghost field bounds them: `frame_reading` builds one of any numbers.
 #[derive(Clone, Copy)]
 pub struct Dimensions {
     pub width: usize,

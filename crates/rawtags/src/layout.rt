@@ -63,11 +63,8 @@ fn depth(dir: Directory, samples: usize) -> Result<usize, Refusal>
 {
     let rule = Rule::required(names::BITS_PER_SAMPLE, Kinds::Short, samples);
     let v = tag::look_up(dir, rule)?;
-    depth_from(
-        dir,
-        v,
-        number::value(dir.file, dir.ifd.order, v.size, v.place),
-    )
+    let bits = number::value(dir.file, dir.ifd.order, v.size, v.place);
+    depth_from(dir, v, bits)
 }
 
 // A tag of which only 1 is carried, its default.
@@ -76,12 +73,8 @@ fn only_one(dir: Directory, tag: usize, kinds: Kinds, legal: usize) -> Result<us
     requires numeric { Numeric kinds }
     ensures { out result ≡ run dir.entry.file.now (only_one dir.entry.ifd tag kinds legal) }
 {
-    tag::one(
-        dir,
-        Rule::optional(tag, kinds, 1),
-        1,
-        Range::new(legal, 1, 1),
-    )
+    let rule = Rule::optional(tag, kinds, 1);
+    tag::one(dir, rule, 1, Range::new(legal, 1, 1))
 }
 
 // SampleFormat.
@@ -99,12 +92,8 @@ fn strip_rows(dir: Directory) -> Result<usize, Refusal>
     ensures { (out result ≡ run dir.entry.file.now (strip_rows_reading dir.entry.ifd)) × NumberIn (range 1 1 0xFFFF_FFFF_FFFF_FFFF) result }
 {
     let rule = Rule::optional(names::ROWS_PER_STRIP, Kinds::ShortOrLong, 1);
-    tag::one(
-        dir,
-        rule,
-        4294967295,
-        Range::new(1, 1, 0xFFFF_FFFF_FFFF_FFFF),
-    )
+    let some = Range::new(1, 1, 0xFFFF_FFFF_FFFF_FFFF);
+    tag::one(dir, rule, 4294967295, some)
 }
 
 #[tactic(auto, using(crate::proofs::Chain::chain), unfolding(crate::specs::Layout::layout_reading))]

@@ -28,10 +28,10 @@ fn times(x: usize, a: usize, b: usize, c: usize, d: usize) -> usize
     usize::from(a == x) + usize::from(b == x) + usize::from(c == x) + usize::from(d == x)
 }
 
-// The place of the first x of four numbers: the fourth, if it is none of the others.
+// The place of the first x of four numbers: the fourth, if it is none of the others. A branch a place, as the definition goes.
 #[tactic(auto, unfolding(crate::specs::Pattern::first_of, reading::specs::Reading::pick))]
 fn first(x: usize, a: usize, b: usize, c: usize) -> usize
-    ensures { result ≡ first_of x a b c }
+    ensures { (result ≡ first_of x a b c) × (result ≤ 3) }
 {
     if a == x {
         0
@@ -45,22 +45,14 @@ fn first(x: usize, a: usize, b: usize, c: usize) -> usize
 }
 
 // And of the last: the first, if it is none of the others.
-#[tactic(auto, unfolding(crate::specs::Pattern::last_of, reading::specs::Reading::pick))]
+#[tactic(auto, unfolding(crate::specs::Pattern::last_of, crate::specs::Pattern::first_of, reading::specs::Reading::pick))]
 fn last(x: usize, b: usize, c: usize, d: usize) -> usize
     ensures { result ≡ last_of x b c d }
 {
-    if d == x {
-        3
-    } else if c == x {
-        2
-    } else if b == x {
-        1
-    } else {
-        0
-    }
+    3 - first(x, d, c, b)
 }
 
-// The places of four colours.
+// The places of four colours, by name as in the definition: an array would say the place of each.
 #[tactic(auto, unfolding(crate::specs::Pattern::places_of, reading::specs::Reading::pick))]
 fn places(a: usize, b: usize, c: usize, d: usize) -> Result<Pattern, Refusal>
     ensures { out result ≡ places_of a b c d }

@@ -84,6 +84,7 @@ fn both_of(
 pub fn lengths_of(dir: Directory, tag: usize, default: Lengths) -> Result<Lengths, Refusal>
     ensures { out result ≡ run dir.entry.file.now (lengths_reading dir.entry.ifd tag default) }
 {
-    let v = tag::look_up(dir, Rule::optional(tag, Kinds::ShortLongOrRational, 2))?;
+    let rule = Rule::optional(tag, Kinds::ShortLongOrRational, 2);
+    let v = tag::look_up(dir, rule)?;
     both_of(dir.file, dir.ifd.order, tag, default, v)
 }
