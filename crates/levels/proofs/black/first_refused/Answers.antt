@@ -1,5 +1,5 @@
 use mathlib.Core.Path.{sym, ◌∙◌}
-use Prim.Native.Nat.{◌-◌, ◌+◌, ◌<◌}
+use Prim.Native.Nat.{◌<◌}
 use native.Mathlib.Nat.{mul-suc, mul-zero, sub-zero}
 use native.Mathlib.Omega.{arith}
 use Rattle.std.proofs.lemmas.Result.{err_from_is_err_and}
@@ -19,7 +19,8 @@ returns-in_err-black_at c =
     let l = c.loop in
     let p = err_from_is_err_and c.from_residual.result c.from_residual.ensures.1 in
     rw (p.1, p.2)
-    (sym (refused_here (black_at a.kind a.order a.s.now) a.step l.p a.count l.counter c.loop-test.true (sym c.black_at.ensures ∙ c.in_err-black_at.was)) ∙ l.invariant.1)
+    (sym (refused_here (black_at a.kind a.order a.s.now) a.step l.p a.count l.counter c.loop-test.true
+    (sym c.black_at.ensures ∙ c.in_err-black_at.was)) ∙ l.invariant.1)
 
 pub overflow_add-p : goal.overflow_add-p
 overflow_add-p c =
@@ -30,9 +31,11 @@ overflow_add-p c =
 pub loop-preserved : goal.loop-preserved
 loop-preserved c =
     let a = c.args in
-    let l = c.loop in
-    (omega (arith, mul-suc a.step l.counter, l.invariant.0),
-     sym (refused_on (black_at a.kind a.order a.s.now) a.step l.p a.count l.counter c.loop-test.true (sym c.black_at.ensures ∙ c.in_ok-black_at.was)) ∙ l.invariant.1)
+    let l = c.loop in (
+      omega (arith, mul-suc a.step l.counter, l.invariant.0),
+      sym (refused_on (black_at a.kind a.order a.s.now) a.step l.p a.count l.counter c.loop-test.true
+          (sym c.black_at.ensures ∙ c.in_ok-black_at.was)) ∙ l.invariant.1,
+    )
 
 pub returns : goal.returns
 returns c =

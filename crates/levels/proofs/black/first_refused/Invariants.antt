@@ -8,4 +8,5 @@ use Rattle.levels.proofs.black.first_refused.Given as goal
 abbrev pub invariant-loop : goal.invariant-loop
 invariant-loop l =
     (l.p ≡ l.at + l.step * l.counter)
-    × (first_refused (run_of (black_at l.kind l.order l.s) l.step l.p (l.count - l.counter)) ≡ first_refused (run_of (black_at l.kind l.order l.s) l.step l.at l.count))
+    × (first_refused (run_of (black_at l.kind l.order l.s) l.step l.p (l.count - l.counter))
+    ≡ first_refused (run_of (black_at l.kind l.order l.s) l.step l.at l.count))

@@ -3,40 +3,16 @@ use Rattle.opcodes.specs.OpcodeList.{lines_form}
 use Rattle.opcodes.proofs.OpcodeLists.{form_table, form_polynomial, form_rows, form_columns}
 use Rattle.opcodes.proofs.list.form_for.Goals as goal
 
-pub table_form-requires : goal.table_form-requires
-table_form-requires c =
-    c.requires.n_bound
-
 pub returns-then-id-eq7 : goal.returns-then-id-eq7
 returns-then-id-eq7 c =
     let a = c.args in
     c.table_form.ensures ∙ form_table a.grid a.id a.n (eq-eqb _ _ c.if-id-eq7.true)
-
-pub polynomial_form-requires : goal.polynomial_form-requires
-polynomial_form-requires c =
-    c.requires.n_bound
 
 pub returns-then-id-eq8 : goal.returns-then-id-eq8
 returns-then-id-eq8 c =
     let a = c.args in
     c.polynomial_form.ensures ∙ form_polynomial a.grid a.id a.n (ne_eqb _ _ c.if-id-eq7.false)
     (eq-eqb _ _ c.if-id-eq8.true)
-
-pub lines-requires : goal.lines-requires
-lines-requires c =
-    c.requires.top_le_bottom
-
-pub lines_form-requires : goal.lines_form-requires
-lines_form-requires c =
-    c.requires.n_bound
-
-pub lines-requires-else-by_row : goal.lines-requires-else-by_row
-lines-requires-else-by_row c =
-    c.requires.left_le_right
-
-pub lines_form-requires-else-by_row : goal.lines_form-requires-else-by_row
-lines_form-requires-else-by_row c =
-    c.requires.n_bound
 
 pub returns-then-by_row : goal.returns-then-by_row
 returns-then-by_row c =
