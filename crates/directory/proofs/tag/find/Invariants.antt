@@ -8,5 +8,5 @@ use Rattle.directory.proofs.tag.find.Given as goal
 
 abbrev pub invariant-loop : goal.invariant-loop
 invariant-loop l =
-    (run l.file (find_from l.widths l.order l.count l.at l.tag) ≡ run l.file (find_from l.widths l.order (l.count - l.counter) l.p l.tag))
-    × (l.p + entry_width l.widths * (l.count - l.counter) ≤ length l.file)
+    (run l.file (find_from l.ifd.widths l.ifd.order l.ifd.count l.ifd.at l.tag) ≡ run l.file (find_from l.ifd.widths l.ifd.order (l.ifd.count - l.counter) l.p l.tag))
+    × (l.p + entry_width l.ifd.widths * (l.ifd.count - l.counter) ≤ length l.file)
