@@ -115,17 +115,17 @@ abbrev pub shown_of : Chain → Slices → Chained
 shown_of ch s =
     record {
       answer =
-        record {
-          number = 0;
-          detail = 0;
-          value = ch.value;
-          levels = ch.levels;
-          covering = length ch.places;
-          skipped = length ch.skipped;
-        };
+          record {
+            number = 0;
+            detail = 0;
+            value = ch.value;
+            levels = ch.levels;
+            covering = length ch.places;
+            skipped = length ch.skipped;
+          };
       lent =
-        slices (written ch.places s.places) (written (map id_of ch.links) s.ids) (written (map before_of ch.links) s.before)
-        (written (map after_of ch.links) s.after) (written ch.skipped s.skipped);
+          slices (written ch.places s.places) (written (map id_of ch.links) s.ids) (written (map before_of ch.links) s.before)
+          (written (map after_of ch.links) s.after) (written ch.skipped s.skipped);
     }
 
 -- "Refusals: as spot; then 14"

@@ -93,9 +93,7 @@ fn chain_in(
     ) {
         return Err(Refusal::SliceLength);
     }
-    Ok(chain_at(
-        file, view, spot, places, ids, before, after, skipped,
-    ))
+    Ok(chain_at(file, view, spot, places, ids, before, after, skipped))
 }
 
 pub fn chain(

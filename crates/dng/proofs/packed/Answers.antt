@@ -1,17 +1,12 @@
 use mathlib.Core.Path.{refl}
-use native.Mathlib.Omega.{arith}
 use Rattle.dng.specs.Interface.{packed_of}
 use Rattle.dng.proofs.packed.Goals as goal
-
-pub overflow_mul-result : goal.overflow_mul-result
-overflow_mul-result c =
-    omega arith
-
-pub overflow_add-result : goal.overflow_add-result
-overflow_add-result c =
-    omega arith
+use Rattle.dng.proofs.packed.Goals.{in-Ok, in-Err}
 
 pub returns : goal.returns
 unfolding packed_of
-returns c =
-    refl
+returns g c =
+    elim c.match-answer.branch [
+    in-Ok w ↦ rw (w.in-Ok.is, w.result-is) refl |
+    in-Err w ↦ rw (w.in-Err.is, w.result-is, w.number.ensures.0, w.detail.ensures) refl
+    ]
