@@ -7,6 +7,7 @@ ghost use Rattle.develop.specs.Facts.View.{Viewed};
 use crate::fill::Rectangle;
 use crate::{View, fill, window};
 use colour::{Colour, pass, tags};
+use directory::Directory;
 use directory::refusal::Refusal;
 
 // A colour window of an accepted file whose colour tags are read.
@@ -39,7 +40,11 @@ fn colour_window_in(
     if view.size.samples != 3 {
         return Err(Refusal::Planes);
     }
-    let colour = tags::colour_of(file, view.picture.first)?;
+    let first = Directory {
+        file,
+        ifd: view.picture.first,
+    };
+    let colour = tags::colour_of(first)?;
     coloured_in(file, view, colour, window, out)
 }
 

@@ -19,6 +19,7 @@ use colour::pixel::Xyz;
 use colour::{Colour, pixel, tags};
 use develop::fill::Rectangle;
 use develop::{View, fill, window};
+use directory::Directory;
 use directory::refusal::Refusal;
 use levels::active::ActiveColumn;
 use opcodes::grid::Size;
@@ -43,8 +44,16 @@ fn half_of(file: &[u8], picture: Picture) -> Result<Half, Refusal>
     if picture.raw.tags.frame.samples != 1 {
         return Err(Refusal::Planes);
     }
-    let colour = tags::colour_of(file, picture.first)?;
-    let pattern = pattern::pattern_of(file, picture.directory)?;
+    let first = Directory {
+        file,
+        ifd: picture.first,
+    };
+    let raw = Directory {
+        file,
+        ifd: picture.directory,
+    };
+    let colour = tags::colour_of(first)?;
+    let pattern = pattern::pattern_of(raw)?;
     Ok(Half { colour, pattern })
 }
 
