@@ -41,10 +41,8 @@ fn repeat(period: usize, out: &mut [f64])
     requires { 1 ≤ period }
     ensures { (g : ℕ → Float) → ((k : ℕ) → k < period → k < length out.old → get_or out.old k nan ≡ g k) → ((k : ℕ) → g (k + period) ≡ g k) → Filled nan g (length out.old) out.new }
 {
-    let mut i = period;
-    while i < out.len() {
+    for i in period..out.len() {
         out[i] = out[i - period];
-        i += 1;
     }
 }
 
@@ -62,12 +60,10 @@ fn first_cells(
 {
     let samples = tags.frame.samples;
     let l = column.0;
-    let mut i = 0;
-    while i < out.len() {
+    for (i, number) in out.iter_mut().enumerate() {
         let c = ActiveColumn(l + i / samples);
         let cell = sample::cell_at(file, order, tags, row, c, i % samples);
-        out[i] = reciprocal::number_of(cell);
-        i += 1;
+        *number = reciprocal::number_of(cell);
     }
 }
 
@@ -95,10 +91,8 @@ fn first_inverses(file: &[u8], order: Order, raw: Raw, out: &mut [f64])
     ensures { Filled nan (λ (k : ℕ). inverse_of (span_along (run file.now (levels_reading order raw.tags)) raw.tags.frame.samples k)) (length out.old) out.new }
 {
     let spans = raw.spans;
-    let mut i = 0;
-    while i < out.len() {
-        out[i] = reciprocal::inverse(sample::span_at(spans, i));
-        i += 1;
+    for (i, number) in out.iter_mut().enumerate() {
+        *number = reciprocal::inverse(sample::span_at(spans, i));
     }
 }
 
@@ -126,13 +120,10 @@ fn fill_cells(
     ensures { (r k : ℕ) → r < tags.levels.repeat.rows → k < q → get_or out.new (r * q + k) nan ≡ of_parts (cell_along (run file.now (levels_reading order tags)) tags.frame.samples r column.0 k) }
 {
     let rows = tags.levels.repeat.rows;
-    let mut r = 0;
-    let mut a = 0;
-    while r < rows {
+    for r in 0..rows {
+        let a = r * q;
         let e = a + q;
         cells_row(file, order, tags, ActiveRow(r), column, &mut out[a..e]);
-        a = e;
-        r += 1;
     }
 }
 
@@ -163,9 +154,7 @@ pub fn fill_deltas(file: &[u8], order: Order, tags: Tags, column: ActiveColumn, 
     let deltas = tags.levels.column_deltas;
     let samples = tags.frame.samples;
     let l = column.0;
-    let mut i = 0;
-    while i < out.len() {
-        out[i] = sample::delta_at(file, order, deltas, l + i / samples) as i32;
-        i += 1;
+    for (i, delta) in out.iter_mut().enumerate() {
+        *delta = sample::delta_at(file, order, deltas, l + i / samples) as i32;
     }
 }

@@ -30,11 +30,9 @@ fn scaled_shorts(line: Line, file: &[u8], blacks: &[f64], inverses: &[f64], out:
     let order = line.order;
     let place = line.place;
     let down = line.down;
-    let mut i = 0;
-    while i < out.len() {
+    for (i, value) in out.iter_mut().enumerate() {
         let v = number::short(file, order, place + 2 * i);
-        out[i] = reciprocal::scaled_by(v, blacks[i] + down, inverses[i]);
-        i += 1;
+        *value = reciprocal::scaled_by(v, blacks[i] + down, inverses[i]);
     }
 }
 
@@ -60,11 +58,9 @@ fn fill_numbers(line: Line, file: &[u8], out: &mut [u16])
     let place = line.place;
     let table = line.table;
     let count = line.count;
-    let mut i = 0;
-    while i < out.len() {
+    for (i, number) in out.iter_mut().enumerate() {
         let stored = stored_at(file, order, bytes, place, i);
-        out[i] = table::through(file, order, table, count, stored);
-        i += 1;
+        *number = table::through(file, order, table, count, stored);
     }
 }
 
@@ -73,10 +69,8 @@ fn scaled_numbers(numbers: &[u16], down: f64, blacks: &[f64], inverses: &[f64], 
     requires { (length out.old ≤ length numbers.now) × (length out.old ≤ length blacks.now) × (length out.old ≤ length inverses.now) }
     ensures { (black span : ℕ → ℤ) → Levelled black span blacks.now inverses.now down (length out.old) → Filled nan (λ (k : ℕ). scaled_of (level_of (difference_of (get_or numbers.now k 0) (black k)) (span k))) (length out.old) out.new }
 {
-    let mut i = 0;
-    while i < out.len() {
-        out[i] = reciprocal::scaled_by(numbers[i], blacks[i] + down, inverses[i]);
-        i += 1;
+    for (i, value) in out.iter_mut().enumerate() {
+        *value = reciprocal::scaled_by(numbers[i], blacks[i] + down, inverses[i]);
     }
 }
 

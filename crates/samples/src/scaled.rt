@@ -25,10 +25,8 @@ fn add_deltas(cells: &[f64], deltas: &[i32], at: usize, out: &mut [f64])
     requires { (length out.old ≤ length cells.now) × (at + length out.old ≤ length deltas.now) × Small deltas.now }
     ensures { Filled nan (λ (k : ℕ). add binary64 (get_or cells.now k nan) (of_parts (get_or deltas.now (at + k) (pos 0)))) (length out.old) out.new }
 {
-    let mut i = 0;
-    while i < out.len() {
-        out[i] = cells[i] + reciprocal::number_of(deltas[at + i] as i64);
-        i += 1;
+    for (i, sum) in out.iter_mut().enumerate() {
+        *sum = cells[i] + reciprocal::number_of(deltas[at + i] as i64);
     }
 }
 

@@ -1,7 +1,5 @@
-use mathlib.Core.Path.{◌≡◌}
-use Prim.Native.Nat.{ℕ, ◌-◌, ◌≤◌}
+use Prim.Native.Nat.{ℕ}
 use lib.Ieee.{nan}
-use lib.ListN.{length}
 use Rattle.levels.specs.Facts.Reciprocal.{of_parts}
 use Rattle.reading.specs.Reading.{run}
 use Rattle.raw.specs.Stored.{levels_reading}
@@ -11,8 +9,4 @@ use Rattle.samples.proofs.along.first_cells.Given as goal
 
 abbrev pub invariant-loop-i : goal.invariant-loop-i
 invariant-loop-i l =
-    (length l.out ≡ length l.initial.out) × (l.i ≤ length l.initial.out)
-    × Filled nan (λ (k : ℕ). of_parts (cell_along (run l.file (levels_reading l.order l.tags)) l.samples l.row.0 l.l k)) l.i l.out
-
-abbrev pub decreases-loop-i : goal.decreases-loop-i
-decreases-loop-i l = length l.initial.out - l.i
+    Filled nan (λ (k : ℕ). of_parts (cell_along (run l.file (levels_reading l.order l.tags)) l.samples l.row.0 l.l k)) l.i l.out

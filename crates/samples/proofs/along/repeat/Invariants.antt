@@ -1,14 +1,10 @@
 use mathlib.Core.Path.{◌≡◌}
-use Prim.Native.Nat.{ℕ, ◌+◌, ◌-◌, ◌≤◌, ◌<◌}
+use Prim.Native.Nat.{ℕ, ◌+◌, ◌<◌}
 use lib.Ieee.{Float, nan}
 use lib.ListN.{length, get_or}
 use Rattle.samples.proofs.along.repeat.Given as goal
 
 abbrev pub invariant-loop-i : goal.invariant-loop-i
 invariant-loop-i l =
-    (length l.out ≡ length l.initial.out) × (l.period ≤ l.i)
-    × ((g : ℕ → Float) → ((k : ℕ) → k < l.period → k < length l.initial.out → get_or l.initial.out k nan ≡ g k) → ((k : ℕ) → g (k + l.period) ≡ g k)
-    → (k : ℕ) → k < l.i → k < length l.initial.out → get_or l.out k nan ≡ g k)
-
-abbrev pub decreases-loop-i : goal.decreases-loop-i
-decreases-loop-i l = length l.initial.out - l.i
+    (g : ℕ → Float) → ((k : ℕ) → k < l.period → k < length l.initial.out → get_or l.initial.out k nan ≡ g k) → ((k : ℕ) → g (k + l.period) ≡ g k)
+    → (k : ℕ) → k < l.i → k < length l.initial.out → get_or l.out k nan ≡ g k

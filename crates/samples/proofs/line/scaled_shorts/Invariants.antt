@@ -1,5 +1,4 @@
-use mathlib.Core.Path.{◌≡◌}
-use Prim.Native.Nat.{ℕ, ◌-◌, ◌≤◌}
+use Prim.Native.Nat.{ℕ}
 use lib.IntN.{ℤ}
 use lib.Ieee.{nan}
 use lib.ListN.{length}
@@ -9,9 +8,5 @@ use Rattle.samples.proofs.line.scaled_shorts.Given as goal
 
 abbrev pub invariant-loop-i : goal.invariant-loop-i
 invariant-loop-i l =
-    (length l.out ≡ length l.initial.out) × (l.i ≤ length l.initial.out)
-    × ((black span : ℕ → ℤ) → Levelled black span l.blacks l.inverses l.down (length l.initial.out) →
-    Filled nan (plain_value l.file l.order 2 l.place black span) l.i l.out)
-
-abbrev pub decreases-loop-i : goal.decreases-loop-i
-decreases-loop-i l = length l.initial.out - l.i
+    (black span : ℕ → ℤ) → Levelled black span l.blacks l.inverses l.down (length l.initial.out) →
+    Filled nan (plain_value l.file l.order 2 l.place black span) l.i l.out
