@@ -41,14 +41,13 @@ fn sweep_gain(
     requires gain_map_in { GainMapIn ps.now × (across ≡ across_of ps.now) × BracketIn (long_of ps.now 32) down × (q < planes_in ps.now) }
     ensures { out.new ≡ swept_of columns.places.first columns.places.end columns.places.pitch (λ (k : ℕ) (x : Float). times_gain ps.now down q width (column_at columns k) x) out.old }
 {
-    let left = columns.left;
-    let pitch = columns.pitch;
-    let skip = columns.skip;
     let places = columns.places;
+    let pitch = columns.pitch;
+    let start = columns.left + columns.skip * pitch;
     let mut corners = gain_map::corners_at(ps, down, q, 0);
     for n in 0..places.count() {
         let i = places.first + n * places.pitch;
-        let c = left + (skip + n) * pitch;
+        let c = start + n * pitch;
         let bracket = gain_map::located_near(across, width, c, corners);
         corners = gain_map::corners_near(ps, corners, down, q, gain_map::point(bracket));
         out[i] = step::clip(out[i] * gain_map::corners_gain(corners, down, bracket));
