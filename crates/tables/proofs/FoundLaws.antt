@@ -5,8 +5,7 @@ use mathlib.Core.Logic.{⊎_elim}
 use mathlib.Core.List.{List, []}
 use Prim.Native.Nat.{ℕ, ◌+◌, ◌-◌, ◌*◌, ◌/◌, ◌%◌, ◌≤◌, ◌<◌, min}
 use native.Mathlib.Nat.{zero-add, add-zero, mul_assoc, mul_comm, zero-mod, mod-eq_of_lt, mod-add-mod, mod-lt, mod-one}
-use native.Mathlib.Nat.{add-mod-mod, add-mul-mod_self_right, div-one, div-add-mod', add-mul, mul-le-mul_right}
-use Rattle.std.proofs.lemmas.Grind.{div_ceil_times}
+use native.Mathlib.Nat.{add-mod-mod, add-mul-mod_self_right, div-one, div-add-mod'}
 use native.Mathlib.Omega.{arith}
 use lib.IntN.{ℤ, pos, ◌+ℤ◌, +ℤ_idr}
 use lib.Ieee.{Float, nan}
@@ -80,19 +79,6 @@ module _ (n at : ℕ) (whole : at % n ≡ 0) where
   -- the c-th place behind is of the c-th column
   pub column_of : (c : ℕ) → c < n → c ≡ (at + c) % n
   column_of c h = sym (sym (mod-add-mod at n c) ∙ ap (λ (z : ℕ). (z + c) % n) whole ∙ ap (λ (z : ℕ). z % n) (zero-add c) ∙ mod-eq_of_lt h)
-
--- ---- group by group, from one on below an end
-module _ (from n end count g : ℕ) (some : 1 ≤ n) (q : count ≡ (end - from) / n + min 1 ((end - from) % n)) where
-  times : (end - from ≤ count * n) × (count * n < end - from + n)
-  times = rw q (div_ceil_times (end - from) n some)
-
-  pub groups_told : g < count → from + g * n < end
-  groups_told h =
-      let m : (g + 1) * n ≤ count * n = mul-le-mul_right n (omega arith) in
-      omega (arith, add-mul g 1 n, times)
-
-  pub groups_whole : count ≤ g → end ≤ from + g * n
-  groups_whole h = let m : count * n ≤ g * n = mul-le-mul_right n h in omega (arith, times)
 
 -- ---- four columns at a time, where the columns come again after four
 module _ (n : ℕ) (fours : 4 % n ≡ 0) where

@@ -6,14 +6,15 @@ use native.Mathlib.Omega.{arith}
 use borrow.Author.Rules.{rules}
 use lib.ListN.{length, get_or}
 use Rattle.tables.specs.Facts.RowTables.{found, found_along}
-use Rattle.tables.proofs.FoundLaws.{column_of, groups_told, groups_whole}
+use Rattle.samples.proofs.Lines.{groups_told, groups_whole}
+use Rattle.tables.proofs.FoundLaws.{column_of}
 use Rattle.tables.proofs.row.look_up_groups.Goals.{In-loop-g}
 use Rattle.tables.proofs.row.look_up_groups.Goals as goal
 
 -- a group's first sample
 inside : (c : In-loop-g) → c.args.from + c.loop-g.g * c.args.columns < length c.args.out.now
 inside c =
-    groups_told c.args.from c.args.columns (length c.args.out.now) _ c.loop-g.g c.requires.1 c.div_ceil-g-end.ensures c.loop-g-test.true
+    omega (arith, groups_told c.args.columns _ _ c.loop-g.g c.requires.1 c.div_ceil-g-end.ensures c.loop-g-test.true)
 
 pub loop-g-preserved : goal.loop-g-preserved
 loop-g-preserved c w k h =
@@ -31,4 +32,4 @@ pub returns : goal.returns
 returns c w k h =
     let a = c.args in
     let l = c.loop-g in
-    l.invariant w k (omega (arith, groups_whole a.from a.columns (length a.out.now) _ l.g c.requires.1 c.div_ceil-g-end.ensures (omega arith)))
+    l.invariant w k (omega (arith, groups_whole a.columns _ _ l.g c.requires.1 c.div_ceil-g-end.ensures (omega arith)))
