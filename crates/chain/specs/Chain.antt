@@ -1,5 +1,5 @@
 -- "Why is this sample what it is?": the chain behind a spot, and what the call answers, for every string of bytes and every argument.
-use Rattle.std.specs.Prelude.{ℕ, Bool, ◌&&◌, List, ◌++◌, map, leb, Float, pos, length, drop}
+use Rattle.std.specs.Prelude.{ℕ, Bool, ◌&&◌, List, ◌++◌, map, leb, Float, pos, length, drop, Result, Ok, Err}
 use Rattle.reading.specs.Reading.{pick}
 use Rattle.directory.specs.Out.{Out, Out.refused, Out.is}
 use Rattle.levels.specs.Clip.{plus_zero}
@@ -11,7 +11,9 @@ use Rattle.opcodes.specs.Frame.{touches}
 use Rattle.develop.specs.Calls.{Opened, opened, size_of, tags_of, developed_in, within}
 use Rattle.chain.specs.Links.{links_of, is_skipped, places_where}
 use Rattle.chain.specs.declared.links.Link.{Link}
-use Rattle.chain.specs.declared.ChainAnswer.{ChainAnswer}
+use Rattle.chain.specs.declared.SpotChain.{SpotChain}
+use Rattle.directory.specs.Refusal.{number_of, detail_of}
+use Rattle.directory.specs.declared.refusal.Refusal.{Refusal}
 
 -- ---- the chain
 
@@ -46,13 +48,19 @@ pub record Slices : Type 0 where
 abbrev pub slices : List ℕ → List ℕ → List Float → List Float → List ℕ → Slices
 slices ps ns xs ys ks = record { places = ps; ids = ns; before = xs; after = ys; skipped = ks }
 
+-- number, detail, the spot's value and the numbers behind its level; how many opcodes cover the spot, and how many are skipped
+pub record ChainAnswer : Type 0 where
+  pub number : ℕ
+  pub detail : ℕ
+  pub value : Float
+  pub levels : LevelNumbers
+  pub covering : ℕ
+  pub skipped : ℕ
+
 -- the answer, and the five lent slices after the call
 pub record Chained : Type 0 where
   pub answer : ChainAnswer
   pub lent : Slices
-
-abbrev pub chained_with : ChainAnswer → Slices → Chained
-chained_with a s = record { answer = a; lent = s }
 
 -- "14 if any of the five slices has fewer than 32 places", by their lengths
 abbrev pub room_for : ℕ → ℕ → ℕ → ℕ → ℕ → Bool
@@ -80,7 +88,15 @@ refused_answer n d = record { number = n; detail = d; value = plus_zero; levels 
 
 -- "and leaves the slices unchanged"
 abbrev pub refused_chain : ℕ → ℕ → Slices → Chained
-refused_chain n d s = chained_with (refused_answer n d) s
+refused_chain n d s = record { answer = refused_answer n d; lent = s }
+
+-- the answer of a call
+abbrev pub answer_of : Result SpotChain Refusal → ChainAnswer
+answer_of (Ok a) = record { number = 0; detail = 0; value = a.value; levels = a.levels; covering = a.covering; skipped = a.skipped }
+answer_of (Err r) = refused_answer (number_of r) (detail_of r)
+
+abbrev pub chained_with : Result SpotChain Refusal → Slices → Chained
+chained_with a s = record { answer = answer_of a; lent = s }
 
 -- a slice's first places take these; "Unused places keep what they held"
 abbrev pub written : {A : Type 0} → List A → List A → List A
@@ -97,17 +113,20 @@ after_of l = l.after
 
 abbrev pub shown_of : Chain → Slices → Chained
 shown_of ch s =
-    chained_with
-    (record {
-      number = 0;
-      detail = 0;
-      value = ch.value;
-      levels = ch.levels;
-      covering = length ch.places;
-      skipped = length ch.skipped;
-    })
-    (slices (written ch.places s.places) (written (map id_of ch.links) s.ids) (written (map before_of ch.links) s.before)
-    (written (map after_of ch.links) s.after) (written ch.skipped s.skipped))
+    record {
+      answer =
+        record {
+          number = 0;
+          detail = 0;
+          value = ch.value;
+          levels = ch.levels;
+          covering = length ch.places;
+          skipped = length ch.skipped;
+        };
+      lent =
+        slices (written ch.places s.places) (written (map id_of ch.links) s.ids) (written (map before_of ch.links) s.before)
+        (written (map after_of ch.links) s.after) (written ch.skipped s.skipped);
+    }
 
 -- "Refusals: as spot; then 14"
 abbrev pub chain_in : List ℕ → ℕ → ℕ → ℕ → Slices → Out Opened → Chained

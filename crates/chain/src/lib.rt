@@ -2,71 +2,35 @@
 // skipped opcodes.
 #![tactic(auto)]
 
-ghost use Rattle.std.specs.Prelude.{◌≡◌, true, length};
+ghost use Rattle.std.specs.Prelude.{◌≡◌, Ok, true, length};
 ghost use Rattle.raw.specs.Sample.{ActiveIn};
 ghost use Rattle.develop.specs.Facts.View.{Viewed};
-ghost use Rattle.chain.specs.Chain.{chain_of, slices, room_for, refused_answer, chained_with, shown_of, chain_call};
+ghost use Rattle.chain.specs.Chain.{chain_of, slices, room_for, chained_with, shown_of, chain_call};
 ghost use Rattle.chain.specs.Explained.{Explained};
 
 use crate::links::Spot;
-use develop::{Opening, View, spot};
+use develop::{View, spot};
+use directory::refusal::Refusal;
 use levels::LevelNumbers;
 use levels::active::{ActiveColumn, ActiveRow};
 use raw::sample;
 
 pub mod links;
 
-// Number, detail, the spot's value and the numbers behind its level; how many opcodes cover the spot, and how many are skipped.
+// The spot's value and the numbers behind its level; how many opcodes cover the spot, and how many are skipped.
 #[derive(Clone, Copy)]
-pub struct ChainAnswer {
-    pub number: usize,
-    pub detail: usize,
+pub struct SpotChain {
     pub value: f64,
     pub levels: LevelNumbers,
     pub covering: usize,
     pub skipped: usize,
 }
 
-fn refused(number: usize, detail: usize) -> ChainAnswer
-    ensures { result ≡ refused_answer number detail }
-{
-    let levels = LevelNumbers {
-        stored: 0,
-        table_value: 0,
-        cell: 0,
-        column_delta: 0,
-        row_delta: 0,
-        black: 0,
-        greatest_black: 0,
-        level: 0,
-    };
-    ChainAnswer {
-        number,
-        detail,
-        value: 0.0,
-        levels,
-        covering: 0,
-        skipped: 0,
-    }
-}
-
 // Whether five slices of these lengths have 32 places each.
 fn room(places: usize, ids: usize, before: usize, after: usize, skipped: usize) -> bool
     ensures { result ≡ room_for places ids before after skipped }
 {
-    if places < 32 {
-        return false;
-    }
-    if ids < 32 {
-        return false;
-    }
-    if before < 32 {
-        return false;
-    }
-    if after < 32 {
-        return false;
-    }
-    32 <= skipped
+    32 <= places && 32 <= ids && 32 <= before && 32 <= after && 32 <= skipped
 }
 
 // The chain of a spot of the active area.
@@ -79,10 +43,10 @@ fn chain_at(
     before: &mut [f64],
     after: &mut [f64],
     skipped: &mut [u64],
-) -> ChainAnswer
+) -> SpotChain
     requires viewed { Viewed file.now view × ActiveIn view.picture.raw.tags spot.row.0 spot.column.0 spot.plane }
     requires skipped_value { room_for (length places.old) (length ids.old) (length before.old) (length after.old) (length skipped.old) ≡ true }
-    ensures { (q : Viewed file.now view) → chained_with result (slices places.new ids.new before.new after.new skipped.new) ≡ shown_of (chain_of file.now q.file spot.row.0 spot.column.0 spot.plane) (slices places.old ids.old before.old after.old skipped.old) }
+    ensures { (q : Viewed file.now view) → chained_with (Ok result) (slices places.new ids.new before.new after.new skipped.new) ≡ shown_of (chain_of file.now q.file spot.row.0 spot.column.0 spot.plane) (slices places.old ids.old before.old after.old skipped.old) }
 {
     let picture = view.picture;
     let order = picture.order;
@@ -95,9 +59,7 @@ fn chain_at(
     let opcodes = links::opcodes_of(file, view.size, list);
     let covering = links::cover(file, opcodes, spot, x, places, ids, before, after);
     let count = links::skip(file, opcodes, skipped);
-    ChainAnswer {
-        number: 0,
-        detail: 0,
+    SpotChain {
         value: covering.value,
         levels: numbers,
         covering: covering.count,
@@ -115,23 +77,25 @@ fn chain_in(
     before: &mut [f64],
     after: &mut [f64],
     skipped: &mut [u64],
-) -> ChainAnswer
+) -> Result<SpotChain, Refusal>
     requires { Viewed file.now view }
     ensures { chained_with result (slices places.new ids.new before.new after.new skipped.new) ≡ chain_call file.now spot.row.0 spot.column.0 spot.plane (slices places.old ids.old before.old after.old skipped.old) }
 {
-    if spot::within(view.size, spot.row.0, spot.column.0, spot.plane) {
-        if room(
-            places.len(),
-            ids.len(),
-            before.len(),
-            after.len(),
-            skipped.len(),
-        ) {
-            return chain_at(file, view, spot, places, ids, before, after, skipped);
-        }
-        return refused(14, 0);
+    if !spot::within(view.size, spot.row.0, spot.column.0, spot.plane) {
+        return Err(Refusal::Outside);
     }
-    refused(13, 0)
+    if !room(
+        places.len(),
+        ids.len(),
+        before.len(),
+        after.len(),
+        skipped.len(),
+    ) {
+        return Err(Refusal::SliceLength);
+    }
+    Ok(chain_at(
+        file, view, spot, places, ids, before, after, skipped,
+    ))
 }
 
 pub fn chain(
@@ -144,19 +108,15 @@ pub fn chain(
     before: &mut [f64],
     after: &mut [f64],
     skipped: &mut [u64],
-) -> ChainAnswer
+) -> Result<SpotChain, Refusal>
     ensures skipped_after { chained_with result (slices places.new ids.new before.new after.new skipped.new) ≡ chain_call file.now row column plane (slices places.old ids.old before.old after.old skipped.old) }
     ensures explained { Explained file.now row column plane }
 {
-    match develop::open(file) {
-        Opening::Refused { number, detail } => refused(number, detail),
-        Ok(view) => {
-            let spot = Spot {
-                row: ActiveRow(row),
-                column: ActiveColumn(column),
-                plane,
-            };
-            chain_in(file, view, spot, places, ids, before, after, skipped)
-        }
-    }
+    let view = develop::open(file)?;
+    let spot = Spot {
+        row: ActiveRow(row),
+        column: ActiveColumn(column),
+        plane,
+    };
+    chain_in(file, view, spot, places, ids, before, after, skipped)
 }

@@ -42,12 +42,6 @@ pub struct Link {
     pub after: f64,
 }
 
-#[derive(Clone, Copy)]
-pub enum Touch {
-    Off,
-    On(Link),
-}
-
 // How far the list is gone through: the next opcode's index and place, how many cover the spot, and the last value.
 #[derive(Clone, Copy)]
 pub struct Reached {
@@ -80,30 +74,26 @@ pub fn opcodes_of(file: &[u8], size: Size, list: Values) -> Opcodes
 }
 
 // One opcode, its header at a place, at a spot whose value is x.
-fn link_at(file: &[u8], size: Size, at: usize, header: Header, spot: Spot, x: f64) -> Touch
+fn link_at(file: &[u8], size: Size, at: usize, header: Header, spot: Spot, x: f64) -> Option<Link>
     requires opcode_read { OpcodeRead file.now size at header × SizedIn size }
     requires x_value { clip_of x ≡ x }
     ensures { (i : ℕ) (o : Opcode) → is o ≡ run file.now (opcode_reading (class_of header) size i at header) → result ≡ touch_of o spot.row.0 spot.column.0 spot.plane x }
 {
     let row = spot.row;
     let column = spot.column;
-    match list::classify(header) {
-        Class::Carried => {
-            let after = opcode::opcode_at(file, size, at + 16, header, row, column, spot.plane, x);
-            let g = grid::grid_at(file, at + 16);
-            if grid::on(g, row, column, spot.plane) {
-                let link = Link {
-                    id: header.id,
-                    before: x,
-                    after,
-                };
-                return Touch::On(link);
-            }
-            Touch::Off
-        }
-        Class::Optional => Touch::Off,
-        Class::Compulsory => Touch::Off,
+    if !matches!(list::classify(header), Class::Carried) {
+        return None;
     }
+    let after = opcode::opcode_at(file, size, at + 16, header, row, column, spot.plane, x);
+    let g = grid::grid_at(file, at + 16);
+    if !grid::on(g, row, column, spot.plane) {
+        return None;
+    }
+    Some(Link {
+        id: header.id,
+        before: x,
+        after,
+    })
 }
 
 // The n-th covering opcode, its index in the list and the link, into four slices.
@@ -151,13 +141,13 @@ fn next_link(
     let at = place + (16 + h.length);
     let index = i + 1;
     match link_at(file, size, place, h, spot, x) {
-        Touch::Off => Reached {
+        None => Reached {
             index,
             at,
             count: n,
             value: x,
         },
-        Touch::On(link) => {
+        Some(link) => {
             let value = link.after;
             let count = n + 1;
             write_link(n, i, link, places, ids, before, after);

@@ -1,17 +1,48 @@
 -- The card: "active rows, active columns, samples per pixel, corrections kept, corrections skipped", and the crop.
-use Rattle.std.specs.Prelude.{ℕ, List}
+use Rattle.std.specs.Prelude.{ℕ, List, Result, Ok, Err}
 use Rattle.directory.specs.Out.{Out, Out.refused, Out.is}
 use Rattle.opcodes.specs.OpcodeList.{kept_in, skipped_in}
-use Rattle.demand.specs.declared.card.CardAnswer.{CardAnswer}
+use Rattle.demand.specs.declared.card.FileCard.{FileCard}
+use Rattle.directory.specs.Refusal.{number_of, detail_of}
+use Rattle.directory.specs.declared.refusal.Refusal.{Refusal}
 use Rattle.rawtags.specs.declared.crop.Crop.{Crop}
 use Rattle.develop.specs.Calls.{Opened, opened, size_of, tags_of}
+
+-- number, detail and five values, and the crop
+pub record CardAnswer : Type 0 where
+  pub number : ℕ
+  pub detail : ℕ
+  pub rows : ℕ
+  pub columns : ℕ
+  pub samples : ℕ
+  pub kept : ℕ
+  pub skipped : ℕ
+  pub crop : Crop
 
 abbrev pub no_crop : Crop
 no_crop = record { left = 0; top = 0; columns = 0; rows = 0 }
 
 -- "A refused card holds five zeros", and "has zeros here too"
+abbrev pub refused_card : ℕ → ℕ → CardAnswer
+refused_card n d = record { number = n; detail = d; rows = 0; columns = 0; samples = 0; kept = 0; skipped = 0; crop = no_crop }
+
+-- the answer of a call
+abbrev pub card_with : Result FileCard Refusal → CardAnswer
+card_with (Ok c) =
+    record {
+      number = 0;
+      detail = 0;
+      rows = c.rows;
+      columns = c.columns;
+      samples = c.samples;
+      kept = c.kept;
+      skipped = c.skipped;
+      crop = c.crop;
+    }
+card_with (Err r) = refused_card (number_of r) (detail_of r)
+
 abbrev pub card_of : Out Opened → CardAnswer
-card_of (refused n d) = record { number = n; detail = d; rows = 0; columns = 0; samples = 0; kept = 0; skipped = 0; crop = no_crop }
+card_of (refused n d) = refused_card n d
 card_of (is o) =
     record {
       number = 0;

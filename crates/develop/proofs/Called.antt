@@ -10,7 +10,6 @@ use lib.Dec.{leb, eqb}
 use lib.Ieee.{Float}
 use lib.ListN.{length}
 use borrow.Author.Tests.{leb-true, eqb-true, eq-eqb, ne_eqb}
-use Rattle.reading.specs.Bytes.{some_inside}
 use Rattle.reading.specs.Reading.{run, pick}
 use Rattle.reading.proofs.Reading.{pick_yes, pick_no}
 use Rattle.directory.specs.Out.{Out, Out.is}
@@ -23,11 +22,15 @@ use Rattle.opcodes.specs.Frame.{standing, alone}
 use Rattle.opcodes.specs.declared.grid.Size.{Size}
 use Rattle.opcodes.proofs.OpcodeLists.{and-true}
 use Rattle.samples.specs.Facts.Line.{scaled_from}
+use Rattle.std.specs.Prelude.{Result, Ok, Err}
+use Rattle.std.specs.Result.{is_ok}
+use Rattle.directory.specs.declared.refusal.Refusal.{Refusal}
+use Rattle.directory.specs.declared.refusal.Refusal.TheVariants as refusal
 use Rattle.develop.specs.Calls.{Opened, size_of, frame_of, within, refused_spot, spot_of, spot_call, inside, values_of, window_with, alone_in}
 use Rattle.develop.specs.Calls.{refused_window, filled_of}
 use Rattle.develop.specs.Calls.{window_of, window_call, colour_for, pixel_in, coloured_of, colour_window_of, colour_window_call}
 use Rattle.develop.specs.Facts.View.{Viewed}
-use Rattle.develop.specs.Facts.Fill.{FillIn, window_fault}
+use Rattle.develop.specs.Facts.Fill.{FillIn, window_test}
 use Rattle.develop.specs.declared.View.{View}
 use Rattle.develop.proofs.Answers.{developed_alone, within_active, inside_fits, values_same}
 use Rattle.develop.proofs.Windows.{viewed_alone}
@@ -62,70 +65,53 @@ module _ (f : List ℕ) (v : View) (h : Viewed f v) (r c p : ℕ) where
       sym s ∙ ap (spot_of f r c p) h.accepted
 
 -- ---- 13 and 14
+passed_not_refused : (r : Refusal) → ◌≡◌ {A = Result (Unit {0}) Refusal} (Ok tt) (Err r) → ⊥
+passed_not_refused r e = let k : true ≡ false = ap is_ok e in cc
+
 module _ (z : Size) (t l h w : ℕ) where
-  abbrev pub rows_inside : Bool
-  rows_inside = some_inside t h z.rows
-
-  abbrev pub columns_inside : Bool
-  columns_inside = some_inside l w z.columns
-
-  inside_is : inside z t l h w ≡ (rows_inside && columns_inside)
-  inside_is = go (leb 1 h) (leb 1 w) (leb (t + h) z.rows) (leb (l + w) z.columns)
-    where
-      go : (a b c d : Bool) → (a && (b && (c && d))) ≡ ((a && c) && (b && d))
-      go true true c d = refl
-      go true false true d = refl
-      go true false false d = refl
-      go false b c d = refl
-
   module _ (n len : ℕ) where
-    pub fault_none : rows_inside ≡ true → columns_inside ≡ true → len ≡ h * w * n → 0 ≡ window_fault z n t l h w len
-    unfolding window_fault
-    fault_none a b e = sym (simp (inside_is, a, b, eq-eqb len (h * w * n) e, pick_yes))
+    pub test_passed : inside z t l h w ≡ true → len ≡ h * w * n → Ok tt ≡ window_test z n t l h w len
+    unfolding window_test
+    test_passed a e = sym (simp (a, eq-eqb len (h * w * n) e, pick_yes))
 
-    pub fault_length : rows_inside ≡ true → columns_inside ≡ true → (len ≡ h * w * n → ⊥) → 14 ≡ window_fault z n t l h w len
-    unfolding window_fault
-    fault_length a b e = sym (simp (inside_is, a, b, ne_eqb len (h * w * n) e, pick_yes, pick_no))
+    pub test_length : inside z t l h w ≡ true → (len ≡ h * w * n → ⊥) → Err refusal.SliceLength ≡ window_test z n t l h w len
+    unfolding window_test
+    test_length a e = sym (simp (a, ne_eqb len (h * w * n) e, pick_yes, pick_no))
 
-    pub fault_rows : rows_inside ≡ false → 13 ≡ window_fault z n t l h w len
-    unfolding window_fault
-    fault_rows a = sym (simp (inside_is, a, pick_no))
+    pub test_outside : inside z t l h w ≡ false → Err refusal.Outside ≡ window_test z n t l h w len
+    unfolding window_test
+    test_outside a = sym (simp (a, pick_no))
 
-    pub fault_columns : rows_inside ≡ true → columns_inside ≡ false → 13 ≡ window_fault z n t l h w len
-    unfolding window_fault
-    fault_columns a b = sym (simp (inside_is, a, b, pick_no))
-
-    pub none_inside : 0 ≡ window_fault z n t l h w len → (inside z t l h w ≡ true) × (len ≡ h * w * n)
-    unfolding window_fault pick
-    none_inside e = go (inside z t l h w) (eqb len (h * w * n)) refl refl e
+    pub passed_inside : Ok tt ≡ window_test z n t l h w len → (inside z t l h w ≡ true) × (len ≡ h * w * n)
+    unfolding window_test pick
+    passed_inside e = go (inside z t l h w) (eqb len (h * w * n)) refl refl e
       where
-        go : (a b : Bool) → inside z t l h w ≡ a → eqb len (h * w * n) ≡ b → ◌≡◌ {A = ℕ} 0 (pick a (pick b 0 14) 13) →
+        go : (a b : Bool) → inside z t l h w ≡ a → eqb len (h * w * n) ≡ b →
+            ◌≡◌ {A = Result (Unit {0}) Refusal} (Ok tt) (pick a (pick b (Ok tt) (Err refusal.SliceLength)) (Err refusal.Outside)) →
             (inside z t l h w ≡ true) × (len ≡ h * w * n)
         go true true ea eb k = (ea, eqb-true len (h * w * n) eb)
-        go true false ea eb k = absurd (let q : ◌≡◌ {A = ℕ} 0 14 = k in omega arith)
-        go false b ea eb k = absurd (let q : ◌≡◌ {A = ℕ} 0 13 = k in omega arith)
+        go true false ea eb k = absurd (passed_not_refused _ k)
+        go false b ea eb k = absurd (passed_not_refused _ k)
 
-  -- the whole answer from its number
+  -- the whole answer from the test's
   module _ (n : ℕ) (old : List Float) (x : ℕ → ℕ → ℕ → Float) where
-    pub filled_none : (new : List Float) → 0 ≡ window_fault z n t l h w (length old) → new ≡ values_of x t l h w n →
-        window_with (record { number = 0; detail = 0 }) new ≡ filled_of z n t l h w old x
+    pub filled_passed : (new : List Float) → Ok tt ≡ window_test z n t l h w (length old) → new ≡ values_of x t l h w n →
+        window_with (Ok tt) new ≡ filled_of z n t l h w old x
     unfolding filled_of
-    filled_none new e q =
-        let k = none_inside n (length old) e in
-        ap (λ (xs : List Float). window_with (record { number = 0; detail = 0 }) xs) q
-        ∙ sym (simp (k.0, eq-eqb (length old) (h * w * n) k.1, pick_yes))
+    filled_passed new e q =
+        let k = passed_inside n (length old) e in
+        ap (window_with (Ok tt)) q ∙ sym (simp (k.0, eq-eqb (length old) (h * w * n) k.1, pick_yes))
 
-    pub filled_fault : (m : ℕ) → m ≡ window_fault z n t l h w (length old) → (m ≡ 0 → ⊥) →
-        window_with (record { number = m; detail = 0 }) old ≡ filled_of z n t l h w old x
-    unfolding window_fault filled_of pick
-    filled_fault m e s = go (inside z t l h w) (eqb (length old) (h * w * n)) e
+    pub filled_refused : (r : Refusal) → Err r ≡ window_test z n t l h w (length old) → window_with (Err r) old ≡ filled_of z n t l h w old x
+    unfolding window_test filled_of pick
+    filled_refused r e = go (inside z t l h w) (eqb (length old) (h * w * n)) e
       where
-        go : (a b : Bool) → m ≡ pick a (pick b 0 14) 13 →
-            window_with (record { number = m; detail = 0 }) old ≡ pick a
+        go : (a b : Bool) → ◌≡◌ {A = Result (Unit {0}) Refusal} (Err r) (pick a (pick b (Ok tt) (Err refusal.SliceLength)) (Err refusal.Outside)) →
+            window_with (Err r) old ≡ pick a
             (pick b (record { number = 0; detail = 0; slice = values_of x t l h w n }) (refused_window 14 0 old)) (refused_window 13 0 old)
-        go true true q = absurd (s q)
-        go true false q = ap (λ (k : ℕ). refused_window k 0 old) q
-        go false b q = ap (λ (k : ℕ). refused_window k 0 old) q
+        go true true q = absurd (passed_not_refused r (sym q))
+        go true false q = ap (λ (a : Result (Unit {0}) Refusal). window_with a old) q
+        go false b q = ap (λ (a : Result (Unit {0}) Refusal). window_with a old) q
 
 -- ---- window
 module _ (f : List ℕ) (v : View) (q : Viewed f v) (t l h w : ℕ) (old : List Float) where
@@ -135,10 +121,10 @@ module _ (f : List ℕ) (v : View) (q : Viewed f v) (t l h w : ℕ) (old : List 
   pub size_is : size_of file.picture ≡ v.size
   size_is = ap size_of q.picture ∙ sym q.size
 
-  unfoldable pub fill_in : (n : ℕ) → n ≡ v.size.samples → 0 ≡ window_fault v.size n t l h w (length old)
+  unfoldable pub fill_in : (n : ℕ) → n ≡ v.size.samples → Ok tt ≡ window_test v.size n t l h w (length old)
       → FillIn f v (record { top = t; left = l; height = h; width = w }) old
   fill_in n en e =
-      let k = none_inside v.size t l h w n (length old) e in
+      let k = passed_inside v.size t l h w n (length old) e in
       let i = inside_fits v.size t l h w k.0 in
       let a = and-true (leb 1 h) _ k.0 in
       let b = and-true (leb 1 w) _ a.1 in
@@ -162,22 +148,21 @@ module _ (f : List ℕ) (v : View) (q : Viewed f v) (t l h w : ℕ) (old : List 
       values_same _ _ t l h w n (λ r c p a b d e g.
       sym (developed_alone f file r c p (record { row = omega arith; column = omega arith; plane = omega arith })))
 
-  pub window_none :
-      (new : List Float) → 0 ≡ window_fault v.size v.size.samples t l h w (length old) →
+  pub window_passed :
+      (new : List Float) → Ok tt ≡ window_test v.size v.size.samples t l h w (length old) →
       new ≡ values_of (alone_in f file) t l h w v.size.samples →
-      window_with (record { number = 0; detail = 0 }) new ≡ window_call f t l h w old
-  window_none new e d =
-      let k = none_inside v.size t l h w v.size.samples (length old) e in
-      filled_none v.size t l h w v.size.samples old (standing (frame_of f file)) new e
+      window_with (Ok tt) new ≡ window_call f t l h w old
+  window_passed new e d =
+      let k = passed_inside v.size t l h w v.size.samples (length old) e in
+      filled_passed v.size t l h w v.size.samples old (standing (frame_of f file)) new e
       (d ∙ values_alone v.size.samples refl k.0)
       ∙ ap (λ (z : Size). filled_of z z.samples t l h w old (standing (frame_of f file))) (sym size_is)
       ∙ ap (window_of f t l h w old) q.accepted
 
-  pub window_fault_law :
-      (m : ℕ) → m ≡ window_fault v.size v.size.samples t l h w (length old) → (m ≡ 0 → ⊥) →
-      window_with (record { number = m; detail = 0 }) old ≡ window_call f t l h w old
-  window_fault_law m e s =
-      filled_fault v.size t l h w v.size.samples old (standing (frame_of f file)) m e s
+  pub window_refused : (r : Refusal) → Err r ≡ window_test v.size v.size.samples t l h w (length old) →
+      window_with (Err r) old ≡ window_call f t l h w old
+  window_refused r e =
+      filled_refused v.size t l h w v.size.samples old (standing (frame_of f file)) r e
       ∙ ap (λ (z : Size). filled_of z z.samples t l h w old (standing (frame_of f file))) (sym size_is)
       ∙ ap (window_of f t l h w old) q.accepted
 
@@ -187,21 +172,20 @@ module _ (f : List ℕ) (v : View) (q : Viewed f v) (t l h w : ℕ) (old : List 
     sized : (x : ℕ → ℕ → ℕ → Float) → filled_of v.size 3 t l h w old x ≡ filled_of (size_of q.file.picture) 3 t l h w old x
     sized x = ap (λ (z : Size). filled_of z 3 t l h w old x) (sym (size_is f v q t l h w old))
 
-    pub coloured_none :
-        (mid new : List Float) → 0 ≡ window_fault v.size 3 t l h w (length old) →
+    pub coloured_passed :
+        (mid new : List Float) → Ok tt ≡ window_test v.size 3 t l h w (length old) →
         mid ≡ values_of (alone_in f q.file) t l h w v.size.samples → new ≡ pass_of m mid →
-        window_with (record { number = 0; detail = 0 }) new ≡ coloured_of f t l h w old q.file (is m)
-    coloured_none mid new e d p =
-        let k = none_inside v.size t l h w 3 (length old) e in
-        filled_none v.size t l h w 3 old (pixel_in m (frame_of f q.file)) new e
+        window_with (Ok tt) new ≡ coloured_of f t l h w old q.file (is m)
+    coloured_passed mid new e d p =
+        let k = passed_inside v.size t l h w 3 (length old) e in
+        filled_passed v.size t l h w 3 old (pixel_in m (frame_of f q.file)) new e
         (p ∙ ap (pass_of m) (d ∙ ap (values_of (alone_in f q.file) t l h w) three ∙ values_alone f v q t l h w old 3 (sym three) k.0)
         ∙ pass_values m (frame_of f q.file) t l h w)
         ∙ sized (pixel_in m (frame_of f q.file))
 
-    pub coloured_fault :
-        (n : ℕ) → n ≡ window_fault v.size 3 t l h w (length old) → (n ≡ 0 → ⊥) →
-        window_with (record { number = n; detail = 0 }) old ≡ coloured_of f t l h w old q.file (is m)
-    coloured_fault n e s = filled_fault v.size t l h w 3 old (pixel_in m (frame_of f q.file)) n e s
+    pub coloured_refused : (r : Refusal) → Err r ≡ window_test v.size 3 t l h w (length old) →
+        window_with (Err r) old ≡ coloured_of f t l h w old q.file (is m)
+    coloured_refused r e = filled_refused v.size t l h w 3 old (pixel_in m (frame_of f q.file)) r e
         ∙ sized (pixel_in m (frame_of f q.file))
 
   samples_is : v.size.samples ≡ q.file.picture.raw.tags.frame.samples

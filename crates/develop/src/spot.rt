@@ -4,8 +4,8 @@ ghost use Rattle.develop.specs.Calls.{spot_with, spot_call};
 ghost use Rattle.develop.specs.Calls;
 ghost use Rattle.develop.specs.Facts.View.{Viewed};
 
+use crate::View;
 use directory::refusal::Refusal;
-use crate::{View};
 use levels::active::{ActiveColumn, ActiveRow};
 use opcodes::grid::Size;
 use raw::sample;
@@ -14,12 +14,7 @@ use raw::sample;
 pub fn within(size: Size, row: usize, column: usize, plane: usize) -> bool
     ensures { result ≡ Calls.within size row column plane }
 {
-    if row < size.rows {
-        if column < size.columns {
-            return plane < size.samples;
-        }
-    }
-    false
+    row < size.rows && column < size.columns && plane < size.samples
 }
 
 // A spot of an accepted file: its sample alone, through the list.
@@ -27,26 +22,16 @@ fn spot_in(file: &[u8], view: View, row: usize, column: usize, plane: usize) -> 
     requires { Viewed file.now view }
     ensures { spot_with result ≡ spot_call file.now row column plane }
 {
-    if within(view.size, row, column, plane) {
-        let picture = view.picture;
-        let order = picture.order;
-        let raw = picture.raw;
-        let values = raw.tags.list;
-        let r = ActiveRow(row);
-        let c = ActiveColumn(column);
-        let x = sample::scaled_at(file, order, raw, r, c, plane);
-        return Ok(rows::list::list_at(
-            file,
-            view.size,
-            values.place,
-            values.count,
-            r,
-            c,
-            plane,
-            x,
-        ));
+    if !within(view.size, row, column, plane) {
+        return Err(Refusal::Outside);
     }
-    Err(Refusal::Outside)
+    let picture = view.picture;
+    let raw = picture.raw;
+    let values = raw.tags.list;
+    let r = ActiveRow(row);
+    let c = ActiveColumn(column);
+    let x = sample::scaled_at(file, picture.order, raw, r, c, plane);
+    Ok(rows::list::list_at(file, view.size, values.place, values.count, r, c, plane, x))
 }
 
 pub fn spot(file: &[u8], row: usize, column: usize, plane: usize) -> Result<f64, Refusal>

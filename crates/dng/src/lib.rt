@@ -2,16 +2,17 @@
 // detail in one.
 #![tactic(auto)]
 
-ghost use Rattle.std.specs.Prelude.{◌≡◌, ◌≤◌, ◌<◌};
+ghost use Rattle.std.specs.Prelude.{◌≡◌, ◌≤◌, ◌<◌, Ok};
 ghost use Rattle.develop.specs.Calls.{spot_call, window_call, colour_window_call};
-ghost use Rattle.chain.specs.Chain.{slices, chain_call};
+ghost use Rattle.chain.specs.Chain.{slices, answer_of, chain_call};
 ghost use Rattle.demand.specs.Card.{card_call};
 ghost use Rattle.half.specs.Half.{half_window_call};
-ghost use Rattle.dng.specs.Interface.{numbers_of, chain_numbers_of, packed_of};
+ghost use Rattle.dng.specs.Interface.{numbers_of, chain_numbers_of, packed_of, number_in, detail_in};
 
-use chain::ChainAnswer;
+use chain::SpotChain;
 use demand::card;
 use develop::{colour_window, spot, table_window, window};
+use directory::refusal::Refusal;
 use half::half_window;
 
 // Number, detail, active rows, active columns, samples, opcodes kept, opcodes skipped, crop left, crop top, crop columns, crop rows.
@@ -19,29 +20,45 @@ use half::half_window;
 pub extern "C" fn dng_card(file: &[u8], numbers: &mut [u64; 11])
     ensures { numbers.new ≡ numbers_of (card_call file.now) }
 {
-    let answer = card::card(file);
-    *numbers = [
-        answer.number as u64,
-        answer.detail as u64,
-        answer.rows as u64,
-        answer.columns as u64,
-        answer.samples as u64,
-        answer.kept as u64,
-        answer.skipped as u64,
-        answer.crop.left as u64,
-        answer.crop.top as u64,
-        answer.crop.columns as u64,
-        answer.crop.rows as u64,
-    ];
+    *numbers = match card::card(file) {
+        Ok(card) => [
+            0,
+            0,
+            card.rows as u64,
+            card.columns as u64,
+            card.samples as u64,
+            card.kept as u64,
+            card.skipped as u64,
+            card.crop.left as u64,
+            card.crop.top as u64,
+            card.crop.columns as u64,
+            card.crop.rows as u64,
+        ],
+        Err(refusal) => [
+            refusal.number() as u64,
+            refusal.detail() as u64,
+            0,
+            0,
+            0,
+            0,
+            0,
+            0,
+            0,
+            0,
+            0,
+        ],
+    };
 }
 
-// A number and its detail in one: number * 2^32 + detail.
-fn packed(number: usize, detail: usize) -> u64
-    requires number_bound { number < 0x1_0000_0000 }
-    requires detail_bound { detail < 0x1_0000_0000 }
-    ensures { result ≡ packed_of number detail }
+// An answer's number and detail in one: number * 2^32 + detail.
+fn packed<T: Drop>(answer: Result<T, Refusal>) -> u64
+    requires { detail_in answer < 0x1_0000_0000 }
+    ensures { result ≡ packed_of (number_in answer) (detail_in answer) }
 {
-    (number * 0x1_0000_0000 + detail) as u64
+    match answer {
+        Ok(_) => 0,
+        Err(refusal) => (refusal.number() * 0x1_0000_0000 + refusal.detail()) as u64,
+    }
 }
 
 #[unsafe(no_mangle)]
@@ -57,7 +74,7 @@ pub extern "C" fn dng_window(
     ensures out_after { out.new ≡ (window_call file.now top left height width out.old).slice }
 {
     let answer = window::window(file, top, left, height, width, out);
-    packed(answer.number, answer.detail)
+    packed(answer)
 }
 
 #[unsafe(no_mangle)]
@@ -72,7 +89,7 @@ pub extern "C" fn dng_table_window(
     ensures { let w = window_call file.now top left height width out.old in (result ≡ packed_of w.number w.detail) × (out.new ≡ w.slice) }
 {
     let answer = table_window::table_window(file, top, left, height, width, out);
-    packed(answer.number, answer.detail)
+    packed(answer)
 }
 
 #[unsafe(no_mangle)]
@@ -87,8 +104,8 @@ pub extern "C" fn dng_spot(
     ensures value_after { value.new ≡ (spot_call file.now row column plane).value }
 {
     let answer = spot::spot(file, row, column, plane);
-    *value = answer.value;
-    packed(answer.number, answer.detail)
+    *value = answer.unwrap_or(0.0);
+    packed(answer)
 }
 
 #[unsafe(no_mangle)]
@@ -104,7 +121,7 @@ pub extern "C" fn dng_colour_window(
     ensures out_after { out.new ≡ (colour_window_call file.now top left height width out.old).slice }
 {
     let answer = colour_window::colour_window(file, top, left, height, width, out);
-    packed(answer.number, answer.detail)
+    packed(answer)
 }
 
 #[unsafe(no_mangle)]
@@ -120,15 +137,15 @@ pub extern "C" fn dng_half_window(
     ensures out_after { out.new ≡ (half_window_call file.now top left height width out.old).slice }
 {
     let answer = half_window::half_window(file, top, left, height, width, out);
-    packed(answer.number, answer.detail)
+    packed(answer)
 }
 
 // Stored sample, table value, cell's black, column delta, row delta, B, M, L, opcodes covering, opcodes skipped.
-fn chain_numbers(answer: ChainAnswer) -> [i64; 10]
-    requires { (answer.covering ≤ 32) × (answer.skipped ≤ 32) }
-    ensures { result ≡ chain_numbers_of answer }
+fn chain_numbers(chain: SpotChain) -> [i64; 10]
+    requires { (chain.covering ≤ 32) × (chain.skipped ≤ 32) }
+    ensures { result ≡ chain_numbers_of (answer_of (Ok chain)) }
 {
-    let levels = answer.levels;
+    let levels = chain.levels;
     [
         levels.stored as i64,
         levels.table_value as i64,
@@ -138,8 +155,8 @@ fn chain_numbers(answer: ChainAnswer) -> [i64; 10]
         levels.black,
         levels.greatest_black,
         levels.level as i64,
-        answer.covering as i64,
-        answer.skipped as i64,
+        chain.covering as i64,
+        chain.skipped as i64,
     ]
 }
 
@@ -161,10 +178,18 @@ pub extern "C" fn dng_chain(
     ensures numbers_after { (numbers.new ≡ chain_numbers_of (chain_call file.now row column plane (slices places.old ids.old before.old after.old skipped.old)).answer) × (value.new ≡ (chain_call file.now row column plane (slices places.old ids.old before.old after.old skipped.old)).answer.value) }
     ensures skipped_after { slices places.new ids.new before.new after.new skipped.new ≡ (chain_call file.now row column plane (slices places.old ids.old before.old after.old skipped.old)).lent }
 {
-    let found = chain::chain(
+    let answer = chain::chain(
         file, row, column, plane, places, ids, before, after, skipped,
     );
-    *numbers = chain_numbers(found);
-    *value = found.value;
-    packed(found.number, found.detail)
+    match answer {
+        Ok(chain) => {
+            *numbers = chain_numbers(chain);
+            *value = chain.value;
+        }
+        Err(_) => {
+            *numbers = [0; 10];
+            *value = 0.0;
+        }
+    }
+    packed(answer)
 }

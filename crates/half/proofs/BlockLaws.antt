@@ -35,15 +35,17 @@ use Rattle.colour.proofs.Mean.{mean_developed}
 use Rattle.opcodes.specs.Frame.{standing}
 use Rattle.opcodes.specs.declared.grid.Size.{Size}
 use Rattle.rows.specs.Facts.Part.{SizedIn}
+use Rattle.std.specs.Prelude.{Result, Ok, Err}
+use Rattle.directory.specs.declared.refusal.Refusal.{Refusal}
 use Rattle.develop.specs.Calls.{Opened, size_of, frame_of, inside, joined, values_of, window_with, filled_of, channel_of, developed_in, alone_in}
 use Rattle.half.specs.Half.{half_for, blocks_of, block_at, block_xyz, block_in, halved_of, half_window_of, half_window_call}
 use Rattle.develop.specs.Facts.View.{Viewed}
-use Rattle.develop.specs.Facts.Fill.{window_fault}
+use Rattle.develop.specs.Facts.Fill.{window_test}
 use Rattle.half.specs.Facts.Half.{BlocksIn, pair_of, block_row}
 use Rattle.develop.specs.declared.View.{View}
 use Rattle.half.specs.declared.half_window.Half.{Half}
 use Rattle.develop.proofs.Answers.{developed_alone, alone_is_unit, values_same, inside_fits}
-use Rattle.develop.proofs.Called.{none_inside, filled_none, filled_fault, size_is}
+use Rattle.develop.proofs.Called.{passed_inside, filled_passed, filled_refused, size_is}
 use Rattle.develop.proofs.Windows.{joined_at, Rows, length_rows, rows_next, window_length, values_at_law, viewed_sized}
 
 -- the k-th number of the r-th of some rows of blocks, three to a block
@@ -212,10 +214,10 @@ module _ (f : List ℕ) (v : View) (q : Viewed f v) (t l h w : ℕ) (old : List 
       record { rows = omega (arith, s.rows); columns = omega (arith, s.columns); some = omega arith; few = omega arith }
 
   module _ (one : v.size.samples ≡ 1) where
-    pub blocks_in : 0 ≡ window_fault (blocks_of v.size) 3 t l h w (length old) →
+    pub blocks_in : Ok tt ≡ window_test (blocks_of v.size) 3 t l h w (length old) →
         BlocksIn f v (record { top = t; left = l; height = h; width = w }) old
     blocks_in e =
-        let k = none_inside (blocks_of v.size) t l h w 3 (length old) e in
+        let k = passed_inside (blocks_of v.size) t l h w 3 (length old) e in
         let i = inside_fits (blocks_of v.size) t l h w k.0 in
         record { file = q; mosaic = one; rows = i.0; columns = i.1; length_is = k.1 ∙ mul_assoc h w 3 }
 
@@ -232,22 +234,21 @@ module _ (f : List ℕ) (v : View) (q : Viewed f v) (t l h w : ℕ) (old : List 
           ap (λ (u : Xyz). channel_of u n) (block_same m p (alone_in f file) (standing (frame_of f file)) a b a b (λ c hc.
           sym (developed_alone f file _ _ 0 (record { row = omega (arith, k.0); column = omega (arith, k.1); plane = omega arith })))))
 
-      pub halved_none :
-          (new : List Float) → 0 ≡ window_fault (blocks_of v.size) 3 t l h w (length old) →
+      pub halved_passed :
+          (new : List Float) → Ok tt ≡ window_test (blocks_of v.size) 3 t l h w (length old) →
           new ≡ values_of (block_in m (alone_in f file)) t l h w 3 →
-          window_with (record { number = 0; detail = 0 }) new ≡ halved_of f t l h w old file (is m)
-      halved_none new e d =
-          let k = none_inside (blocks_of v.size) t l h w 3 (length old) e in
+          window_with (Ok tt) new ≡ halved_of f t l h w old file (is m)
+      halved_passed new e d =
+          let k = passed_inside (blocks_of v.size) t l h w 3 (length old) e in
           let x = block_in m (standing (frame_of f file)) in
-          filled_none (blocks_of v.size) t l h w 3 old x new e (d ∙ blocks_alone k.0)
+          filled_passed (blocks_of v.size) t l h w 3 old x new e (d ∙ blocks_alone k.0)
           ∙ ap (λ (z : Size). filled_of z 3 t l h w old x) (sym blocks_is)
 
-  pub halved_fault :
-      (m : Half) (n : ℕ) → n ≡ window_fault (blocks_of v.size) 3 t l h w (length old) → (n ≡ 0 → ⊥) →
-      window_with (record { number = n; detail = 0 }) old ≡ halved_of f t l h w old file (is m)
-  halved_fault m n e s =
+  pub halved_refused : (m : Half) (r : Refusal) → Err r ≡ window_test (blocks_of v.size) 3 t l h w (length old) →
+      window_with (Err r) old ≡ halved_of f t l h w old file (is m)
+  halved_refused m r e =
       let x = block_in m (standing (frame_of f file)) in
-      filled_fault (blocks_of v.size) t l h w 3 old x n e s ∙ ap (λ (z : Size). filled_of z 3 t l h w old x) (sym blocks_is)
+      filled_refused (blocks_of v.size) t l h w 3 old x r e ∙ ap (λ (z : Size). filled_of z 3 t l h w old x) (sym blocks_is)
 
   pub half_called : (x : Out Half) → x ≡ run f (half_for v.picture) → halved_of f t l h w old file x ≡ half_window_call f t l h w old
   half_called x e =

@@ -15,11 +15,11 @@ ghost use Rattle.develop.specs.Facts.View.{Viewed};
 ghost use Rattle.develop.specs.Facts.Fill.{number_of, Upto};
 ghost use Rattle.half.specs.Facts.Half.{BlocksIn, StretchIn, pair_of, block_row};
 
-use directory::refusal::Refusal;
 use colour::pixel::Xyz;
 use colour::{Colour, pixel, tags};
 use develop::fill::Rectangle;
-use develop::{Answer, View, fill, window};
+use develop::{View, fill, window};
+use directory::refusal::Refusal;
 use levels::active::ActiveColumn;
 use opcodes::grid::Size;
 use raw::front::Picture;
@@ -45,7 +45,7 @@ fn half_of(file: &[u8], picture: Picture) -> Result<Half, Refusal>
     }
     let colour = tags::colour_of(file, picture.first)?;
     let pattern = pattern::pattern_of(file, picture.directory)?;
-Ok(Half { colour, pattern })
+    Ok(Half { colour, pattern })
 }
 
 // The sample at a place of the j-th block of two rows, of so many samples each.
@@ -269,34 +269,33 @@ fn whole_blocks(size: Size) -> Size
 }
 
 // A half window of an accepted mosaic whose colour tags and pattern are read: 13 and 14.
-fn halved_in(file: &[u8], view: View, half: Half, blocks: Rectangle, out: &mut [f64]) -> Answer
+fn halved_in(
+    file: &[u8],
+    view: View,
+    half: Half,
+    blocks: Rectangle,
+    out: &mut [f64],
+) -> Result<(), Refusal>
     requires { Viewed file.now view × (view.size.samples ≡ 1) × PatternIn half.pattern }
     ensures { (q : Viewed file.now view) → window_with result out.new ≡ halved_of file.now blocks.top blocks.left blocks.height blocks.width out.old q.file (Out.is half) }
 {
-    let number = window::window_fault(
-        whole_blocks(view.size),
-        3,
-        blocks.top,
-        blocks.left,
-        blocks.height,
-        blocks.width,
-        out.len(),
-    );
-    if number == 0 {
-        fill_blocks(file, view, half, blocks, out);
-    }
-    Answer { number, detail: 0 }
+    window::test_window(whole_blocks(view.size), 3, blocks, out.len())?;
+    fill_blocks(file, view, half, blocks, out);
+    Ok(())
 }
 
 // A half window of an accepted file: 15, the colour tags, the pattern's, then 13 and 14.
-fn half_window_in(file: &[u8], view: View, blocks: Rectangle, out: &mut [f64]) -> Answer
+fn half_window_in(
+    file: &[u8],
+    view: View,
+    blocks: Rectangle,
+    out: &mut [f64],
+) -> Result<(), Refusal>
     requires { Viewed file.now view }
     ensures { window_with result out.new ≡ half_window_call file.now blocks.top blocks.left blocks.height blocks.width out.old }
 {
-    match half_of(file, view.picture) {
-        Halved::Refused { number, detail } => Answer { number, detail },
-        Ok(half) => halved_in(file, view, half, blocks, out),
-    }
+    let half = half_of(file, view.picture)?;
+    halved_in(file, view, half, blocks, out)
 }
 
 pub fn half_window(
@@ -306,7 +305,7 @@ pub fn half_window(
     height: usize,
     width: usize,
     out: &mut [f64],
-) -> Answer
+) -> Result<(), Refusal>
     ensures { window_with result out.new ≡ half_window_call file.now top left height width out.old }
 {
     let blocks = Rectangle {
@@ -315,8 +314,6 @@ pub fn half_window(
         height,
         width,
     };
-    match develop::open(file) {
-        Opening::Refused { number, detail } => Answer { number, detail },
-        Ok(view) => half_window_in(file, view, blocks, out),
-    }
+    let view = develop::open(file)?;
+    half_window_in(file, view, blocks, out)
 }

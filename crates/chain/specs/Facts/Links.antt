@@ -1,5 +1,5 @@
 -- What the functions that go through the list say to each other.
-use Rattle.std.specs.Prelude.{ℕ, ◌+◌, ◌≤◌, ◌≡◌, Bool, true, false, List, map, Float, length, set}
+use Rattle.std.specs.Prelude.{ℕ, ◌+◌, ◌≤◌, ◌≡◌, Bool, true, false, List, map, Float, length, set, Option, Some, None}
 use Rattle.reading.specs.Reading.{run, pick}
 use Rattle.directory.specs.Out.{Out.is}
 use Rattle.directory.specs.declared.tag.Values.{Values}
@@ -16,8 +16,7 @@ use Rattle.chain.specs.Links.{opcode_id, link_of, links_of, is_skipped, places_w
 use Rattle.chain.specs.Chain.{written, id_of, before_of, after_of}
 use Rattle.chain.specs.declared.links.Opcodes.{Opcodes}
 use Rattle.chain.specs.declared.links.Reached.{Reached}
-use Rattle.chain.specs.declared.links.Touch.{Touch}
-use Rattle.chain.specs.declared.links.Touch.TheVariants as touch
+use Rattle.chain.specs.declared.links.Link.{Link}
 
 -- at most 32 accepted opcodes
 pub record OpcodesIn (f : List ℕ) (q : Opcodes) : Type 0 where
@@ -34,8 +33,8 @@ pub record OpcodesOf (f : List ℕ) (z : Size) (v : Values) (q : Opcodes) : Type
       (os : List Opcode) → is os ≡ run f (list_reading z v.place v.count) → is os ≡ run f (list_from q.size q.count 0 q.at q.bytes)
 
 -- whether an opcode covers a sample whose number is x
-unfoldable pub touch_of : Opcode → ℕ → ℕ → ℕ → Float → Touch
-touch_of o r c p x = pick (touches o r c p) (touch.On (link_of o r c p x)) touch.Off
+unfoldable pub touch_of : Opcode → ℕ → ℕ → ℕ → Float → Option Link
+touch_of o r c p x = pick (touches o r c p) (Some (link_of o r c p x)) None
 
 -- ---- the covering opcodes: what the code holds when it has come to an opcode
 pub record Covered : Type 0 where

@@ -1,35 +1,30 @@
-use mathlib.Core.Path.{sym, ◌∙◌}
-use native.Mathlib.Omega.{arith}
-use Rattle.develop.proofs.Windows.{viewed_sized}
-use Rattle.develop.proofs.Called.{fill_in, coloured_none, coloured_fault}
+use mathlib.Core.Path.{sym}
+use Rattle.std.proofs.lemmas.Result.{err_from_is_err_and}
+use Rattle.develop.proofs.Called.{fill_in, coloured_passed, coloured_refused}
 use Rattle.develop.proofs.colour_window.coloured_in.Goals as goal
-use Rattle.develop.proofs.colour_window.coloured_in.Goals.{Start, Then-number-eq0}
 
-pub window_fault-number-requires : goal.window_fault-number-requires
-window_fault-number-requires c =
-    (viewed_sized c.args.file.now c.args.view c.requires.0, omega arith)
+pub returns-in_err-test_window : goal.returns-in_err-test_window
+returns-in_err-test_window c =
+    let a = c.args in
+    let w = a.window in
+    let p = err_from_is_err_and c.from_residual.result c.from_residual.ensures.1 in
+    λ q.
+    rw (p.1, p.2)
+    (coloured_refused a.file.now a.view q w.top w.left w.height w.width a.out.now a.colour c.requires.1 _ c.in_err-test_window.ensures)
 
 pub fill_window-requires : goal.fill_window-requires
 fill_window-requires c =
     let a = c.args in
-    let e = sym c.if-number-eq0.true ∙ c.window_fault-number.ensures in
-    fill_in a.file.now a.view c.requires.0 a.top a.left a.height a.width a.out.now 3 (sym c.requires.1) e
+    let w = a.window in
+    fill_in a.file.now a.view c.requires.0 w.top w.left w.height w.width a.out.now 3 (sym c.requires.1) c.in_ok-test_window.ensures
 
-pub returns-then-number-eq0 : goal.returns-then-number-eq0
+pub returns : goal.returns
 unfolding fill_in
-returns-then-number-eq0 c =
-    let fill-window = c.fill_window in
+returns c =
     let a = c.args in
-    let f = a.file.now in
-    let e = sym c.if-number-eq0.true ∙ c.window_fault-number.ensures in
+    let w = a.window in
+    let passed = c.in_ok-test_window.ensures in
     λ q.
-    let i = fill_in f a.view q a.top a.left a.height a.width a.out.now 3 (sym c.requires.1) e in
-    rw c.if-number-eq0.true
-    (coloured_none f a.view q a.top a.left a.height a.width a.out.now a.colour c.requires.1 _ _ e
-    (fill-window.ensures i) c.colour_pass.ensures)
-
-pub returns-else-number-eq0 : goal.returns-else-number-eq0
-returns-else-number-eq0 c =
-    let a = c.args in
-    λ q. coloured_fault a.file.now a.view q a.top a.left a.height a.width a.out.now a.colour c.requires.1 _
-    c.window_fault-number.ensures c.if-number-eq0.false
+    let inside = fill_in a.file.now a.view q w.top w.left w.height w.width a.out.now 3 (sym c.requires.1) passed in
+    coloured_passed a.file.now a.view q w.top w.left w.height w.width a.out.now a.colour c.requires.1 _ _ passed
+    (c.fill_window.ensures inside) c.colour_pass.ensures

@@ -1,32 +1,22 @@
-use mathlib.Core.Path.{refl, sym, ◌∙◌}
-use Rattle.develop.proofs.Windows.{viewed_sized}
-use Rattle.develop.proofs.Called.{fill_in, window_none, window_fault_law}
+use mathlib.Core.Path.{refl}
+use Rattle.std.proofs.lemmas.Result.{err_from_is_err_and}
+use Rattle.develop.proofs.Called.{fill_in, window_passed, window_refused}
 use Rattle.develop.proofs.window.opened_window.Goals as goal
 
-pub window_fault-fault-requires : goal.window_fault-fault-requires
-window_fault-fault-requires c =
-    let z = viewed_sized c.args.file.now c.args.view c.requires in
-    (z, z.few)
+pub returns-in_err-test_window : goal.returns-in_err-test_window
+returns-in_err-test_window c =
+    let a = c.args in
+    let p = err_from_is_err_and c.from_residual.result c.from_residual.ensures.1 in
+    rw (p.1, p.2) (window_refused a.file.now a.view c.requires a.top a.left a.height a.width a.out.now _ c.in_err-test_window.ensures)
 
 pub fill_window-requires : goal.fill_window-requires
 fill_window-requires c =
     let a = c.args in
-    let e = sym c.if-fault-eq0.true ∙ c.window_fault-fault.ensures in
-    fill_in a.file.now a.view c.requires a.top a.left a.height a.width a.out.now a.view.size.samples refl e
+    fill_in a.file.now a.view c.requires a.top a.left a.height a.width a.out.now _ refl c.in_ok-test_window.ensures
 
-pub returns-then-fault-eq0 : goal.returns-then-fault-eq0
-returns-then-fault-eq0 c =
+pub returns : goal.returns
+returns c =
     let a = c.args in
-    let f = a.file.now in
-    let none = sym c.if-fault-eq0.true ∙ c.window_fault-fault.ensures in
-    let i = fill_in f a.view c.requires a.top a.left a.height a.width a.out.now a.view.size.samples refl none in
-    rw c.if-fault-eq0.true
-    (window_none f a.view i.file a.top a.left a.height a.width a.out.now _ none
-    (c.fill_window.ensures i))
-
-pub returns-else-fault-eq0 : goal.returns-else-fault-eq0
-returns-else-fault-eq0 c =
-    let a = c.args in
-    window_fault_law a.file.now a.view c.requires a.top a.left a.height a.width a.out.now _
-    c.window_fault-fault.ensures
-    c.if-fault-eq0.false
+    let passed = c.in_ok-test_window.ensures in
+    let inside = fill_in a.file.now a.view c.requires a.top a.left a.height a.width a.out.now _ refl passed in
+    window_passed a.file.now a.view inside.file a.top a.left a.height a.width a.out.now _ passed (c.fill_window.ensures inside)

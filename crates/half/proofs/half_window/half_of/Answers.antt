@@ -1,38 +1,21 @@
-use mathlib.Core.Path.{◌≡◌, sym, ap, ◌∙◌}
-use Rattle.directory.specs.Facts.Out.{out}
-use Rattle.reading.specs.Reading.{run}
-use Rattle.directory.specs.Out.{Out.is}
-use Rattle.colour.specs.Tags.{colour_reading}
+use Rattle.std.proofs.lemmas.Result.{err_from_is_err_and}
 use Rattle.half.proofs.BlockLaws.{half_not, half_uncoloured, half_unpatterned, half_is}
-use borrow.Author.Rules.{rules}
 use Rattle.half.proofs.half_window.half_of.Goals as goal
-use Rattle.half.proofs.half_window.half_of.Goals.{In-Is}
-
--- the colour tags' answer
-colour : (k : In-Is) → let a = k.args in
-    is k.in-Is.c ≡ run a.file.now (colour_reading a.picture.first)
-colour k = ap out (sym k.in-Is.is) ∙ k.colour_of.ensures.0
 
 pub returns-then-picture-ne1 : goal.returns-then-picture-ne1
 returns-then-picture-ne1 c =
     half_not _ _ c.if-picture-ne1.true
 
-pub returns-in-Refused : goal.returns-in-Refused
-returns-in-Refused c =
-    let if1 = c.if-picture-ne1 in
-    let colour-of = c.colour_of in
-    let e = ap out (sym c.in-Refused.is) ∙ colour-of.ensures.0 in
-    half_uncoloured _ _ if1.false _ _ e
+pub returns-in_err-colour : goal.returns-in_err-colour
+returns-in_err-colour c =
+    let p = err_from_is_err_and c.from_residual.result c.from_residual.ensures.1 in
+    rw (p.1, p.2) (half_uncoloured _ _ c.if-picture-ne1.false _ _ c.in_err-colour.ensures.0)
 
-pub returns-in-Refused-pattern_of : goal.returns-in-Refused-pattern_of
-returns-in-Refused-pattern_of c =
-    let pattern-of = c.pattern_of in
-    let k = (goal.at.returns-in-Refused-pattern_of c).In-Is in
-    let e = ap out (sym c.in-Refused-pattern_of.is) ∙ pattern-of.ensures in
-    half_unpatterned _ _ k.if-picture-ne1.false _ (colour (goal.at.returns-in-Refused-pattern_of c).In-Is) _ _ e
+pub returns-in_err-pattern : goal.returns-in_err-pattern
+returns-in_err-pattern c =
+    let p = err_from_is_err_and c.from_residual-in_err-pattern.result c.from_residual-in_err-pattern.ensures.1 in
+    rw (p.1, p.2) (half_unpatterned _ _ c.if-picture-ne1.false _ c.in_ok-colour.ensures.0 _ _ c.in_err-pattern.ensures)
 
-pub returns-in-Is-pattern_of : goal.returns-in-Is-pattern_of
-returns-in-Is-pattern_of c =
-    let k = (goal.at.returns-in-Is-pattern_of c).In-Is in
-    let e = ap out (sym c.in-Is-pattern_of.is) ∙ c.pattern_of.ensures in
-    half_is _ _ k.if-picture-ne1.false _ (colour (goal.at.returns-in-Is-pattern_of c).In-Is) _ e
+pub returns : goal.returns
+returns c =
+    half_is _ _ c.if-picture-ne1.false _ c.in_ok-colour.ensures.0 _ c.in_ok-pattern.ensures

@@ -1,8 +1,0 @@
-use mathlib.Core.Path.{refl}
-use lib.Ieee.{of_bits}
-use Rattle.chain.proofs.refused.Goals as goal
-
-pub returns : goal.returns
-unfolding of_bits
-returns c =
-    refl
