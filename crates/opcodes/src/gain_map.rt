@@ -4,7 +4,7 @@ ghost use Rattle.std.specs.Float.{binary64};
 ghost use Rattle.std.specs.Float.Ieee.{nan_bits};
 ghost use Rattle.opcodes.specs.Grid.{long_of};
 ghost use Rattle.opcodes.specs.GainMap.{place_of, between_of, gain_of, axis_of, down_of, across_of, planes_in, gain_map_of, above_at, axis_legal, gain_map_legal, gains_in};
-ghost use Rattle.opcodes.specs.Facts.Bracket.{AxisIn, GainMapIn, point_of, taken_of, BracketAt, BracketOf, BracketIn, next_of, corners_of, CornersIn, corners_gain};
+ghost use Rattle.opcodes.specs.Facts.Bracket.{AxisIn, GainMapIn, GainMapIn-prop, point_of, taken_of, BracketAt, BracketOf, BracketIn, next_of, corners_of, CornersIn, corners_gain};
 
 use crate::grid::Size;
 use crate::{grid, step};
@@ -18,6 +18,13 @@ pub struct Axis {
     pub points: usize,
     pub spacing: f64,
     pub origin: f64,
+}
+
+// The own bytes of an accepted GainMap.
+#[derive(Clone, Copy)]
+pub struct MapBytes<'a> {
+    pub ps: &'a [u8],
+    ghost accepted: { GainMapIn ps.now } by { GainMapIn-prop ps.now },
 }
 
 // At a point, or between a point and the next one, with the part of the way.
@@ -207,62 +214,61 @@ fn next(points: usize, k: usize) -> usize
 }
 
 // The gain at a map row, a map column and a map plane.
-fn gain(ps: &[u8], i: usize, k: usize, q: usize) -> f64
-    requires { GainMapIn ps.now × (i < long_of ps.now 32) × (k < long_of ps.now 36) × (q < planes_in ps.now) }
-    ensures { result ≡ (gain_map_of ps.now).gains i k q }
+fn gain(map: MapBytes, i: usize, k: usize, q: usize) -> f64
+    requires { (i < long_of map.ps.now 32) × (k < long_of map.ps.now 36) × (q < planes_in map.ps.now) }
+    ensures { result ≡ (gain_map_of map.entry.ps.now).gains i k q }
 {
-    let columns = grid::field(ps, 36);
-    let planes = grid::field(ps, 72);
-    step::value(real::float_at(ps, 76 + 4 * ((i * columns + k) * planes + q)))
+    let columns = grid::field(map.ps, 36);
+    let planes = grid::field(map.ps, 72);
+    step::value(real::float_at(map.ps, 76 + 4 * ((i * columns + k) * planes + q)))
 }
 
 // The four gains around map column k, at a row whose bracket is `down`.
-pub fn corners_at(ps: &[u8], down: Bracket, q: usize, k: usize) -> Corners
-    requires { GainMapIn ps.now × BracketIn (long_of ps.now 32) down × (q < planes_in ps.now) × (k < long_of ps.now 36) }
-    ensures { result ≡ corners_of (gain_map_of ps.now) down q k }
+pub fn corners_at(map: MapBytes, down: Bracket, q: usize, k: usize) -> Corners
+    requires { BracketIn (long_of map.ps.now 32) down × (q < planes_in map.ps.now) × (k < long_of map.ps.now 36) }
+    ensures { result ≡ corners_of (gain_map_of map.entry.ps.now) down q k }
 {
     let i = point(down);
-    let lower = next(grid::field(ps, 32), i);
-    let right = next(grid::field(ps, 36), k);
+    let lower = next(grid::field(map.ps, 32), i);
+    let right = next(grid::field(map.ps, 36), k);
     Corners {
         point: k,
         from: k as f64,
         to: right as f64,
-        upper_left: gain(ps, i, k, q),
-        upper_right: gain(ps, i, right, q),
-        lower_left: gain(ps, lower, k, q),
-        lower_right: gain(ps, lower, right, q),
+        upper_left: gain(map, i, k, q),
+        upper_right: gain(map, i, right, q),
+        lower_left: gain(map, lower, k, q),
+        lower_right: gain(map, lower, right, q),
     }
 }
 
 // The same, where corners of this row are at hand.
-pub fn corners_near(ps: &[u8], corners: Corners, down: Bracket, q: usize, k: usize) -> Corners
-    requires gain_map_in { GainMapIn ps.now × BracketIn (long_of ps.now 32) down × (q < planes_in ps.now) × (k < long_of ps.now 36) }
-    requires corners_value { corners ≡ corners_of (gain_map_of ps.now) down q corners.point }
-    ensures { result ≡ corners_of (gain_map_of ps.now) down q k }
+pub fn corners_near(map: MapBytes, corners: Corners, down: Bracket, q: usize, k: usize) -> Corners
+    requires bracket_in { BracketIn (long_of map.ps.now 32) down × (q < planes_in map.ps.now) × (k < long_of map.ps.now 36) }
+    requires corners_value { corners ≡ corners_of (gain_map_of map.ps.now) down q corners.point }
+    ensures { result ≡ corners_of (gain_map_of map.entry.ps.now) down q k }
 {
     if corners.point == k {
         return corners;
     }
-    corners_at(ps, down, q, k)
+    corners_at(map, down, q, k)
 }
 
 // The map plane of an opcode's j-th plane: the j-th, or the last.
-pub fn plane_for(ps: &[u8], j: usize) -> usize
-    requires { GainMapIn ps.now }
-    ensures { (result ≡ min j (planes_in ps.now - 1)) × (result < planes_in ps.now) }
+pub fn plane_for(map: MapBytes, j: usize) -> usize
+    ensures { (result ≡ min j (planes_in map.entry.ps.now - 1)) × (result < planes_in map.entry.ps.now) }
 {
-    let last = grid::field(ps, 72) - 1;
+    let last = grid::field(map.ps, 72) - 1;
     j.min(last)
 }
 
 // The gain at a row and a column of the active area, on the opcode's j-th plane.
-pub fn gain_at(ps: &[u8], size: Size, row: ActiveRow, column: ActiveColumn, j: usize) -> f64
-    requires { GainMapIn ps.now × (size.rows ≤ 16384) × (size.columns ≤ 16384) × (row.0 < size.rows) × (column.0 < size.columns) }
-    ensures { result ≡ gain_of (gain_map_of ps.now) size row.0 column.0 j }
+pub fn gain_at(map: MapBytes, size: Size, row: ActiveRow, column: ActiveColumn, j: usize) -> f64
+    requires { (size.rows ≤ 16384) × (size.columns ≤ 16384) × (row.0 < size.rows) × (column.0 < size.columns) }
+    ensures { result ≡ gain_of (gain_map_of map.entry.ps.now) size row.0 column.0 j }
 {
-    let down = located(down_axis(ps), size.rows, row.0);
-    let across = located(across_axis(ps), size.columns, column.0);
-    let corners = corners_at(ps, down, plane_for(ps, j), point(across));
+    let down = located(down_axis(map.ps), size.rows, row.0);
+    let across = located(across_axis(map.ps), size.columns, column.0);
+    let corners = corners_at(map, down, plane_for(map, j), point(across));
     corners_gain(corners, down, across)
 }

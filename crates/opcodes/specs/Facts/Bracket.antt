@@ -1,5 +1,7 @@
 -- How the code finds a gain: the point or the two points that a row or a column lies at or between, and the four gains around a sample.
 use Rattle.std.specs.Prelude.{◌≡◌, ℕ, ◌+◌, ◌*◌, ◌<◌, ◌≤◌, T, List, length, nat_lt, Float}
+use Rattle.std.specs.Coded.{→_prop, le_prop}
+use lib.Dec.{T_prop}
 use Rattle.std.specs.Float.Ieee.Scale.{finite}
 use Rattle.std.specs.Float.Ieee.Positive.{positive}
 use Rattle.reading.specs.Reading.{pick}
@@ -21,6 +23,24 @@ pub record GainMapIn (ps : List ℕ) : Type 0 where
   pub across : AxisIn (across_of ps)
   pub planes : 1 ≤ planes_in ps
   pub inside : 76 + 4 * gains_in ps ≤ length ps
+
+pub AxisIn-prop : (a : Axis) → IsProp (AxisIn a)
+AxisIn-prop a x y = λ i.
+    record {
+      some = le_prop x.some y.some i;
+      most = le_prop x.most y.most i;
+      origin = T_prop (finite a.origin) x.origin y.origin i;
+      spacing = →_prop (T_prop (positive a.spacing)) x.spacing y.spacing i;
+    }
+
+pub GainMapIn-prop : (ps : List ℕ) → IsProp (GainMapIn ps)
+GainMapIn-prop ps x y = λ i.
+    record {
+      down = AxisIn-prop (down_of ps) x.down y.down i;
+      across = AxisIn-prop (across_of ps) x.across y.across i;
+      planes = le_prop x.planes y.planes i;
+      inside = le_prop x.inside y.inside i;
+    }
 
 -- ---- a bracket: its point, and what is taken of the gains there and at the next point
 abbrev pub point_of : Bracket → ℕ

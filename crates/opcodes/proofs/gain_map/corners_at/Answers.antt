@@ -9,7 +9,7 @@ pub returns : goal.returns
 unfolding gain_map_of
 returns c =
     let gain = c.gain in
-    let m = gain_map_of c.args.ps.now in
+    let m = gain_map_of c.args.map.ps.now in
     let i = c.point-i in
     let l = c.next-lower.ensures.0 ∙ ap (λ (n : ℕ). next_of n i.result) c.field.ensures.0 in
     let r = c.next-right.ensures.0 ∙ ap (λ (n : ℕ). next_of n c.args.k) c.field-2.ensures.0 in

@@ -8,11 +8,11 @@ use Rattle.opcodes.proofs.gain_map.gain.Goals.{After-field-planes}
 room : (c : After-field-planes) →
     let a = c.args in
     let n = a.i * c.field-columns.result + a.k in
-    (n ≤ n * c.field-planes.result) × (76 + 4 * (n * c.field-planes.result + a.q) + 4 ≤ length a.ps.now)
+    (n ≤ n * c.field-planes.result) × (76 + 4 * (n * c.field-planes.result + a.q) + 4 ≤ length a.map.ps.now)
 room c =
     let a = c.args in
     let h = c.requires in
-    gain_room a.ps.now a.i a.k a.q _ _ c.field-columns.ensures.0 c.field-planes.ensures.0 h.0 h.1 h.2 h.3
+    gain_room a.map.ps.now a.i a.k a.q _ _ c.field-columns.ensures.0 c.field-planes.ensures.0 a.map.accepted h.0 h.1 h.2
 
 pub overflow_mul-i-3 : goal.overflow_mul-i-3
 overflow_mul-i-3 c =

@@ -10,7 +10,7 @@ pub returns : goal.returns
 unfolding gain_map_of
 returns c =
     let a = c.args in
-    let m = gain_map_of a.ps.now in
+    let m = gain_map_of a.map.ps.now in
     let down = c.located-down in
     let across = c.located-across in
     let e = c.across_axis.ensures in

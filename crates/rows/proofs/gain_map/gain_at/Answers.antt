@@ -30,7 +30,6 @@ gain_at-gain-requires c =
     let g = grid_in a.size a.ps.now c.requires.0 n.result n.ensures.by_index in
     let o = on_in n.result a.row.0 a.column.0 a.plane t in
     let z = c.requires.1 in (
-      map_in a.size a.ps.now c.requires.0,
       z.rows,
       z.columns,
       omega (arith, o.bottom, g.rows),
@@ -54,3 +53,6 @@ returns-else-on c =
     let n = c.grid_at-g in
     let e = map_grid a.size a.ps.now c.requires.0 n.result n.ensures.by_index in
     at_off a.size a.ps.now a.row.0 a.column.0 a.plane a.x n.result e (sym c.on.ensures ∙ c.if-on.false)
+
+pub invariant_of-gain_at : goal.invariant_of-gain_at
+invariant_of-gain_at c = map_in c.args.size c.args.ps.now c.requires.0

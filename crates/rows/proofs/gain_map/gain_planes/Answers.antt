@@ -22,7 +22,7 @@ overflow_add-stop c = let h =
 
 pub across_axis-across-requires : goal.across_axis-across-requires
 across_axis-across-requires c =
-    omega (arith, c.requires.gain_map_in.0.inside)
+    omega (arith, c.args.map.accepted.inside)
 
 pub skipped-skip-requires : goal.skipped-skip-requires
 skipped-skip-requires c = let h =
@@ -42,11 +42,6 @@ pub loop-p-init : goal.loop-p-init
 loop-p-init c =
     let h = c.requires.sized_in in
     planes_start _ _ _ _ _ _ _ h.1.column_pitch _
-
-pub plane_for-q-requires : goal.plane_for-q-requires
-plane_for-q-requires c =
-    let pre = c.requires in
-    pre.gain_map_in.0
 
 pub overflow_add-places : goal.overflow_add-places
 overflow_add-places c =
@@ -85,7 +80,7 @@ sweep_gain-requires c =
         },
         h.0.columns,
       );
-      gain_map_in = (c.requires.gain_map_in.0, c.across_axis-across.ensures, c.requires.gain_map_in.1, c.plane_for-q.ensures.1);
+      gain_map_in = (c.across_axis-across.ensures, c.requires.gain_map_in, c.plane_for-q.ensures.1);
     }
 
 pub loop-p-preserved : goal.loop-p-preserved
@@ -102,9 +97,9 @@ loop-p-preserved c =
     let k = c.skipped-skip in
     let step = g.column_pitch * a.size.samples in
     let swept : ℕ → List Float = λ q. swept_of (f.result + v.p) e.result step
-    (λ m x. let j = k.result + (m - (f.result + v.p)) / step in times_gain a.ps.now a.down q a.size.columns
+    (λ m x. let j = k.result + (m - (f.result + v.p)) / step in times_gain a.map.ps.now a.down q a.size.columns
     (g.left + j * g.column_pitch) x) v.out in
-      planes_next (gain_line a.ps.now a.size g a.down) _ _ _ _ _ _ h.1.column_pitch v.p _ _ _ _ a.out.now v.out _
+      planes_next (gain_line a.map.ps.now a.size g a.down) _ _ _ _ _ _ h.1.column_pitch v.p _ _ _ _ a.out.now v.out _
           k.ensures.0 f.ensures.0 e.ensures (omega arith) (omega (arith, h.1.planes, t)) refl v.invariant
           (w.ensures ∙ ap swept plane-for.ensures.0)
 
@@ -114,6 +109,6 @@ returns c =
     let g = a.grid in
     let v = c.loop-p in
     let e : v.p ≡ g.plane + g.planes = omega (arith, c.loop-p.auto.p-end (omega arith)) in
-    let R = gain_line a.ps.now a.size g a.down in
+    let R = gain_line a.map.ps.now a.size g a.down in
     subst (λ (q : ℕ). v.out ≡ planes_of R g.left g.right g.column_pitch a.column.0 a.size.samples g.plane q a.out.now) e
     v.invariant

@@ -37,7 +37,7 @@ gain_planes-requires c =
     let among = subst (λ (x : Axis). BracketIn x.points d.result) c.down_axis.ensures d.ensures.1 in
     let g = grid_in a.size a.ps.now c.requires.0 n.result n.ensures.by_index in record {
       sized_in = (c.requires.1, g, n.ensures.plane_bound.3, c.requires.2);
-      gain_map_in = (map_in a.size a.ps.now c.requires.0, among);
+      gain_map_in = among;
     }
 
 pub returns-then-every : goal.returns-then-every
@@ -58,3 +58,6 @@ returns-else-every c =
     let e = map_grid a.size a.ps.now c.requires.0 n.result n.ensures.by_index in
     row_off a.size a.ps.now a.row.0 a.column.0 a.size.samples a.out.now n.result e
     (sym c.every.ensures ∙ c.if-every.false)
+
+pub invariant_of-gain_planes : goal.invariant_of-gain_planes
+invariant_of-gain_planes c = map_in c.args.size c.args.ps.now c.requires.0

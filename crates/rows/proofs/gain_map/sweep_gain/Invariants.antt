@@ -11,6 +11,6 @@ abbrev pub invariant-loop-n : goal.invariant-loop-n
 invariant-loop-n l =
     let s = l.fn.columns in
     let p = s.places in
-    Swept p.first p.end p.pitch (λ k x. times_gain l.ps l.down l.q l.width (s.left + (s.skip + (k - p.first) / p.pitch) * s.pitch) x)
+    Swept p.first p.end p.pitch (λ k x. times_gain l.map.ps.now l.down l.q l.width (s.left + (s.skip + (k - p.first) / p.pitch) * s.pitch) x)
     (p.first + l.n * p.pitch) l.initial.out l.out
-    × (l.corners ≡ corners_of (gain_map_of l.ps) l.down l.q l.corners.point) × (l.corners.point < long_of l.ps 36)
+    × (l.corners ≡ corners_of (gain_map_of l.map.ps.now) l.down l.q l.corners.point) × (l.corners.point < long_of l.map.ps.now 36)
