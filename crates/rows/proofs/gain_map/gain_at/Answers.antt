@@ -55,4 +55,4 @@ returns-else-on c =
     at_off a.size a.ps.now a.row.0 a.column.0 a.plane a.x n.result e (sym c.on.ensures ∙ c.if-on.false)
 
 pub invariant_of-gain_at : goal.invariant_of-gain_at
-invariant_of-gain_at c = map_in c.args.size c.args.ps.now c.requires.0
+invariant_of-gain_at c = record { accepted = map_in c.args.size c.args.ps.now c.requires.0 }

@@ -60,4 +60,4 @@ returns-else-every c =
     (sym c.every.ensures ∙ c.if-every.false)
 
 pub invariant_of-gain_planes : goal.invariant_of-gain_planes
-invariant_of-gain_planes c = map_in c.args.size c.args.ps.now c.requires.0
+invariant_of-gain_planes c = record { accepted = map_in c.args.size c.args.ps.now c.requires.0 }
