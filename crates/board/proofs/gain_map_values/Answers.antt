@@ -25,12 +25,10 @@ applied e g p = e ∙ rw (g, p)
 pub corners_at-corners-requires : goal.corners_at-corners-requires
 corners_at-corners-requires c =
     let m = shading_in in
-    rw c.gain_map_bytes-ps.ensures (m, omega (arith, m.down.some), omega (arith, m.planes), omega (arith, m.across.some))
+    rw c.gain_map_bytes-ps.ensures (omega (arith, m.down.some), omega (arith, m.planes), omega (arith, m.across.some))
 
-pub gain_at-gain-requires : goal.gain_at-gain-requires
-gain_at-gain-requires c =
-    let gain-map-bytes = c.gain_map_bytes-ps in
-    (rw gain-map-bytes.ensures shading_in, omega arith, omega arith, omega arith, omega arith)
+pub invariant_of-map : goal.invariant_of-map
+invariant_of-map c = record { accepted = rw c.gain_map_bytes-ps.ensures shading_in }
 
 pub bits_of-requires : goal.bits_of-requires
 bits_of-requires c =
