@@ -25,13 +25,7 @@ pub struct Matrix {
 fn matrix_of(dir: Directory) -> Result<Matrix, Refusal>
     ensures { (out result ≡ run dir.entry.file.now (matrix_reading dir.entry.ifd)) × MatrixIn result }
 {
-    let rule = Rule {
-        tag: names::FORWARD_MATRIX_1,
-        kinds: Kinds::SignedRational,
-        required: true,
-        least: 9,
-        most: 9,
-    };
+    let rule = Rule::required(names::FORWARD_MATRIX_1, Kinds::SignedRational, 9);
     let v = tag::look_up(dir, rule)?;
     let place = v.place;
     let order = dir.ifd.order;
@@ -57,13 +51,7 @@ fn neutral_kind(kind: Kind) -> FractionKind
 fn neutral_of(dir: Directory) -> Result<Triple, Refusal>
     ensures { (out result ≡ run dir.entry.file.now (neutral_reading dir.entry.ifd)) × TripleIn true result }
 {
-    let rule = Rule {
-        tag: names::AS_SHOT_NEUTRAL,
-        kinds: Kinds::ShortOrRational,
-        required: true,
-        least: 3,
-        most: 3,
-    };
+    let rule = Rule::required(names::AS_SHOT_NEUTRAL, Kinds::ShortOrRational, 3);
     let v = tag::look_up(dir, rule)?;
     let order = dir.ifd.order;
     let kind = neutral_kind(v.kind);
