@@ -81,7 +81,11 @@ fn cells_row(
     ensures { Filled nan (λ (k : ℕ). of_parts (cell_along (run file.now (levels_reading order tags)) tags.frame.samples row.0 column.0 k)) (length out.old) out.new }
 {
     let period = tags.levels.repeat.columns * tags.frame.samples;
-    repeated(period, |k| cell_from(file, order, tags, row, column, k), out);
+    repeated(
+        period,
+        |k| cell_from(file, order, tags, row, column, k),
+        out,
+    );
 }
 
 // The reciprocal of a plane's S.

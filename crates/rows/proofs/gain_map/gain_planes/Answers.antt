@@ -99,9 +99,9 @@ loop-p-preserved c =
     let swept : ℕ → List Float = λ q. swept_of (f.result + v.p) e.result step
     (λ m x. let j = k.result + (m - (f.result + v.p)) / step in times_gain a.map.ps.now a.down q a.size.columns
     (g.left + j * g.column_pitch) x) v.out in
-      planes_next (gain_line a.map.ps.now a.size g a.down) _ _ _ _ _ _ h.1.column_pitch v.p _ _ _ _ a.out.now v.out _
-          k.ensures.0 f.ensures.0 e.ensures (omega arith) (omega (arith, h.1.planes, t)) refl v.invariant
-          (w.ensures ∙ ap swept plane-for.ensures.0)
+    planes_next (gain_line a.map.ps.now a.size g a.down) _ _ _ _ _ _ h.1.column_pitch v.p _ _ _ _ a.out.now v.out _
+    k.ensures.0 f.ensures.0 e.ensures (omega arith) (omega (arith, h.1.planes, t)) refl v.invariant
+    (w.ensures ∙ ap swept plane-for.ensures.0)
 
 pub returns : goal.returns
 returns c =

@@ -26,9 +26,11 @@ loop-n-init c =
     let a = c.args in
     let m = gain_map_of a.map.ps.now in
     let e = c.corners_at-corners.ensures in
-    let o = corners_point m a.down a.q 0 _ e in
-    (nth_start _ _ _ (λ n x. times_gain a.map.ps.now a.down a.q a.width (a.columns.left + (a.columns.skip + n) * a.columns.pitch) x) a.out.now,
-    corners_own m a.down a.q 0 _ e, omega (arith, o, a.map.accepted.across.some))
+    let o = corners_point m a.down a.q 0 _ e in (
+      nth_start _ _ _ (λ n x. times_gain a.map.ps.now a.down a.q a.width (a.columns.left + (a.columns.skip + n) * a.columns.pitch) x) a.out.now,
+      corners_own m a.down a.q 0 _ e,
+      omega (arith, o, a.map.accepted.across.some),
+    )
 
 -- the column of a sample is one of the active area
 inside : (c : In-loop-n) → let s = c.args.columns in s.left + s.skip * s.pitch + c.loop-n.n * s.pitch < c.args.width

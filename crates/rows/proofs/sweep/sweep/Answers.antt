@@ -21,11 +21,12 @@ pub loop-n-preserved : goal.loop-n-preserved
 loop-n-preserved g c =
     let p = c.args.places in
     let l = c.loop-n in
-    let i = p.first + l.n * p.pitch in
-    (λ k h. get_or-set_other l.out i k c.f.result nan (ne_of_gt (omega (arith, add-mul l.n 1 p.pitch, c.requires.places_in.some)))
-    ∙ l.invariant.0 k (omega (arith, add-mul l.n 1 p.pitch)),
-    λ v e. nth_step _ _ _ v l.n c.args.out.now l.out _ c.requires.places_in.some
-    (c.count-n-end.ensures.inside l.n c.loop-n-test.true) c.requires.places_in.inside (e l.n _ _ c.f.ensures) (l.invariant.1 v e))
+    let i = p.first + l.n * p.pitch in (
+      λ k h. get_or-set_other l.out i k c.f.result nan (ne_of_gt (omega (arith, add-mul l.n 1 p.pitch, c.requires.places_in.some)))
+          ∙ l.invariant.0 k (omega (arith, add-mul l.n 1 p.pitch)),
+      λ v e. nth_step _ _ _ v l.n c.args.out.now l.out _ c.requires.places_in.some
+          (c.count-n-end.ensures.inside l.n c.loop-n-test.true) c.requires.places_in.inside (e l.n _ _ c.f.ensures) (l.invariant.1 v e),
+    )
 
 pub returns : goal.returns
 returns g c v e =

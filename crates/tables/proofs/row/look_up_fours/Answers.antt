@@ -23,9 +23,10 @@ word_at e i w h q =
     (word_is f i (λ k. let b = e.type_inv.bytes k in omega (arith, b)) h)
 
 pub loop-j-init : goal.loop-j-init
-loop-j-init c =
-    (word_at (goal.at.loop-j-init c).Else-out-lt4 0 c.long-word.result (omega (arith, c.if-out-lt4.false, c.requires)) c.long-word.ensures,
-    λ x f k h. absurd (omega arith))
+loop-j-init c = (
+  word_at (goal.at.loop-j-init c).Else-out-lt4 0 c.long-word.result (omega (arith, c.if-out-lt4.false, c.requires)) c.long-word.ensures,
+  λ x f k h. absurd (omega arith),
+)
 
 pub loop-j-preserved : goal.loop-j-preserved
 loop-j-preserved c =
