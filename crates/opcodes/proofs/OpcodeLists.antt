@@ -34,6 +34,16 @@ module _ (h : Header) where
   class_other a (inl v) b e = rw (sym a ∙ v.0, lt-leb _ _ v.1, e)
   class_other a (inr v) b e = rw (sym a ∙ v, e)
 
+-- an opcode that is carried is listed
+pub carried_listed : (h : Header) → class.Carried ≡ class_of h → listed_id h.id ≡ true
+unfolding class_of pick
+carried_listed h e = go (listed_id h.id) (leb h.version 0x01070100) (eqb (h.flags % 2) 1) e
+  where
+    go : (a b d : Bool) → class.Carried ≡ pick (a && b) class.Carried (pick d class.Optional class.Compulsory) → a ≡ true
+    go true b d q = refl
+    go false b true q = absurd (grind arith)
+    go false b false q = absurd (grind arith)
+
 module _ (g : Grid) (id n : ℕ) where
   pub form_table : eqb id 7 ≡ true → table_form n ≡ form_of g id n
   unfolding form_of pick

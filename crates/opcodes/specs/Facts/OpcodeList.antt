@@ -4,7 +4,19 @@ use Rattle.reading.specs.Reading.{pick}
 use Rattle.directory.specs.Out.{Out, Out.refused, Out.is}
 use Rattle.opcodes.specs.Opcode.{Opcode, skipped, kept}
 use Rattle.opcodes.specs.declared.list.Counts.{Counts}
+use Rattle.opcodes.specs.declared.list.Kind.{Kind}
+use Rattle.opcodes.specs.declared.list.Kind.TheVariants as kind
 use Rattle.opcodes.specs.OpcodeList.{kept_in, skipped_in}
+
+-- the id of a kind
+abbrev pub id_of : Kind → ℕ
+id_of kind.MapTable = 7
+id_of kind.MapPolynomial = 8
+id_of kind.GainMap = 9
+id_of kind.DeltaPerRow = 10
+id_of kind.DeltaPerColumn = 11
+id_of kind.ScalePerRow = 12
+id_of kind.ScalePerColumn = 13
 
 -- the counts of an accepted list, on top of counts so far
 abbrev pub none : Counts

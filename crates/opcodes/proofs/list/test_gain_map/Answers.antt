@@ -1,4 +1,4 @@
-use Rattle.std.proofs.Common.{◌≡◌, ℕ, true, false, sym, ap, ◌∙◌}
+use Rattle.std.proofs.Common.{◌≡◌, ℕ, true, false, sym, ap}
 use Rattle.reading.specs.Reading.{pick}
 use Rattle.opcodes.specs.Grid.{grid_of, fits_of}
 use Rattle.opcodes.specs.Facts.OpcodeList.{tested}

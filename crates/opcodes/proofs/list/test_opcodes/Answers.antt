@@ -1,9 +1,8 @@
-use Rattle.std.proofs.Common.{◌≡◌, ℕ, ◌+◌, ◌-◌, ◌<◌, ◌≤◌, sym, ◌∙◌, arith}
+use Rattle.std.proofs.Common.{◌≡◌, ◌+◌, ◌-◌, ◌<◌, ◌≤◌, sym, ◌∙◌, arith}
 use Rattle.std.proofs.lemmas.Result.{err_from_is_err_and}
-use Rattle.reading.specs.Bytes.{part}
 use Rattle.reading.specs.Reading.{run}
 use Rattle.directory.specs.Out.{Out, Out.refused, Out.is}
-use Rattle.opcodes.specs.OpcodeList.{header_of, class_of, opcode_reading}
+use Rattle.opcodes.specs.OpcodeList.{class_of, opcode_reading}
 use Rattle.opcodes.specs.Facts.OpcodeList.{counted_one}
 use Rattle.opcodes.specs.declared.list.Counts.{Counts}
 use Rattle.opcodes.proofs.Listing.{head_at, whole_at, list_short, list_over, list_refused, list_next, list_end, list_left, counted_bound}
@@ -51,8 +50,7 @@ loop-i-preserved c =
     rw (← e) c.in_ok-counts.ensures in
     let k = counted_bound l.counts _ _ g in
     let j : a.count - l.i - 1 ≡ a.count - (l.i + 1) = omega arith in
-    let t = list_next f a.size l.i l.p l.rest l.counts c.if-rest-lt16.false (inside d) (a.count - l.i) some _ g in
-    (
+    let t = list_next f a.size l.i l.p l.rest l.counts c.if-rest-lt16.false (inside d) (a.count - l.i) some _ g in (
       sym (rw (j, ← e) at t) ∙ l.invariant.0,
       omega (arith, l.invariant.1, c.if-rest-whole.false),
       omega (arith, l.invariant.2, k.0),
