@@ -40,6 +40,7 @@ use Rattle.develop.specs.declared.View.{View}
 use Rattle.develop.proofs.Views.{open_inverse}
 use Rattle.develop.proofs.Answers.{developed_alone, active_within}
 use Rattle.develop.proofs.Called.{within_is}
+use Rattle.std.specs.Prelude.{Ok}
 use Rattle.chain.specs.Links.{opcode_id, is_skipped}
 use Rattle.chain.specs.Chain.{chain_of, Slices, slices, Chained, chained_with, room_for, room_in, refused_chain}
 use Rattle.chain.specs.Chain.{id_of, after_of, shown_of, chain_in, chain_call}
@@ -84,9 +85,7 @@ module _ (f : List ℕ) (o : Opened) (r c p : ℕ) where
         (w : Covered) (m : Marked) (s : Slices) →
         w ≡ covered_of o.opcodes r c p (scaled_of numbers_in.level) s.places s.ids s.before s.after →
         m ≡ skipped_of o.opcodes s.skipped →
-        chained_with
-        (record { number = 0; detail = 0; value = w.value; levels = numbers_in; covering = w.count; skipped = m.count })
-        (slices w.places w.ids w.before w.after m.slice)
+        chained_with (Ok (record { value = w.value; levels = numbers_in; covering = w.count; skipped = m.count })) (slices w.places w.ids w.before w.after m.slice)
         ≡ shown_of (chain_of f o r c p) s
     unfolding chain_of covered_of skipped_of
     chain_is w m s ew em = rw (ew, em, value_is) refl

@@ -42,14 +42,14 @@ use Rattle.rows.proofs.Gains as gained
 use Rattle.rows.proofs.Gains.{kept_plain, kept_gained}
 use Rattle.rows.proofs.Walks.{carried_is, optional_is, compulsory_not, absent_is, folded}
 use Rattle.rows.proofs.Walks.{Progress, StepOn, walk_start, walk_next, step_read, step_onward, walk_end}
+use Rattle.std.specs.Prelude.{Option, Some, None}
+use Rattle.std.specs.Option.{is_some}
 use Rattle.chain.specs.Links.{kind_id, opcode_id, link_of, links_of, is_skipped, places_where}
 use Rattle.chain.specs.Chain.{written, id_of, before_of, after_of}
 use Rattle.chain.specs.Facts.Links.{OpcodesIn, OpcodesOf, touch_of, Covered, linked, passed, link_into, Held, start_of, covered_of}
 use Rattle.chain.specs.Facts.Links.{skips_of, Marked, marked, mark_into, skipped_of}
 use Rattle.chain.specs.declared.links.Link.{Link}
 use Rattle.chain.specs.declared.links.Opcodes.{Opcodes}
-use Rattle.chain.specs.declared.links.Touch.{Touch}
-use Rattle.chain.specs.declared.links.Touch.TheVariants as touch
 
 -- ---- the id
 pub kind_id_law : (z : Size) (id : ℕ) (ps : List ℕ) → listed_id id ≡ true → kind_id (opcode_kind z id ps) ≡ id
@@ -134,45 +134,37 @@ module _ (f : List ℕ) (z : Size) (at : ℕ) (h : Header) (k : KeptIn f z at h)
     pub kept_touches : (r c p : ℕ) → touches (kept_of f z at h) r c p ≡ on_of g r c p
     kept_touches r c p = ap (λ (q : Grid). on_of q r c p) (sym (e h.length kept_long))
 
-on_not_off : (l : Link) → touch.On l ≡ touch.Off → ⊥
-on_not_off l e = let n : ◌≡◌ {A = ℕ} 1 0 = ap code e in omega arith
-  where
-    code : Touch → ℕ
-    code touch.Off = 0
-    code (touch.On k) = 1
+some_not_none : (l : Link) → Some l ≡ None → ⊥
+some_not_none l e = let k : true ≡ false = ap is_some e in cc
 
-same_link : (k l : Link) → touch.On k ≡ touch.On l → k ≡ l
-same_link k l e = ap inner e
-  where
-    inner : Touch → Link
-    inner touch.Off = k
-    inner (touch.On m) = m
+same_link : (k l : Link) → Some k ≡ Some l → k ≡ l
+same_link k l e = cc
 
 module _ (o : Opcode) (r c p : ℕ) (x : Float) where
-  pub touch_on : touches o r c p ≡ true → touch.On (link_of o r c p x) ≡ touch_of o r c p x
+  pub touch_on : touches o r c p ≡ true → Some (link_of o r c p x) ≡ touch_of o r c p x
   unfolding touch_of
   touch_on e = sym (simp (e, pick_yes))
 
-  pub touch_off : touches o r c p ≡ false → touch.Off ≡ touch_of o r c p x
+  pub touch_off : touches o r c p ≡ false → None ≡ touch_of o r c p x
   unfolding touch_of
   touch_off e = sym (simp (e, pick_no))
 
   -- and back
-  pub touched_off : touch.Off ≡ touch_of o r c p x → touches o r c p ≡ false
+  pub touched_off : None ≡ touch_of o r c p x → touches o r c p ≡ false
   touched_off e =
-      cases (touches o r c p) (λ t. absurd (on_not_off _ (touch_on t ∙ sym e))) (λ t. t)
+      cases (touches o r c p) (λ t. absurd (some_not_none _ (touch_on t ∙ sym e))) (λ t. t)
 
-  pub touched_on : (l : Link) → touch.On l ≡ touch_of o r c p x → (touches o r c p ≡ true) × (l ≡ link_of o r c p x)
+  pub touched_on : (l : Link) → Some l ≡ touch_of o r c p x → (touches o r c p ≡ true) × (l ≡ link_of o r c p x)
   touched_on l e =
-      cases (touches o r c p) (λ t. (t, same_link l _ (e ∙ sym (touch_on t)))) (λ t. absurd (on_not_off l (e ∙ sym (touch_off t))))
+      cases (touches o r c p) (λ t. (t, same_link l _ (e ∙ sym (touch_on t)))) (λ t. absurd (some_not_none l (e ∙ sym (touch_off t))))
 
 -- by its class
 module _ (f : List ℕ) (z : Size) (at : ℕ) (h : Header) (i : ℕ) (o : Opcode) (e : is o ≡ run f (opcode_reading (class_of h) z i at h))
     (r c p : ℕ) (x : Float) where
-  pub link_optional : class.Optional ≡ class_of h → touch.Off ≡ touch_of o r c p x
+  pub link_optional : class.Optional ≡ class_of h → None ≡ touch_of o r c p x
   link_optional q = touch_off o r c p x (ap (λ (k : Opcode). touches k r c p) (optional_is f z at h q i o e))
 
-  pub link_compulsory : class.Compulsory ≡ class_of h → touch.Off ≡ touch_of o r c p x
+  pub link_compulsory : class.Compulsory ≡ class_of h → None ≡ touch_of o r c p x
   link_compulsory q = absurd (compulsory_not f z at h q i o e)
 
   module _ (q : class.Carried ≡ class_of h) (k : KeptIn f z (at + 16) h) (g : Grid)
@@ -183,11 +175,11 @@ module _ (f : List ℕ) (z : Size) (at : ℕ) (h : Header) (i : ℕ) (o : Opcode
     on_is : touches o r c p ≡ on_of g r c p
     on_is = ap (λ (l : Opcode). touches l r c p) is_kept ∙ kept_touches f z (at + 16) h k g w r c p
 
-    pub link_off : on_of g r c p ≡ false → touch.Off ≡ touch_of o r c p x
+    pub link_off : on_of g r c p ≡ false → None ≡ touch_of o r c p x
     link_off t = touch_off o r c p x (on_is ∙ t)
 
     pub link_on : on_of g r c p ≡ true → (y : Float) → y ≡ opcode_at (kept_of f z (at + 16) h) r c p x →
-        touch.On (record { id = h.id; before = x; after = y }) ≡ touch_of o r c p x
+        Some (record { id = h.id; before = x; after = y }) ≡ touch_of o r c p x
     link_on t y d =
         let n : h.id ≡ opcode_id o =
         sym (ap opcode_id is_kept ∙ kind_id_law z h.id (part f (at + 16) h.length) k.listed) in
@@ -286,10 +278,10 @@ module _ (r c p : ℕ) where
 
   -- an opcode that was found not to cover the sample, or to cover it
   module _ (o : Opcode) (s : Covered) where
-    pub into_off : touch.Off ≡ touch_of o r c p s.value → passed s ≡ link_into r c p o s
+    pub into_off : None ≡ touch_of o r c p s.value → passed s ≡ link_into r c p o s
     into_off e = sym (into_no o s (touched_off o r c p s.value e))
 
-    pub into_on : (l : Link) → touch.On l ≡ touch_of o r c p s.value →
+    pub into_on : (l : Link) → Some l ≡ touch_of o r c p s.value →
         record {
           index = s.index + 1;
           count = s.count + 1;

@@ -81,19 +81,22 @@ fn link_at(file: &[u8], size: Size, at: usize, header: Header, spot: Spot, x: f6
 {
     let row = spot.row;
     let column = spot.column;
-    if !matches!(list::classify(header), Class::Carried) {
-        return None;
+    match list::classify(header) {
+        Class::Carried => {
+            let after = opcode::opcode_at(file, size, at + 16, header, row, column, spot.plane, x);
+            let g = grid::grid_at(file, at + 16);
+            if grid::on(g, row, column, spot.plane) {
+                return Some(Link {
+                    id: header.id,
+                    before: x,
+                    after,
+                });
+            }
+            None
+        }
+        Class::Optional => None,
+        Class::Compulsory => None,
     }
-    let after = opcode::opcode_at(file, size, at + 16, header, row, column, spot.plane, x);
-    let g = grid::grid_at(file, at + 16);
-    if !grid::on(g, row, column, spot.plane) {
-        return None;
-    }
-    Some(Link {
-        id: header.id,
-        before: x,
-        after,
-    })
 }
 
 // The n-th covering opcode, its index in the list and the link, into four slices.
@@ -182,7 +185,7 @@ pub fn cover(
         count: 0,
         value: x,
     };
-    while reached.index < opcodes.count {
+    for _ in 0..opcodes.count {
         let size = opcodes.size;
         reached = next_link(file, size, spot, reached, places, ids, before, after);
     }
@@ -209,14 +212,12 @@ pub fn skip(file: &[u8], opcodes: Opcodes, skipped: &mut [u64]) -> usize
     requires { OpcodesIn file.now opcodes × (32 ≤ length skipped.old) }
     ensures { (os : List Opcode) → is os ≡ run file.now (list_from opcodes.size opcodes.count 0 opcodes.at opcodes.bytes) → marked opcodes.count result skipped.new ≡ skipped_of os skipped.old }
 {
-    let mut i = 0;
     let mut p = opcodes.at;
     let mut n = 0;
-    while i < opcodes.count {
+    for i in 0..opcodes.count {
         let h = list::header_at(file, p);
         n = mark(h, i, n, skipped);
         p += 16 + h.length;
-        i += 1;
     }
     n
 }

@@ -14,12 +14,11 @@ use Rattle.opcodes.specs.declared.grid.Size.{Size}
 use Rattle.opcodes.proofs.Refusals.{list_small}
 use Rattle.colour.specs.declared.Colour.{Colour}
 use Rattle.colour.proofs.Refusals.{colour_small}
-use Rattle.develop.specs.Calls.{Opened, open_reading, opened, colour_for, spot_of, spot_call, Window, filled_of}
+use Rattle.develop.specs.Calls.{Opened, open_reading, opened, colour_for, SpotAnswer, spot_of, spot_call, Window, filled_of}
 use Rattle.demand.specs.Card.{card_of, card_call}
 use Rattle.chain.specs.Chain.{Slices, Chained, chain_in, chain_call}
 use Rattle.half.specs.Half.{half_for, halved_of, half_window_of, half_window_call}
 use Rattle.develop.specs.Calls.{window_of, window_call, coloured_of, colour_window_of, colour_window_call}
-use Rattle.develop.specs.declared.spot.SpotAnswer.{SpotAnswer}
 use Rattle.half.specs.declared.half_window.Half.{Half}
 
 -- ---- what is read

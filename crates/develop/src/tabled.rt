@@ -14,20 +14,21 @@ use crate::fill::Rectangle;
 use crate::{View, fill};
 use levels::active::{ActiveColumn, ActiveRow};
 use rawtags::Tags;
-use reading::number;
 
 // How many rows of the black level's repeat a window meets.
 fn rows_met(view: View, window: Rectangle) -> usize
     ensures { result ≡ rows_met view window }
 {
-    number::smaller(view.picture.raw.tags.levels.repeat.rows, window.height)
+    window.height.min(view.picture.raw.tags.levels.repeat.rows)
 }
 
 // And how many of its columns.
 fn columns_met(view: View, window: Rectangle) -> usize
     ensures { result ≡ columns_met view window }
 {
-    number::smaller(view.picture.raw.tags.levels.repeat.columns, window.width)
+    window
+        .width
+        .min(view.picture.raw.tags.levels.repeat.columns)
 }
 
 // The developed values of the part of an active row from an active column on, its samples looked up in tables from a first one on.
@@ -70,13 +71,11 @@ fn band_row(
 {
     let columns = columns_met(view, window);
     let down = i % rows_met(view, window);
-    if from <= down {
-        if down - from < count {
-            let row = ActiveRow(window.top + i);
-            let column = ActiveColumn(window.left);
-            let first = (down - from) * columns;
-            table_part(file, view, row, column, tables, first, out);
-        }
+    if from <= down && down - from < count {
+        let row = ActiveRow(window.top + i);
+        let column = ActiveColumn(window.left);
+        let first = (down - from) * columns;
+        table_part(file, view, row, column, tables, first, out);
     }
 }
 
@@ -95,13 +94,11 @@ fn band_rows(
 {
     let height = window.height;
     let width = window.width;
-    let mut i = 0;
     let mut a = 0;
-    while i < height {
+    for i in 0..height {
         let e = a + width;
         band_row(file, view, window, i, from, count, tables, &mut out[a..e]);
         a = e;
-        i += 1;
     }
 }
 
@@ -151,11 +148,9 @@ fn fill_bands(
     let rows = rows_met(view, window);
     let columns = columns_met(view, window);
     let most = 16 / columns;
-    let mut from = 0;
-    while from < rows {
-        let count = number::smaller(rows - from, most);
+    for from in (0..rows).step_by(most) {
+        let count = most.min(rows - from);
         fill_band(file, view, window, from, count, tables, out);
-        from += count;
     }
 }
 
@@ -176,10 +171,8 @@ fn pays(tags: Tags, window: Rectangle, rows: usize, columns: usize) -> bool
     requires { (1 ≤ rows) × (1 ≤ columns) × (window.height ≤ 16384) × (window.width ≤ 16384) }
 {
     let entries = tags.levels.table;
-    if 4 % columns != 0 {
-        if entries.count == 0 {
-            return false;
-        }
+    if 4 % columns != 0 && entries.count == 0 {
+        return false;
     }
     let down = window.height / rows;
     let across = window.width / columns;

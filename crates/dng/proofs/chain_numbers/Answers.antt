@@ -10,14 +10,14 @@ use Rattle.dng.proofs.chain_numbers.Goals as goal
 use Rattle.dng.proofs.chain_numbers.Goals.{Start}
 
 -- L has 16 bits
-low : (s : Start) → s.args.answer.levels.level < 2 ^ 63
+low : (s : Start) → s.args.chain.levels.level < 2 ^ 63
 low s = omega arith
 
 pub returns : goal.returns
 unfolding chain_numbers_of
 returns c =
     let s = (goal.at.returns c).Start in
-    let a = s.args.answer in
+    let a = s.args.chain in
     let n = a.levels in
     let stored : n.stored < 2 ^ 63 = omega arith in
     let value : n.table_value < 2 ^ 63 = omega arith in

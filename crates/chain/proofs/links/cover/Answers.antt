@@ -1,19 +1,19 @@
-use Prim.Native.Nat.{◌-◌}
+use mathlib.Core.Path.{refl, ◌∙◌}
 use native.Mathlib.Omega.{arith}
-use Rattle.chain.specs.Facts.Links.{reached_with}
-use Rattle.chain.proofs.LinkLaws.{Gone, gone_start, gone_read, gone_index, gone_on, gone_end}
-use borrow.Author.Rules.{rules}
+use Rattle.chain.proofs.LinkLaws.{gone_start, gone_read, gone_index, gone_on, gone_end}
 use Rattle.chain.proofs.links.cover.Goals as goal
 
-pub loop-reached-init : goal.loop-reached-init
-loop-reached-init c =
-    gone_start _ _ _ _ _ _ _ _ _ _ c.requires.opcodes_in.0 c.requires.opcodes_in.1
+pub loop-init : goal.loop-init
+loop-init c =
+    (gone_start _ _ _ _ _ _ _ _ _ _ c.requires.opcodes_in.0 c.requires.opcodes_in.1, refl)
 
 pub next_link-reached-requires : goal.next_link-reached-requires
 next_link-reached-requires c =
-    let g = c.loop-reached.invariant in record {
-      opcode_read = (gone_read _ _ _ _ _ _ _ _ _ _ c.requires.opcodes_in.0 _ _ g c.loop-reached-test.true, c.requires.opcodes_in.0.sized);
-      value_value = (g.held.in_unit, omega (arith, c.loop-reached-test.true, c.requires.opcodes_in.0.few), g.held.few);
+    let g = c.loop.invariant.0 in
+    let i = c.loop.invariant.1 in
+    let t = c.loop-test.true in record {
+      opcode_read = (gone_read _ _ _ _ _ _ _ _ _ _ c.requires.opcodes_in.0 _ _ g (omega (arith, i, t)), c.requires.opcodes_in.0.sized);
+      value_value = (g.held.in_unit, omega (arith, i, t, c.requires.opcodes_in.0.few), g.held.few);
       in_bounds = (
         omega (arith, g.held.places, c.requires.in_bounds.0),
         omega (arith, g.held.ids, c.requires.in_bounds.1),
@@ -22,19 +22,19 @@ next_link-reached-requires c =
       );
     }
 
-pub loop-reached-smaller : goal.loop-reached-smaller
-loop-reached-smaller c =
+pub loop-preserved : goal.loop-preserved
+loop-preserved c =
     let n = c.next_link-reached.ensures in
-    let e = gone_index _ _ _ _ _ _ _ _ _ _ c.requires.opcodes_in.0 _ _ c.loop-reached.invariant c.loop-reached-test.true _ _ n.by_index
-    n.at_value in
-    omega (arith, e, c.loop-reached-test.true)
-
-pub loop-reached-preserved : goal.loop-reached-preserved
-loop-reached-preserved c =
-    let n = c.next_link-reached.ensures in
-    gone_on _ _ _ _ _ _ _ _ _ _ c.requires.opcodes_in.0 _ _ c.loop-reached.invariant c.loop-reached-test.true _ _ n.by_index n.at_value
+    let g = c.loop.invariant.0 in
+    let i = c.loop.invariant.1 in
+    let t = c.loop-test.true in (
+      gone_on _ _ _ _ _ _ _ _ _ _ c.requires.opcodes_in.0 _ _ g (omega (arith, i, t)) _ _ n.by_index n.at_value,
+      omega (arith, i, gone_index _ _ _ _ _ _ _ _ _ _ c.requires.opcodes_in.0 _ _ g (omega (arith, i, t)) _ _ n.by_index n.at_value),
+    )
 
 pub returns : goal.returns
 returns c =
     let b = c.requires.in_bounds in
-    λ os e. gone_end _ _ _ _ _ _ _ _ _ _ c.requires.opcodes_in.0 _ _ c.loop-reached.invariant c.loop-reached-test.false b.0 b.1 b.2 b.3 os e
+    let g = c.loop.invariant.0 in
+    λ os e.
+    gone_end _ _ _ _ _ _ _ _ _ _ c.requires.opcodes_in.0 _ _ g (omega (arith, c.loop.invariant.1, c.loop-test.false)) b.0 b.1 b.2 b.3 os e

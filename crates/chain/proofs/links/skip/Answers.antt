@@ -1,6 +1,6 @@
 use mathlib.Core.Path.{◌≡◌, refl, sym, ap, ◌∙◌}
 use mathlib.Core.Bool.{Bool}
-use Prim.Native.Nat.{ℕ, ◌-◌, ◌≤◌}
+use Prim.Native.Nat.{ℕ, ◌≤◌}
 use native.Mathlib.Omega.{arith}
 use lib.ListN.{length}
 use Rattle.opcodes.specs.declared.list.Header.{Header}
@@ -9,7 +9,6 @@ use Rattle.rows.proofs.Walks.{Progress, walk_start, walk_next, step_reads, step_
 use Rattle.chain.specs.Links.{is_skipped}
 use Rattle.chain.specs.Facts.Links.{Marked, marked, mark_into}
 use Rattle.chain.proofs.LinkLaws.{mark_of, skips_is, mark_held, marks_skipped, skipped_index}
-use borrow.Author.Rules.{rules}
 use Rattle.chain.proofs.links.skip.Goals as goal
 
 pub loop-i-init : goal.loop-i-init
@@ -30,10 +29,6 @@ mark-n-requires c =
     let loop = c.loop-i in
     (loop.invariant.1, omega (arith, c.loop-i-test.true, c.requires.0.few), omega (arith, loop.invariant.2, c.requires.1))
 
-pub overflow_add-p : goal.overflow_add-p
-overflow_add-p c =
-    omega (arith, c.header_at-h.ensures.length_bound)
-
 pub overflow_add-p-in-loop-i : goal.overflow_add-p-in-loop-i
 overflow_add-p-in-loop-i c =
     let a = c.args in
@@ -44,14 +39,6 @@ overflow_add-p-in-loop-i c =
     (marked loop.i loop.n loop.skipped) c.loop-i-test.true loop.invariant.0 in
     let e : h.result.length ≡ (head_at a.file.now loop.p).length = ap (λ (k : Header). k.length) h.ensures.value in
     omega (arith, s.whole, c.requires.0.read.inside, c.well_formed.0.1)
-
-pub overflow_add-i : goal.overflow_add-i
-overflow_add-i c =
-    omega (arith, c.loop-i-test.true, c.requires.0.few)
-
-pub loop-i-smaller : goal.loop-i-smaller
-loop-i-smaller c =
-    omega (arith, c.loop-i-test.true)
 
 pub loop-i-preserved : goal.loop-i-preserved
 loop-i-preserved c =

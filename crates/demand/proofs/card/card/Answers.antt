@@ -1,29 +1,24 @@
-use mathlib.Core.Path.{ap, subst}
+use mathlib.Core.Path.{ap}
+use Rattle.std.proofs.lemmas.Result.{err_from_is_err_and}
 use Rattle.demand.specs.Card.{card_of}
-use Rattle.develop.specs.Facts.View.{OpeningIs}
 use Rattle.demand.proofs.CardLaws.{card_viewed}
 use Rattle.demand.proofs.Demands.{meets_demand_3}
 use Rattle.demand.proofs.Accurate.{has_accurate_levels}
-use borrow.Author.Rules.{rules}
 use Rattle.demand.proofs.card.card.Goals as goal
-use Rattle.demand.proofs.card.card.Goals.{After-open}
 
-pub returns-in-Refused : goal.returns-in-Refused
-returns-in-Refused c =
-    let a = c.args in
-    let open-call = (goal.at.returns-in-Refused c).After-open.«open» in
-    let f = a.file.now in
-    let e = subst (OpeningIs f) c.in-Refused.is open-call.ensures in record {
-      value = ap card_of e;
+pub returns-in_err-view : goal.returns-in_err-view
+returns-in_err-view c =
+    let f = c.args.file.now in
+    let p = err_from_is_err_and c.from_residual.result c.from_residual.ensures.1 in record {
+      value = rw (p.1, p.2) (ap card_of c.in_err-view.ensures);
       meets_demand_3 = meets_demand_3 f;
       has_accurate_levels = has_accurate_levels f;
     }
 
-pub returns-in-Is : goal.returns-in-Is
-returns-in-Is c =
-    let f = c.args.file.now in
-    let v = subst (OpeningIs f) c.in-Is.is (goal.at.returns-in-Is c).After-open.«open».ensures in record {
-      value = card_viewed f _ v;
+pub returns : goal.returns
+returns c =
+    let f = c.args.file.now in record {
+      value = card_viewed f _ c.in_ok-view.ensures;
       meets_demand_3 = meets_demand_3 f;
       has_accurate_levels = has_accurate_levels f;
     }

@@ -1,4 +1,4 @@
-use mathlib.Core.Path.{◌≡◌, refl, sym, ap, ◌∙◌}
+use mathlib.Core.Path.{◌≡◌, sym, ap, ◌∙◌}
 use Prim.Native.Nat.{ℕ, ◌+◌, ◌-◌, ◌*◌, ◌≤◌, ◌<◌}
 use native.Mathlib.Nat.{zero-mul, add-mul, mul-le-mul_right}
 use native.Mathlib.Omega.{arith}
@@ -10,7 +10,7 @@ use Rattle.develop.specs.Calls.{alone_in}
 use Rattle.develop.specs.Facts.Fill.{number_of}
 use Rattle.develop.specs.Facts.Tabled.{rows_met}
 use Rattle.develop.proofs.Bands.{banded_start, banded_next, banded_end}
-use Rattle.develop.proofs.Windows.{part_length, viewed_sized}
+use Rattle.develop.proofs.Windows.{part_length}
 use Rattle.develop.proofs.tabled.band_rows.Goals as goal
 use Rattle.develop.proofs.tabled.band_rows.Goals.{Start}
 
@@ -34,8 +34,6 @@ pub loop-i-init : goal.loop-i-init
 loop-i-init c =
     let a = c.args in
     let w = a.window in (
-      refl,
-      omega arith,
       sym (zero-mul w.width),
       λ q. banded_start (number_of (alone_in a.file.now q.file) w a.view.size.samples) (rows_met a.view w) w.height w.width
           a.from a.count a.out.now,
@@ -45,39 +43,19 @@ pub overflow_add-e : goal.overflow_add-e
 overflow_add-e c =
     let s = (goal.at.overflow_add-e c).Start in
     let l = c.loop-i in
-    omega (arith, row_inside (goal.at.overflow_add-e c).Start l.i c.loop-i-test.true, l.invariant.2, s.well_formed.1.1.1.1.1.1.0.0)
+    omega (arith, row_inside (goal.at.overflow_add-e c).Start l.i c.loop-i-test.true, l.invariant.0, s.well_formed.1.1.1.1.1.1.0.0)
 
 pub offset_bounds-out-a : goal.offset_bounds-out-a
 offset_bounds-out-a c =
     let s = (goal.at.offset_bounds-out-a c).Start in
     let l = c.loop-i in
-    omega (arith, row_inside (goal.at.offset_bounds-out-a c).Start l.i c.loop-i-test.true, l.invariant.2, s.well_formed.1.1.1.1.1.1.0.1)
+    omega (arith, row_inside (goal.at.offset_bounds-out-a c).Start l.i c.loop-i-test.true, l.invariant.0, s.well_formed.1.1.1.1.1.1.0.1)
 
 pub slice_bounds-band_row-end : goal.slice_bounds-band_row-end
 slice_bounds-band_row-end c =
     let s = (goal.at.slice_bounds-band_row-end c).Start in
     let l = c.loop-i in
-    omega (arith, row_inside (goal.at.slice_bounds-band_row-end c).Start l.i c.loop-i-test.true, l.invariant.2, l.invariant.0)
-
-pub band_row-requires : goal.band_row-requires
-band_row-requires c =
-    let s = (goal.at.band_row-requires c).Start in
-    let l = c.loop-i in
-    let t = c.loop-i-test.true in (
-      s.requires.0,
-      s.requires.1,
-      t,
-      row_length s l.a l.out (omega (arith, row_inside s l.i t, l.invariant.2, l.invariant.0)),
-    )
-
-pub overflow_add-i : goal.overflow_add-i
-overflow_add-i c =
-    let z = viewed_sized c.args.file.now c.args.view c.requires.0.file in
-    omega (arith, c.loop-i-test.true, c.requires.0.rows, z.rows)
-
-pub loop-i-smaller : goal.loop-i-smaller
-loop-i-smaller c =
-    omega (arith, c.loop-i-test.true)
+    omega (arith, row_inside (goal.at.slice_bounds-band_row-end c).Start l.i c.loop-i-test.true, l.invariant.0, l.auto.out)
 
 pub loop-i-preserved : goal.loop-i-preserved
 loop-i-preserved c =
@@ -87,18 +65,12 @@ loop-i-preserved c =
     let row = c.band_row in
     let a = s.args in
     let w = a.window in
-    let n = row_length s l.a l.out (omega (arith, row_inside s l.i t, l.invariant.2, l.invariant.0)) in (
-      search rules,
-      omega (arith, t),
-      omega (arith, add-mul l.i 1 w.width, l.invariant.2),
+    let n = row_length s l.a l.out (omega (arith, row_inside s l.i t, l.invariant.0, l.auto.out)) in (
+      omega (arith, add-mul l.i 1 w.width, l.invariant.0),
       λ q u. banded_next (number_of (alone_in a.file.now q.file) w a.view.size.samples) (rows_met a.view w) w.height
-          w.width a.from a.count l.i l.a l.out row.new.out t l.invariant.2 (l.invariant.0 ∙ s.requires.2)
-          (search rules) (l.invariant.3 q u) (λ g h k b. row.ensures.filled q g h k (omega (arith, n))) row.ensures.out_unchanged,
+          w.width a.from a.count l.i l.a l.out row.new.out t l.invariant.0 (l.auto.out ∙ s.requires.2)
+          (search rules) (l.invariant.1 q u) (λ g h k b. row.ensures.filled q g h k (omega (arith, n))) row.ensures.out_unchanged,
     )
-
-pub shape_of-out : goal.shape_of-out
-shape_of-out c =
-    c.loop-i.invariant.0
 
 pub returns : goal.returns
 returns c q u =
@@ -106,4 +78,4 @@ returns c q u =
     let a = c.args in
     let w = a.window in
     banded_end (number_of (alone_in a.file.now q.file) w a.view.size.samples) (rows_met a.view w) w.height w.width
-    a.from a.count l.i l.out c.loop-i-test.false (l.invariant.3 q u)
+    a.from a.count l.i l.out c.loop-i-test.false (l.invariant.1 q u)

@@ -1,6 +1,5 @@
 use mathlib.Core.Path.{◌≡◌}
-use Prim.Native.Nat.{◌-◌, ◌*◌, ◌≤◌}
-use lib.ListN.{length}
+use Prim.Native.Nat.{◌*◌}
 use Rattle.develop.specs.Calls.{alone_in}
 use Rattle.develop.specs.Facts.Fill.{number_of}
 use Rattle.develop.specs.Facts.Tabled.{rows_met, RowsUpto}
@@ -10,9 +9,7 @@ use Rattle.develop.proofs.tabled.band_rows.Given as goal
 
 abbrev pub invariant-loop-i : goal.invariant-loop-i
 invariant-loop-i l =
-    (length l.out ≡ length l.initial.out) × (l.i ≤ l.height) × (l.a ≡ l.i * l.width)
+    (l.a ≡ l.i * l.width)
     × ((q : Viewed l.file l.view) → let x = number_of (alone_in l.file q.file) l.window l.view.size.samples in
-    RowsUpto x (rows_met l.view l.window) l.height l.width l.from l.initial.out → Banded x (rows_met l.view l.window) l.height l.width l.from l.count l.i l.out)
-
-abbrev pub decreases-loop-i : goal.decreases-loop-i
-decreases-loop-i l = l.height - l.i
+    let met = rows_met l.view l.window in
+    RowsUpto x met l.window.height l.width l.from l.initial.out → Banded x met l.window.height l.width l.from l.count l.i l.out)
