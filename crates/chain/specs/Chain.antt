@@ -90,9 +90,13 @@ refused_answer n d = record { number = n; detail = d; value = plus_zero; levels 
 abbrev pub refused_chain : ℕ → ℕ → Slices → Chained
 refused_chain n d s = record { answer = refused_answer n d; lent = s }
 
+-- what is shown of a chain with a number and a detail
+abbrev pub answer_shown : ℕ → ℕ → SpotChain → ChainAnswer
+answer_shown n d a = record { number = n; detail = d; value = a.value; levels = a.levels; covering = a.covering; skipped = a.skipped }
+
 -- the answer of a call
 abbrev pub answer_of : Result SpotChain Refusal → ChainAnswer
-answer_of (Ok a) = record { number = 0; detail = 0; value = a.value; levels = a.levels; covering = a.covering; skipped = a.skipped }
+answer_of (Ok a) = answer_shown 0 0 a
 answer_of (Err r) = refused_answer (number_of r) (detail_of r)
 
 abbrev pub chained_with : Result SpotChain Refusal → Slices → Chained

@@ -2,10 +2,10 @@
 // skipped opcodes.
 #![tactic(auto)]
 
-ghost use Rattle.std.specs.Prelude.{◌≡◌, Ok, true, length};
+ghost use Rattle.std.specs.Prelude.{◌≡◌, ℕ, Ok, true, length};
 ghost use Rattle.raw.specs.Sample.{ActiveIn};
 ghost use Rattle.develop.specs.Facts.View.{Viewed};
-ghost use Rattle.chain.specs.Chain.{chain_of, slices, room_for, chained_with, shown_of, chain_call};
+ghost use Rattle.chain.specs.Chain.{chain_of, slices, room_for, answer_shown, refused_answer, chained_with, shown_of, chain_call};
 ghost use Rattle.chain.specs.Explained.{Explained};
 
 use crate::links::Spot;
@@ -24,6 +24,27 @@ pub struct SpotChain {
     pub levels: LevelNumbers,
     pub covering: usize,
     pub skipped: usize,
+}
+
+// What a refused call shows.
+pub fn no_chain() -> SpotChain
+    ensures { (n d : ℕ) → answer_shown n d result ≡ refused_answer n d }
+{
+    SpotChain {
+        value: 0.0,
+        levels: LevelNumbers {
+            stored: 0,
+            table_value: 0,
+            cell: 0,
+            column_delta: 0,
+            row_delta: 0,
+            black: 0,
+            greatest_black: 0,
+            level: 0,
+        },
+        covering: 0,
+        skipped: 0,
+    }
 }
 
 // Whether five slices of these lengths have 32 places each.

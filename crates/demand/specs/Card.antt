@@ -26,12 +26,12 @@ no_crop = record { left = 0; top = 0; columns = 0; rows = 0 }
 abbrev pub refused_card : ℕ → ℕ → CardAnswer
 refused_card n d = record { number = n; detail = d; rows = 0; columns = 0; samples = 0; kept = 0; skipped = 0; crop = no_crop }
 
--- the answer of a call
-abbrev pub card_with : Result FileCard Refusal → CardAnswer
-card_with (Ok c) =
+-- what is shown of a card with a number and a detail
+abbrev pub card_shown : ℕ → ℕ → FileCard → CardAnswer
+card_shown n d c =
     record {
-      number = 0;
-      detail = 0;
+      number = n;
+      detail = d;
       rows = c.rows;
       columns = c.columns;
       samples = c.samples;
@@ -39,6 +39,10 @@ card_with (Ok c) =
       skipped = c.skipped;
       crop = c.crop;
     }
+
+-- the answer of a call
+abbrev pub card_with : Result FileCard Refusal → CardAnswer
+card_with (Ok c) = card_shown 0 0 c
 card_with (Err r) = refused_card (number_of r) (detail_of r)
 
 abbrev pub card_of : Out Opened → CardAnswer

@@ -1,6 +1,6 @@
 // The card.
-ghost use Rattle.std.specs.Prelude.{◌≡◌};
-ghost use Rattle.demand.specs.Card.{card_with, card_call};
+ghost use Rattle.std.specs.Prelude.{◌≡◌, ℕ};
+ghost use Rattle.demand.specs.Card.{card_shown, refused_card, card_with, card_call};
 ghost use Rattle.demand.specs.Demand.{MeetsDemand3};
 ghost use Rattle.demand.specs.Accuracy.{HasAccurateLevels};
 
@@ -16,6 +16,25 @@ pub struct FileCard {
     pub kept: usize,
     pub skipped: usize,
     pub crop: Crop,
+}
+
+// What a refused file shows.
+pub fn no_card() -> FileCard
+    ensures { (n d : ℕ) → card_shown n d result ≡ refused_card n d }
+{
+    FileCard {
+        rows: 0,
+        columns: 0,
+        samples: 0,
+        kept: 0,
+        skipped: 0,
+        crop: Crop {
+            left: 0,
+            top: 0,
+            columns: 0,
+            rows: 0,
+        },
+    }
 }
 
 pub fn card(file: &[u8]) -> Result<FileCard, Refusal>

@@ -31,7 +31,8 @@ fn spot_in(file: &[u8], view: View, row: usize, column: usize, plane: usize) -> 
     let r = ActiveRow(row);
     let c = ActiveColumn(column);
     let x = sample::scaled_at(file, picture.order, raw, r, c, plane);
-    Ok(rows::list::list_at(file, view.size, values.place, values.count, r, c, plane, x))
+    let value = rows::list::list_at(file, view.size, values.place, values.count, r, c, plane, x);
+    Ok(value)
 }
 
 pub fn spot(file: &[u8], row: usize, column: usize, plane: usize) -> Result<f64, Refusal>

@@ -1,17 +1,21 @@
--- The detail of an answer has 32 bits.
+-- What is shown of an answer, and that its detail has 32 bits.
 -- Assumes nothing.
-use mathlib.Core.Path.{◌≡◌, ap}
+use mathlib.Core.Path.{◌≡◌, refl, ap}
 use mathlib.Core.List.{List}
-use Prim.Native.Nat.{◌<◌}
+use Prim.Native.Nat.{ℕ, ◌<◌}
 use native.Mathlib.Omega.{arith}
 use lib.Ieee.{Float}
 use Rattle.std.specs.Prelude.{Result, Ok, Err}
+use Rattle.std.specs.Result.{result_unwrap_or}
+use Rattle.directory.specs.Refusal.{number_of, detail_of}
 use Rattle.directory.specs.declared.refusal.Refusal.{Refusal}
 use Rattle.directory.proofs.Refusals.{Fits}
 use Rattle.develop.specs.Calls.{Window, window_with, SpotAnswer, spot_with}
-use Rattle.chain.specs.Chain.{Slices, Chained, chained_with}
+use Rattle.chain.specs.Chain.{Slices, Chained, refused_answer, answer_shown, answer_of, chained_with}
 use Rattle.chain.specs.declared.SpotChain.{SpotChain}
-use Rattle.dng.specs.Interface.{detail_in}
+use Rattle.demand.specs.Card.{refused_card, card_shown, card_with}
+use Rattle.demand.specs.declared.card.FileCard.{FileCard}
+use Rattle.dng.specs.Interface.{number_in, detail_in}
 
 pub window_small : (r : Result (Unit {0}) Refusal) (xs : List Float) (w : Window) → window_with r xs ≡ w → Fits w.number w.detail →
     detail_in r < 0x1_0000_0000
@@ -26,3 +30,13 @@ pub chain_small : (r : Result SpotChain Refusal) (s : Slices) (w : Chained) → 
     detail_in r < 0x1_0000_0000
 chain_small (Ok x) s w e h = omega arith
 chain_small (Err q) s w e h = omega (arith, ap (λ (k : Chained). k.answer.detail) e, h.1)
+
+pub card_told : (r : Result FileCard Refusal) (z : FileCard) → ((n d : ℕ) → card_shown n d z ≡ refused_card n d) →
+    card_shown (number_in r) (detail_in r) (result_unwrap_or r z) ≡ card_with r
+card_told (Ok c) z h = refl
+card_told (Err q) z h = h (number_of q) (detail_of q)
+
+pub chain_told : (r : Result SpotChain Refusal) (z : SpotChain) → ((n d : ℕ) → answer_shown n d z ≡ refused_answer n d) →
+    answer_shown (number_in r) (detail_in r) (result_unwrap_or r z) ≡ answer_of r
+chain_told (Ok c) z h = refl
+chain_told (Err q) z h = h (number_of q) (detail_of q)

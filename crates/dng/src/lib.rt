@@ -20,45 +20,41 @@ use half::half_window;
 pub extern "C" fn dng_card(file: &[u8], numbers: &mut [u64; 11])
     ensures { numbers.new ≡ numbers_of (card_call file.now) }
 {
-    *numbers = match card::card(file) {
-        Ok(card) => [
-            0,
-            0,
-            card.rows as u64,
-            card.columns as u64,
-            card.samples as u64,
-            card.kept as u64,
-            card.skipped as u64,
-            card.crop.left as u64,
-            card.crop.top as u64,
-            card.crop.columns as u64,
-            card.crop.rows as u64,
-        ],
-        Err(refusal) => [
-            refusal.number() as u64,
-            refusal.detail() as u64,
-            0,
-            0,
-            0,
-            0,
-            0,
-            0,
-            0,
-            0,
-            0,
-        ],
-    };
+    let answer = card::card(file);
+    let (number, detail) = told(answer);
+    let card = answer.unwrap_or(card::no_card());
+    *numbers = [
+        number as u64,
+        detail as u64,
+        card.rows as u64,
+        card.columns as u64,
+        card.samples as u64,
+        card.kept as u64,
+        card.skipped as u64,
+        card.crop.left as u64,
+        card.crop.top as u64,
+        card.crop.columns as u64,
+        card.crop.rows as u64,
+    ];
 }
 
-// An answer's number and detail in one: number * 2^32 + detail.
+// An answer's number and detail.
+fn told<T: Drop>(answer: Result<T, Refusal>) -> (usize, usize)
+    ensures { (result.0 ≡ number_in answer) × (result.0 < 16) × (result.1 ≡ detail_in answer) }
+{
+    match answer {
+        Ok(_) => (0, 0),
+        Err(refusal) => (refusal.number(), refusal.detail()),
+    }
+}
+
+// The two in one: number * 2^32 + detail.
 fn packed<T: Drop>(answer: Result<T, Refusal>) -> u64
     requires { detail_in answer < 0x1_0000_0000 }
     ensures { result ≡ packed_of (number_in answer) (detail_in answer) }
 {
-    match answer {
-        Ok(_) => 0,
-        Err(refusal) => (refusal.number() * 0x1_0000_0000 + refusal.detail()) as u64,
-    }
+    let (number, detail) = told(answer);
+    (number * 0x1_0000_0000 + detail) as u64
 }
 
 #[unsafe(no_mangle)]
@@ -181,15 +177,8 @@ pub extern "C" fn dng_chain(
     let answer = chain::chain(
         file, row, column, plane, places, ids, before, after, skipped,
     );
-    match answer {
-        Ok(chain) => {
-            *numbers = chain_numbers(chain);
-            *value = chain.value;
-        }
-        Err(_) => {
-            *numbers = [0; 10];
-            *value = 0.0;
-        }
-    }
+    let chain = answer.unwrap_or(chain::no_chain());
+    *numbers = chain_numbers(chain);
+    *value = chain.value;
     packed(answer)
 }

@@ -26,7 +26,6 @@ use opcodes::grid::Size;
 use raw::front::Picture;
 use rawtags::pattern;
 use rawtags::pattern::Pattern;
-use reading::number;
 use samples::along;
 
 // What a block's colour needs besides its four samples.
@@ -85,15 +84,13 @@ fn blocks_of(half: Half, pair: &[f64], count: usize, out: &mut [f64])
     ensures { out.new ≡ block_row (block_in half (pair_of pair.now (2 * count))) 0 count 0 }
 {
     let width = 2 * count;
-    let mut j = 0;
     let mut a = 0;
-    while j < count {
+    for j in 0..count {
         let v = block_at(half, pair, width, j);
         out[a] = v.x;
         out[a + 1] = v.y;
         out[a + 2] = v.z;
         a += 3;
-        j += 1;
     }
 }
 
@@ -165,9 +162,8 @@ fn block_columns(
     let count = part.count;
     let m = blocks.width * 3;
     let n = count * 3;
-    let mut i = 0;
     let mut a = from * 3;
-    while i < height {
+    for i in 0..height {
         let e = a + n;
         let row = Rectangle {
             top: top + i,
@@ -186,7 +182,6 @@ fn block_columns(
             &mut out[a..e],
         );
         a += m;
-        i += 1;
     }
 }
 
@@ -257,12 +252,10 @@ fn fill_blocks(file: &[u8], view: View, half: Half, blocks: Rectangle, out: &mut
     ensures { (q : Viewed file.now view) → out.new ≡ values_of (block_in half (alone_in file.now q.file)) blocks.top blocks.left blocks.height blocks.width 3 }
 {
     let width = blocks.width;
-    let mut from = 0;
-    while from < width {
-        let count = number::smaller(width - from, 512);
+    for from in (0..width).step_by(512) {
+        let count = (width - from).min(512);
         let part = Stretch { from, count };
         fill_stretch(file, view, half, blocks, part, out);
-        from += count;
     }
 }
 

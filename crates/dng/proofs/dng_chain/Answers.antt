@@ -1,48 +1,36 @@
-use mathlib.Core.Path.{ap, sym, ◌∙◌}
+use mathlib.Core.Path.{◌≡◌, ap, ◌∙◌}
 use native.Mathlib.Omega.{arith}
-use lib.Ieee.{of_bits}
-use Rattle.chain.specs.Chain.{Chained, slices, chained_with}
+use Rattle.chain.specs.Chain.{ChainAnswer, Chained, slices, answer_shown, chain_call}
 use Rattle.chain.proofs.ChainLaws.{chain_few}
 use Rattle.demand.proofs.Refusals.{chain_fits}
-use Rattle.dng.specs.Interface.{chain_numbers_of}
-use Rattle.dng.proofs.Answered.{chain_small}
+use Rattle.dng.specs.Interface.{chain_numbers_of, number_in, detail_in}
+use Rattle.dng.proofs.Answered.{chain_small, chain_told}
 use Rattle.dng.proofs.dng_chain.Goals as goal
-use Rattle.dng.proofs.dng_chain.Goals.{in-Ok, in-Err}
+use Rattle.dng.proofs.dng_chain.Goals.{After-unwrap_or-chain}
+
+-- what is shown is the call's
+shown : (c : After-unwrap_or-chain) → let a = c.args in
+    let r = c.chain-answer.result in
+    answer_shown (number_in r) (detail_in r) c.unwrap_or-chain.result
+    ≡ (chain_call a.file.now a.row a.column a.plane (slices a.places.now a.ids.now a.«before».now a.after.now a.skipped.now)).answer
+shown c =
+    rw c.unwrap_or-chain.ensures (chain_told c.chain-answer.result c.no_chain.result c.no_chain.ensures)
+    ∙ ap (λ (x : Chained). x.answer) c.chain-answer.ensures.skipped_after
 
 pub chain_numbers-requires : goal.chain_numbers-requires
 chain_numbers-requires c =
     let a = c.args in
-    let old = slices a.places.now a.ids.now a.«before».now a.after.now a.skipped.now in
-    let e = c.in-Ok.ensures.skipped_after in
-    let f = chain_few a.file.now a.row a.column a.plane old in
-    (omega (arith, ap (λ (x : Chained). x.answer.covering) e, f.0), omega (arith, ap (λ (x : Chained). x.answer.skipped) e, f.1))
+    let e = shown c in
+    let f = chain_few a.file.now a.row a.column a.plane (slices a.places.now a.ids.now a.«before».now a.after.now a.skipped.now) in
+    (omega (arith, ap (λ (x : ChainAnswer). x.covering) e, f.0), omega (arith, ap (λ (x : ChainAnswer). x.skipped) e, f.1))
 
 pub packed-requires : goal.packed-requires
 packed-requires c =
     let n = c.chain-answer.new in
-    let lent = slices n.places n.ids n.«before» n.after n.skipped in
-    let e = c.chain-answer.ensures.skipped_after in
-    let small = chain_small c.match-answer.answer lent _ in
-    elim c.match-answer.branch [
-    in-Ok w ↦ small (ap (λ x. chained_with x lent) (w.answer-is ∙ sym w.in-Ok.is) ∙ e) (chain_fits _ _ _ _ _) |
-    in-Err w ↦ small (ap (λ x. chained_with x lent) w.answer-is ∙ e) (chain_fits _ _ _ _ _)
-    ]
+    chain_small c.chain-answer.result (slices n.places n.ids n.«before» n.after n.skipped) _ c.chain-answer.ensures.skipped_after (chain_fits _ _ _ _ _)
 
 pub returns-clause-numbers_after : goal.returns-clause-numbers_after
-unfolding chain_numbers_of of_bits
+unfolding chain_numbers_of
 returns-clause-numbers_after c =
-    let n = c.chain-answer.new in
-    let lent = slices n.places n.ids n.«before» n.after n.skipped in
-    let e = c.chain-answer.ensures.skipped_after in
-    elim c.match-answer.branch [
-    in-Ok w ↦
-        let k = ap (λ x. chained_with x lent) (sym w.in-Ok.is) ∙ e in (
-          w.numbers-is ∙ w.chain_numbers.ensures ∙ ap (λ (x : Chained). chain_numbers_of x.answer) k,
-          w.value-is ∙ ap (λ (x : Chained). x.answer.value) k,
-        ) |
-    in-Err w ↦
-        let k = ap (λ x. chained_with x lent) (sym w.in-Err.is) ∙ e in (
-          w.numbers-is ∙ ap (λ (x : Chained). chain_numbers_of x.answer) k,
-          w.value-is ∙ ap (λ (x : Chained). x.answer.value) k,
-        )
-    ]
+    let e = shown (goal.at.returns-clause-numbers_after c).After-unwrap_or-chain in
+    (c.chain_numbers.ensures ∙ ap chain_numbers_of e, ap (λ (x : ChainAnswer). x.value) e)

@@ -1,5 +1,4 @@
 use mathlib.Core.Path.{sym, ◌∙◌}
-use Rattle.reading.proofs.Reading.{run_answer}
 use Rattle.directory.proofs.Outs.{bind_refused, bind_is}
 use Rattle.std.proofs.lemmas.Result.{err_from_is_err_and}
 use mathlib.Core.Path.{ap}

@@ -10,12 +10,12 @@ returns-then-not-within c =
     let a = c.args in
     spot_outside a.file.now a.view c.requires a.row a.column a.plane (sym c.if-not-within.ensures)
 
-pub list_at-requires-clause-list_read : goal.list_at-requires-clause-list_read
-list_at-requires-clause-list_read c =
+pub list_at-value-requires-clause-list_read : goal.list_at-value-requires-clause-list_read
+list_at-value-requires-clause-list_read c =
     (viewed_list c.args.file.now c.args.view c.requires, viewed_sized c.args.file.now c.args.view c.requires)
 
-pub list_at-requires-clause-x_value : goal.list_at-requires-clause-x_value
-list_at-requires-clause-x_value c =
+pub list_at-value-requires-clause-x_value : goal.list_at-value-requires-clause-x_value
+list_at-value-requires-clause-x_value c =
     let a = c.args in
     rw c.scaled_at-x.ensures (scaled_in_unit a.file.now a.view.picture.order a.view.picture.raw.tags a.row a.column a.plane)
 
@@ -23,5 +23,5 @@ pub returns : goal.returns
 returns c =
     let a = c.args in
     let os = c.requires.file.opcodes in
-    let e = c.list_at.ensures os (viewed_read a.file.now a.view c.requires) ∙ ap (alone os a.row a.column a.plane) c.scaled_at-x.ensures in
+    let e = c.list_at-value.ensures os (viewed_read a.file.now a.view c.requires) ∙ ap (alone os a.row a.column a.plane) c.scaled_at-x.ensures in
     spot_viewed a.file.now a.view c.requires a.row a.column a.plane (sym c.if-not-within.ensures) _ e

@@ -24,9 +24,10 @@ pub returns-in-Polynomial : goal.returns-in-Polynomial
 unfolding applied_of result_of clip_of lt horner_of
 returns-in-Polynomial c =
     let p = c.args.places in
+    let a = c.in-Polynomial in
     swept_is c.args.step _ c.args.file.now p.first p.end p.pitch c.args.out.now _ c.in-Polynomial.is
-    (c.sweep_often-in-Polynomial.ensures (λ n x. clip_of (horner_of (c.in-Polynomial.a0 ∷ c.in-Polynomial.a1 ∷ c.in-Polynomial.a2 ∷ c.in-Polynomial.a3 ∷ c.in-Polynomial.a4 ∷ c.in-Polynomial.a5
-    ∷ c.in-Polynomial.a6 ∷ c.in-Polynomial.a7 ∷ c.in-Polynomial.a8 ∷ []) x)) (λ n x y h. search rules))
+    (c.sweep_often-in-Polynomial.ensures (λ n x. clip_of (horner_of (a.a0 ∷ a.a1 ∷ a.a2 ∷ a.a3 ∷ a.a4 ∷ a.a5
+    ∷ a.a6 ∷ a.a7 ∷ a.a8 ∷ []) x)) (λ n x y h. search rules))
 
 pub returns-in-Table : goal.returns-in-Table
 unfolding applied_of result_of
