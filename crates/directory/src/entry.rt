@@ -9,26 +9,26 @@ use crate::Widths;
 use reading::number;
 use reading::number::Order;
 
-// The type of an entry's values.
+// The type of an entry's values, with its number.
 #[derive(Clone, Copy)]
 pub enum Kind {
-    Unknown,
-    Byte,
-    Ascii,
-    Short,
-    Long,
-    Rational,
-    SignedByte,
-    Undefined,
-    SignedShort,
-    SignedLong,
-    SignedRational,
-    Float,
-    Double,
-    Ifd,
-    Long8,
-    SignedLong8,
-    Ifd8,
+    Unknown = 0,
+    Byte = 1,
+    Ascii = 2,
+    Short = 3,
+    Long = 4,
+    Rational = 5,
+    SignedByte = 6,
+    Undefined = 7,
+    SignedShort = 8,
+    SignedLong = 9,
+    SignedRational = 10,
+    Float = 11,
+    Double = 12,
+    Ifd = 13,
+    Long8 = 16,
+    SignedLong8 = 17,
+    Ifd8 = 18,
 }
 
 // An entry's tag, type and count.
@@ -64,7 +64,7 @@ const KINDS: [Kind; 19] = [
 
 const SIZES: [u8; 19] = [0, 1, 1, 2, 4, 8, 1, 1, 2, 4, 8, 4, 8, 4, 0, 0, 8, 8, 8];
 
-// The type with a number, where the layout knows it.
+// The type with a number, where the layout knows it; no TryFrom, as it takes the layout's greatest type too.
 fn kind_of(types: usize, t: usize) -> Kind
     requires { types < 19 }
     ensures { result ≡ kind_of types t }
@@ -84,25 +84,7 @@ pub fn size_of(types: usize, t: usize) -> usize
 pub fn code(kind: Kind) -> usize
     ensures { (result ≡ code_of kind) × (result < 19) }
 {
-    match kind {
-        Kind::Unknown => 0,
-        Kind::Byte => 1,
-        Kind::Ascii => 2,
-        Kind::Short => 3,
-        Kind::Long => 4,
-        Kind::Rational => 5,
-        Kind::SignedByte => 6,
-        Kind::Undefined => 7,
-        Kind::SignedShort => 8,
-        Kind::SignedLong => 9,
-        Kind::SignedRational => 10,
-        Kind::Float => 11,
-        Kind::Double => 12,
-        Kind::Ifd => 13,
-        Kind::Long8 => 16,
-        Kind::SignedLong8 => 17,
-        Kind::Ifd8 => 18,
-    }
+    kind as usize
 }
 
 // The type that the rules speak of: LONG for LONG8, IFD for IFD8.

@@ -47,6 +47,7 @@ fn inspect(dir: Directory) -> Result<Option<Children>, Refusal>
     if tag::one(dir, subfile, 0, any)? == 0 {
         return Ok(None);
     }
+    // least and most differ, so no constructor says it shorter
     let rule = Rule {
         tag: names::SUB_IFDS,
         kinds: Kinds::LongOrIfd,

@@ -15,6 +15,7 @@ pub fn list_of(dir: Directory) -> Result<Values, Refusal>
 {
     tag::not_carried(dir, names::OPCODE_LIST_1)?;
     tag::not_carried(dir, names::OPCODE_LIST_3)?;
+    // least and most differ, so no constructor says it shorter
     let rule = Rule {
         tag: names::OPCODE_LIST_2,
         kinds: Kinds::Undefined,

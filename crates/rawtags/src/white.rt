@@ -23,6 +23,7 @@ pub fn white_of(dir: Directory, samples: usize) -> Result<Values, Refusal>
 pub fn table_of(dir: Directory) -> Result<Values, Refusal>
     ensures { (out result ≡ run dir.entry.file.now (table_reading dir.entry.ifd)) × ValuesIn (length dir.entry.file.now) table_rule result }
 {
+    // least and most differ, so no constructor says it shorter
     let rule = Rule {
         tag: names::LINEARIZATION_TABLE,
         kinds: Kinds::Short,

@@ -20,7 +20,8 @@ returns-then-short-tag c =
     let n = c.args.dir.ifd.count - c.loop.counter in
     let head = c.header.ensures.0 in
     let e = ap (λ (x : Entry). x.tag) head ∙ tag_is (goal.at.returns-then-short-tag c).After-short ∙ c.if-short-tag.true in
-    (find_here _ _ _ _ _ n (n - 1) (omega arith) _ head e ∙ sym c.loop.invariant.0, omega (arith, (one_further _ _ n (n - 1) _ (omega arith) c.loop.invariant.1).0))
+    let more = one_further _ _ n (n - 1) _ (omega arith) c.loop.invariant.1 in
+    (find_here _ _ _ _ _ n (n - 1) (omega arith) _ head e ∙ sym c.loop.invariant.0, omega (arith, more.0))
 
 pub loop-preserved : goal.loop-preserved
 loop-preserved c =

@@ -8,5 +8,6 @@ use Rattle.directory.proofs.tag.find.Given as goal
 
 abbrev pub invariant-loop : goal.invariant-loop
 invariant-loop l =
-    (run l.dir.file.now (find_from l.dir.ifd.widths l.dir.ifd.order l.dir.ifd.count l.dir.ifd.at l.tag) ≡ run l.dir.file.now (find_from l.dir.ifd.widths l.dir.ifd.order (l.dir.ifd.count - l.counter) l.p l.tag))
-    × (l.p + entry_width l.dir.ifd.widths * (l.dir.ifd.count - l.counter) ≤ length l.dir.file.now)
+    let d = l.dir.ifd in
+    (run l.dir.file.now (find_from d.widths d.order d.count d.at l.tag) ≡ run l.dir.file.now (find_from d.widths d.order (d.count - l.counter) l.p l.tag))
+    × (l.p + entry_width d.widths * (d.count - l.counter) ≤ length l.dir.file.now)

@@ -9,8 +9,9 @@ use Rattle.directory.proofs.tag.look_up.Goals as goal
 pub tested-requires-clause-placed : goal.tested-requires-clause-placed
 unfolding PlacedIn
 tested-requires-clause-placed c =
-    let a = c.args in
-    subst (PlacedIn a.dir.ifd.widths a.dir.file.now a.dir.ifd.order) (sym c.find.ensures.0 ∙ c.in-Some.is) (let s = accepted _ c.args.dir.tested.shape in found_placed _ _ _ _ _ _ _ s.0 s.1)
+    let d = c.args.dir in
+    let s = accepted _ d.tested.shape in
+    subst (PlacedIn d.ifd.widths d.file.now d.ifd.order) (sym c.find.ensures.0 ∙ c.in-Some.is) (found_placed _ _ _ _ _ _ _ s.0 s.1)
 
 pub returns-in-None : goal.returns-in-None
 returns-in-None c =

@@ -15,8 +15,12 @@ returns-in_err-given c =
 
 pub returns-then-n-gt17236224 : goal.returns-then-n-gt17236224
 returns-then-n-gt17236224 c =
-    version_above _ _ _ (rw c.required.ensures at c.in_ok-version.ensures.0) _ (rw c.optional.ensures at c.in_ok-given.ensures.0) _ c.backward-n.ensures c.if-n-gt17236224.true
+    let version = rw c.required.ensures at c.in_ok-version.ensures.0 in
+    let given = rw c.optional.ensures at c.in_ok-given.ensures.0 in
+    version_above _ _ _ version _ given _ c.backward-n.ensures c.if-n-gt17236224.true
 
 pub returns-else-n-gt17236224 : goal.returns-else-n-gt17236224
 returns-else-n-gt17236224 c =
-    version_is _ _ _ (rw c.required.ensures at c.in_ok-version.ensures.0) _ (rw c.optional.ensures at c.in_ok-given.ensures.0) _ c.backward-n.ensures c.if-n-gt17236224.false
+    let version = rw c.required.ensures at c.in_ok-version.ensures.0 in
+    let given = rw c.optional.ensures at c.in_ok-given.ensures.0 in
+    version_is _ _ _ version _ given _ c.backward-n.ensures c.if-n-gt17236224.false

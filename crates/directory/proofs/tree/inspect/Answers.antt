@@ -16,7 +16,8 @@ returns-then-branch-eq0 c =
 pub returns-in_err-children : goal.returns-in_err-children
 returns-in_err-children c =
     let p = err_from_is_err_and c.from_residual-in_err-children.result c.from_residual-in_err-children.ensures.1 in
-    rw (p.1, p.2) (children_refused _ _ _ (rw (c.optional-subfile.ensures, c.new-any.ensures) at c.in_ok-one.ensures.0) c.if-branch-eq0.false _ _ c.in_err-children.ensures.0, tt)
+    let kind = rw (c.optional-subfile.ensures, c.new-any.ensures) at c.in_ok-one.ensures.0 in
+    rw (p.1, p.2) (children_refused _ _ _ kind c.if-branch-eq0.false _ _ c.in_err-children.ensures.0, tt)
 
 pub returns : goal.returns
 returns c =
