@@ -7,12 +7,12 @@ ghost use Rattle.colour.specs.Facts.Value.{TripleIn};
 ghost use Rattle.colour.specs.Tags.{neutral_kind, colour_of, matrix_reading, neutral_reading, colour_reading};
 ghost use Rattle.colour.specs.Facts.Tags.{MatrixIn, ColourIn};
 
-use directory::refusal::Refusal;
 use crate::value::Triple;
 use crate::{Colour, value};
 use directory::entry::Kind;
+use directory::refusal::Refusal;
 use directory::tag::{Kinds, Rule};
-use directory::{Ifd, entry, names, tag};
+use directory::{Ifd, names, tag};
 use reading::fraction::FractionKind;
 
 #[derive(Clone, Copy)]
@@ -49,11 +49,9 @@ fn matrix_of(file: &[u8], ifd: Ifd) -> Result<Matrix, Refusal>
 fn neutral_kind(kind: Kind) -> FractionKind
     ensures { result ≡ neutral_kind kind }
 {
-    let t = entry::code(kind);
-    if t == 3 {
-        FractionKind::Short
-    } else {
-        FractionKind::Rational
+    match kind {
+        Kind::Short => FractionKind::Short,
+        _ => FractionKind::Rational,
     }
 }
 
@@ -70,12 +68,10 @@ fn neutral_of(file: &[u8], ifd: Ifd) -> Result<Triple, Refusal>
         most: 3,
     };
     let v = tag::look_up(file, ifd, rule)?;
-    let size = v.size;
-    let place = v.place;
     let order = ifd.order;
-    let values_kind = v.kind;
-    let kind = neutral_kind(values_kind);
-    value::triple_at(file, order, kind, size, names::AS_SHOT_NEUTRAL, true, place)
+    let kind = neutral_kind(v.kind);
+    let tag = names::AS_SHOT_NEUTRAL;
+    value::triple_at(file, order, kind, v.size, tag, true, v.place)
 }
 
 fn colour_from(m: Matrix, n: Triple) -> Colour

@@ -31,7 +31,7 @@ use Rattle.directory.specs.declared.Ifd.{Ifd}
 use Rattle.directory.specs.declared.Widths.{Widths}
 use Rattle.directory.specs.declared.entry.Entry.{Entry}
 use Rattle.directory.specs.declared.tag.Found.{Found}
-use Rattle.directory.specs.declared.tag.Found.TheVariants as found
+use Rattle.std.specs.Prelude.{Option, Some, None}
 use Rattle.directory.specs.declared.tag.Range.{Range}
 use Rattle.directory.specs.declared.tag.Rule.{Rule}
 use Rattle.directory.specs.declared.tag.Values.{Values}
@@ -222,9 +222,9 @@ module _ (f : List ℕ) (r : Rule) (v : Values) where
       o : Order
       o = d.order
 
-      go : (x : Found) → x ≡ run f (found_reading d r.tag) → FoundIn w (length f) x → PlacedIn w f o x → PlacedValues (length f) r v
-      go found.Absent q i h = absent_placed (e ∙ values_found_law f d r found.Absent q ∙ run_answer f _)
-      go (found.At p x) q i h = tested_placed w o p x i h (e ∙ values_found_law f d r (found.At p x) q)
+      go : (x : Option Found) → x ≡ run f (found_reading d r.tag) → FoundIn w (length f) x → PlacedIn w f o x → PlacedValues (length f) r v
+      go None q i h = absent_placed (e ∙ values_found_law f d r None q ∙ run_answer f _)
+      go (Some x) q i h = tested_placed w o x.place x.entry i h (e ∙ values_found_law f d r (Some x) q)
 
 -- ---- a number is in its range
 pub fault_in : (r : Range) (v : ℕ) → range_fault r v ≡ 0 → InRange r v

@@ -119,6 +119,12 @@ one_more p size n len s l =
     let y : size * n ≡ size * (n - 1 + 1) = ap (λ (m : ℕ). size * m) e in
     (omega arith, omega arith)
 
+-- the same with a name for how many are left
+pub one_further : (p size n m len : ℕ) → n ≡ m + 1 → p + size * n ≤ len → (p + size ≤ len) × (p + size + size * m ≤ len)
+one_further p size n m len e l =
+    let y : size * n ≡ size * (m + 1) = ap (λ (k : ℕ). size * k) e in
+    (omega arith, omega arith)
+
 -- ---- the fields of an entry, in the file
 module _ (w : Widths) (f : List ℕ) (o : Order) (at : ℕ) where
   field : (i n : ℕ) → i + n ≤ head_width w → number_of o (part (part f at (head_width w)) i n) ≡ number_of o (part f (at + i) n)

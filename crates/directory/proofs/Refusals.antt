@@ -20,7 +20,7 @@ use Rattle.directory.specs.declared.Ifd.{Ifd}
 use Rattle.directory.specs.declared.Widths.{Widths}
 use Rattle.directory.specs.declared.entry.Entry.{Entry}
 use Rattle.directory.specs.declared.tag.Found.{Found}
-use Rattle.directory.specs.declared.tag.Found.TheVariants as found
+use Rattle.std.specs.Prelude.{Option, Some, None}
 use Rattle.directory.specs.declared.tag.Rule.{Rule}
 use Rattle.directory.specs.declared.tag.Range.{Range}
 use Rattle.directory.specs.declared.tag.Values.{Values}
@@ -108,18 +108,18 @@ unfolding value_reading
 value_small w o p e = search (smalls, whole_small)
 
 module _ (r : Rule) (small : SmallDetail r.tag) where
-  found_small : (w : Widths) (o : Order) (v : Found) → SmallRefusals (values_found w o r v)
+  found_small : (w : Widths) (o : Order) (v : Option Found) → SmallRefusals (values_found w o r v)
   unfolding tested_reading absent_of
-  found_small w o found.Absent = search smalls
-  found_small w o (found.At p e) = search (smalls, value_small) depth 10
+  found_small w o None = search smalls
+  found_small w o (Some x) = search (smalls, value_small) depth 10
 
   pub values_small : (d : Ifd) → SmallRefusals (values_reading d r)
   unfolding values_reading
   values_small d = small_then _ _ (found_small d.widths d.order)
 
-absent_small : (tag : ℕ) → SmallDetail tag → (v : Found) → SmallRefusals (if_absent tag v)
-absent_small tag small found.Absent = search smalls
-absent_small tag small (found.At p e) = search smalls
+absent_small : (tag : ℕ) → SmallDetail tag → (v : Option Found) → SmallRefusals (if_absent tag v)
+absent_small tag small None = search smalls
+absent_small tag small (Some x) = search smalls
 
 pub not_carried_small : (d : Ifd) (tag : ℕ) → SmallDetail tag → SmallRefusals (not_carried d tag)
 unfolding not_carried

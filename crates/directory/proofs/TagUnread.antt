@@ -20,7 +20,7 @@ use Rattle.reading.proofs.Unread.{off_right, unread_answer, unread_ask, unread_n
 use Rattle.directory.specs.Out.{Out.refused, Out.is}
 use Rattle.directory.specs.Widths.{head_width, entry_width}
 use Rattle.directory.specs.Entry.{code_of, plain_of, kind_width, bytes_of}
-use Rattle.directory.specs.Tag.{find_from, found_reading, allows_of, values_at, no_values, whole_reading, value_reading, tested_reading}
+use Rattle.directory.specs.Tag.{found_at, find_from, found_reading, allows_of, values_at, no_values, whole_reading, value_reading, tested_reading}
 use Rattle.directory.specs.Tag.{absent_of, values_found, values_reading, not_carried, if_absent, judged_of, first_reading, one_reading}
 use Rattle.directory.specs.Tag.{each_reading, all_reading}
 use Rattle.directory.specs.Facts.Tag.{SizeIn}
@@ -29,7 +29,7 @@ use Rattle.directory.specs.declared.Widths.{Widths}
 use Rattle.directory.specs.declared.entry.Kind.{Kind}
 use Rattle.directory.specs.declared.entry.Entry.{Entry}
 use Rattle.directory.specs.declared.tag.Found.{Found}
-use Rattle.directory.specs.declared.tag.Found.TheVariants as found
+use Rattle.std.specs.Prelude.{Option, Some, None}
 use Rattle.directory.specs.declared.tag.Kinds.TheVariants as kinds
 use Rattle.directory.specs.declared.tag.Rule.{Rule}
 use Rattle.directory.specs.declared.tag.Range.{Range}
@@ -50,16 +50,16 @@ abbrev pub heads_of : Ifd → List Stretch
 heads_of d = heads_from d.widths d.count d.at
 
 -- the offset of an entry's value, where it does not stand in the entry
-abbrev pub offset_asked : Widths → Found → List Stretch
-offset_asked w found.Absent = []
-offset_asked w (found.At p e) = pick (leb (bytes_of e) w.word) [] (stretch p w.word ∷ [])
+abbrev pub offset_asked : Widths → Option Found → List Stretch
+offset_asked w None = []
+offset_asked w (Some x) = pick (leb (bytes_of x.entry) w.word) [] (stretch x.place w.word ∷ [])
 
 -- the value: in the entry, or where the offset says
-abbrev pub value_asked : Widths → List ℕ → Order → Found → List Stretch
-value_asked w f o found.Absent = []
-value_asked w f o (found.At p e) =
-    pick (leb (bytes_of e) w.word) (stretch p (bytes_of e) ∷ [])
-    (stretch p w.word ∷ stretch (number_of o (part f p w.word)) (bytes_of e) ∷ [])
+abbrev pub value_asked : Widths → List ℕ → Order → Option Found → List Stretch
+value_asked w f o None = []
+value_asked w f o (Some x) =
+    pick (leb (bytes_of x.entry) w.word) (stretch x.place (bytes_of x.entry) ∷ [])
+    (stretch x.place w.word ∷ stretch (number_of o (part f x.place w.word)) (bytes_of x.entry) ∷ [])
 
 -- of a tag of a directory; nothing of an absent one
 abbrev pub offset_in : List ℕ → Ifd → ℕ → List Stretch
@@ -122,14 +122,14 @@ undefined_code k e =
 module _ (w : Widths) (f : List ℕ) (o : Order) (j : ℕ) where
   find_unread : (tag n at : ℕ) → reads (heads_from w n at) j ≡ false → Unread f j (find_from w o n at tag)
   unfolding find_from heads_from
-  find_unread tag zero at h = unread_answer f j found.Absent
+  find_unread tag zero at h = unread_answer f j None
   find_unread tag (suc n) at h =
       let rest = heads_from w n (at + entry_width w) in
       let later : reads rest j ≡ false = off_rest j (stretch at (head_width w)) rest h in
       unread_ask f j at (head_width w) _ (off_first j (stretch at (head_width w)) rest h)
-      (unread_pick f j (eqb (head_at w f o at).tag tag) (answer (found.At (at + head_width w) (head_at w f o at)))
+      (unread_pick f j (eqb (head_at w f o at).tag tag) (answer (Some (found_at (at + head_width w) (head_at w f o at))))
       (find_from w o n (at + entry_width w) tag)
-      (λ _. unread_answer f j (found.At (at + head_width w) (head_at w f o at))) (λ _. find_unread tag n (at + entry_width w) later))
+      (λ _. unread_answer f j (Some (found_at (at + head_width w) (head_at w f o at)))) (λ _. find_unread tag n (at + entry_width w) later))
 
   whole_unread : (p : ℕ) (e : Entry) → Off j p (bytes_of e) → Unread f j (whole_reading p e)
   unfolding whole_reading
@@ -137,7 +137,7 @@ module _ (w : Widths) (f : List ℕ) (o : Order) (j : ℕ) where
       unread_pick f j (eqb (code_of e.kind) 7) (answer (is (values_at p e))) _ (λ _. unread_answer f j (is (values_at p e)))
       (λ _. unread_ask f j p (bytes_of e) _ h (unread_answer f j (is (values_at p e))))
 
-  value_unread : (p : ℕ) (e : Entry) → reads (value_asked w f o (found.At p e)) j ≡ false → Unread f j (value_reading w o p e)
+  value_unread : (p : ℕ) (e : Entry) → reads (value_asked w f o (Some (found_at p e))) j ≡ false → Unread f j (value_reading w o p e)
   unfolding value_reading pick
   value_unread p e h = go (leb (bytes_of e) w.word) h
     where
@@ -156,7 +156,7 @@ module _ (w : Widths) (f : List ℕ) (o : Order) (j : ℕ) where
           (subst (λ (q : ℕ). Unread f j (whole_reading q e)) (sym (run_number f o p w.word)) here)
 
   list_value_unread :
-      (p : ℕ) (e : Entry) → code_of e.kind ≡ 7 → reads (offset_asked w (found.At p e)) j ≡ false → Unread f j (value_reading w o p e)
+      (p : ℕ) (e : Entry) → code_of e.kind ≡ 7 → reads (offset_asked w (Some (found_at p e))) j ≡ false → Unread f j (value_reading w o p e)
   unfolding value_reading pick
   list_value_unread p e k h = go (leb (bytes_of e) w.word) h
     where
@@ -183,15 +183,16 @@ module _ (w : Widths) (f : List ℕ) (o : Order) (j : ℕ) where
       (λ _. unread_answer f j (refused 4 r.tag)))
       (λ _. unread_answer f j (refused 4 r.tag))
 
-  found_unread : (r : Rule) (x : Found) → reads (value_asked w f o x) j ≡ false → Unread f j (values_found w o r x)
-  found_unread r found.Absent h = unread_answer f j (absent_of r)
-  found_unread r (found.At p e) h = tested_unread r p e (λ _. value_unread p e h)
+  found_unread : (r : Rule) (x : Option Found) → reads (value_asked w f o x) j ≡ false → Unread f j (values_found w o r x)
+  found_unread r None h = unread_answer f j (absent_of r)
+  found_unread r (Some x) h = tested_unread r x.place x.entry (λ _. value_unread x.place x.entry h)
 
   list_found_unread :
-      (r : Rule) (x : Found) → r.kinds ≡ kinds.Undefined → reads (offset_asked w x) j ≡ false → Unread f j (values_found w o r x)
-  list_found_unread r found.Absent k h = unread_answer f j (absent_of r)
-  list_found_unread r (found.At p e) k h =
-      tested_unread r p e (λ a. list_value_unread p e (undefined_code e.kind (subst (λ ks. allows_of ks e.kind ≡ true) k a)) h)
+      (r : Rule) (x : Option Found) → r.kinds ≡ kinds.Undefined → reads (offset_asked w x) j ≡ false → Unread f j (values_found w o r x)
+  list_found_unread r None k h = unread_answer f j (absent_of r)
+  list_found_unread r (Some x) k h =
+      tested_unread r x.place x.entry
+      (λ a. list_value_unread x.place x.entry (undefined_code x.entry.kind (subst (λ ks. allows_of ks x.entry.kind ≡ true) k a)) h)
 
 module _ (f : List ℕ) (d : Ifd) (j : ℕ) (heads : reads (heads_of d) j ≡ false) where
   -- a byte that lies neither in a tag, type or count of the entries nor in the tag's own value is not read for the tag
@@ -217,9 +218,9 @@ module _ (f : List ℕ) (d : Ifd) (j : ℕ) (heads : reads (heads_of d) j ≡ fa
       unread_then f j (found_reading d tag) (if_absent tag) (find_unread d.widths f d.order j tag d.count d.at heads)
       (go (run f (found_reading d tag)))
     where
-      go : (x : Found) → Unread f j (if_absent tag x)
-      go found.Absent = unread_answer f j (is 0)
-      go (found.At p e) = unread_answer f j (refused 8 tag)
+      go : (x : Option Found) → Unread f j (if_absent tag x)
+      go None = unread_answer f j (is 0)
+      go (Some x) = unread_answer f j (refused 8 tag)
 
 -- ---- the values of an accepted tag
 
@@ -251,7 +252,7 @@ module _ (f : List ℕ) (j : ℕ) (r : Rule) (v : Values) where
           })
 
   module _ (w : Widths) (o : Order) (p : ℕ) (e : Entry) (t : is v ≡ run f (tested_reading w o r p e)) where
-    tested_off : reads (value_asked w f o (found.At p e)) j ≡ false → ValuesOff j r v
+    tested_off : reads (value_asked w f o (Some (found_at p e))) j ≡ false → ValuesOff j r v
     unfolding pick
     tested_off h =
         go (allows_of r.kinds e.kind) refl (leb r.least e.count) refl (leb e.count r.most) refl
@@ -297,10 +298,10 @@ pub values_off :
 values_off f d j r v e h = go (run f (found_reading d r.tag)) (e ∙ values_found_law f d r _ refl) h
   where
     go :
-        (x : Found) → is v ≡ run f (values_found d.widths d.order r x) → reads (value_asked d.widths f d.order x) j ≡ false →
+        (x : Option Found) → is v ≡ run f (values_found d.widths d.order r x) → reads (value_asked d.widths f d.order x) j ≡ false →
         ValuesOff j r v
-    go found.Absent t g = absent_off f j r v t
-    go (found.At p e) t g = tested_off f j r v d.widths d.order p e t g
+    go None t g = absent_off f j r v t
+    go (Some x) t g = tested_off f j r v d.widths d.order x.place x.entry t g
 
 -- the i-th of so many values
 pub item_off : (j p s n i : ℕ) → Off j p (s * n) → i < n → Off j (p + s * i) s

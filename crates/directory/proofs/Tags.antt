@@ -22,36 +22,33 @@ use Rattle.directory.specs.Out.{Out, Out.refused, Out.is}
 use Rattle.directory.specs.Widths.{head_width, entry_width}
 use Rattle.directory.specs.Entry.{code_of, plain_of, sizes, kind_width, bytes_of, entry_of}
 use Rattle.directory.specs.Shape.{entry_reading, shape_from}
-use Rattle.directory.specs.Tag.{find_from, found_reading, allows_of, values_at, no_values, whole_reading, value_reading, tested_reading}
+use Rattle.directory.specs.Tag.{found_at, find_from, found_reading, allows_of, values_at, no_values, whole_reading, value_reading, tested_reading}
 use Rattle.directory.specs.Tag.{values_found, values_reading, required, optional, range_fault, judged_of, first_reading, each_reading}
 use Rattle.directory.specs.Facts.Tag.{ValuesIn, Placed, Long, SizeIn, Numeric, PlacedValues, InRange, NumberIn}
 use Rattle.directory.specs.declared.Ifd.{Ifd}
 use Rattle.directory.specs.declared.Widths.{Widths}
-use Rattle.directory.specs.declared.Number.{Number}
-use Rattle.directory.specs.declared.Number.TheVariants as number
 use Rattle.directory.specs.declared.entry.Kind.{Kind}
 use Rattle.directory.specs.declared.entry.Entry.{Entry}
 use Rattle.directory.specs.declared.tag.Found.{Found}
-use Rattle.directory.specs.declared.tag.Found.TheVariants as found
+use Rattle.std.specs.Prelude.{Option, Some, None, Result, Ok, Err}
+use Rattle.directory.specs.declared.refusal.Refusal.{Refusal}
 use Rattle.directory.specs.declared.tag.Kinds.{Kinds}
 use Rattle.directory.specs.declared.tag.Kinds.TheVariants as kinds
 use Rattle.directory.specs.declared.tag.Rule.{Rule}
 use Rattle.directory.specs.declared.tag.Range.{Range}
 use Rattle.directory.specs.declared.tag.Values.{Values}
-use Rattle.directory.specs.declared.tag.ValuesTest.{ValuesTest}
-use Rattle.directory.specs.declared.tag.ValuesTest.TheVariants as given
 use Rattle.directory.proofs.Entries.{plain_is}
 use Rattle.directory.proofs.Outs.{bind_refused, bind_is, not_refused}
 use Rattle.directory.proofs.Shapes.{entry_outside, shape_refused, shape_order, shape_next}
 
 -- ---- finding a tag
 module _ (w : Widths) (f : List ℕ) (o : Order) (at tag : ℕ) where
-  pub find_none : found.Absent ≡ run f (find_from w o 0 at tag)
+  pub find_none : None ≡ run f (find_from w o 0 at tag)
   unfolding find_from
   find_none = simp running
 
   module _ (n m : ℕ) (h : n ≡ m + 1) (e : Entry) (head : e ≡ entry_of w o (part f at (head_width w))) where
-    pub find_here : e.tag ≡ tag → found.At (at + head_width w) e ≡ run f (find_from w o n at tag)
+    pub find_here : e.tag ≡ tag → Some (found_at (at + head_width w) e) ≡ run f (find_from w o n at tag)
     unfolding find_from
     find_here t = rw (h, add-one m, run_ask, ← head, eq-eqb _ _ t, pick_yes, run_answer)
 
@@ -60,9 +57,9 @@ module _ (w : Widths) (f : List ℕ) (o : Order) (at tag : ℕ) where
     find_later t = rw (h, add-one m, run_ask, ← head, ne_eqb _ _ t, pick_no)
 
 -- what is found in a directory whose shape was tested has its value in the file
-unfoldable pub PlacedIn : Widths → List ℕ → Order → Found → Type 0
-PlacedIn w f o found.Absent = Unit {0}
-PlacedIn w f o (found.At p e) = Placed w f o p e
+unfoldable pub PlacedIn : Widths → List ℕ → Order → Option Found → Type 0
+PlacedIn w f o None = Unit {0}
+PlacedIn w f o (Some x) = Placed w f o x.place x.entry
 
 module _ (w : Widths) (f : List ℕ) (o : Order) where
   entry_placed : (at t : ℕ) → is t ≡ run f (entry_reading w (length f) o at) →
@@ -255,13 +252,13 @@ module _ (w : Widths) (f : List ℕ) (o : Order) (r : Rule) (p : ℕ) (e : Entry
         unfolding Placed
         inside_file b h v q = values_in (length f) v (rw q (h b))
 
-pub values_found_law : (f : List ℕ) (d : Ifd) (r : Rule) (fd : Found) → fd ≡ run f (found_reading d r.tag) →
+pub values_found_law : (f : List ℕ) (d : Ifd) (r : Rule) (fd : Option Found) → fd ≡ run f (found_reading d r.tag) →
     run f (values_reading d r) ≡ run f (values_found d.widths d.order r fd)
 unfolding values_reading
 values_found_law f d r fd e = run_then _ _ _ fd e
 
 -- a tag that was looked up: its values, and what holds of them
-pub looked_up : (f : List ℕ) (d : Ifd) (r : Rule) {g : ValuesTest} {v : Values} → g ≡ given.Is v →
+pub looked_up : (f : List ℕ) (d : Ifd) (r : Rule) {g : Result Values Refusal} {v : Values} → g ≡ Ok v →
     (out g ≡ run f (values_reading d r)) × ValuesIn (length f) r g → (is v ≡ run f (values_reading d r)) × PlacedValues (length f) r v
 looked_up f d r e q = (ap out (sym e) ∙ q.0, subst (ValuesIn (length f) r) e q.1)
 
@@ -336,9 +333,9 @@ module _ (f : List ℕ) (o : Order) (tag default : ℕ) (r : Range) (v : Values)
   unfolding first_reading
   first_is c n q = simp (ne_eqb _ _ c, running, ← q)
 
-pub widen : (a b : Range) → ((v : ℕ) → InRange a v → InRange b v) → (n : Number) → NumberIn a n → NumberIn b n
-widen a b h (number.Refused n d) i = tt
-widen a b h (number.Is v) i = h v i
+pub widen : (a b : Range) → ((v : ℕ) → InRange a v → InRange b v) → (n : Result ℕ Refusal) → NumberIn a n → NumberIn b n
+widen a b h (Err e) i = tt
+widen a b h (Ok v) i = h v i
 
 -- a tag that is there has as many values as its rule says
 pub counted : {size : ℕ} (tag : ℕ) (ks : Kinds) (n : ℕ) {v : Values} → PlacedValues size (optional tag ks n) v → (v.count ≡ 0 → ⊥) →

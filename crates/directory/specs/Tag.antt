@@ -20,12 +20,15 @@ use Rattle.directory.specs.declared.tag.Values.{Values}
 
 -- ---- finding a tag
 
+abbrev pub found_at : ℕ → Entry → Found
+found_at p e = record { place = p; entry = e }
+
 -- the first of so many entries with a tag, and the place of its value or offset; its bytes before that are read
 unfoldable pub find_from : Widths → Order → ℕ → ℕ → ℕ → Reading (Option Found)
 find_from w o zero at tag = answer None
 find_from w o (suc n) at tag =
     ask at (head_width w) (λ bs.
-    pick (eqb (entry_of w o bs).tag tag) (answer (Some (record { place = at + head_width w; entry = entry_of w o bs }))) (find_from w o n (at + entry_width w) tag))
+    pick (eqb (entry_of w o bs).tag tag) (answer (Some (found_at (at + head_width w) (entry_of w o bs)))) (find_from w o n (at + entry_width w) tag))
 
 abbrev pub found_reading : Ifd → ℕ → Reading (Option Found)
 found_reading d tag = find_from d.widths d.order d.count d.at tag

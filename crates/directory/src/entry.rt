@@ -105,23 +105,23 @@ pub fn code(kind: Kind) -> usize
     }
 }
 
-// The number of the type that the rules speak of: LONG for LONG8, IFD for IFD8.
-pub fn plain(kind: Kind) -> usize
-    ensures { result ≡ plain_of kind }
+// The type that the rules speak of: LONG for LONG8, IFD for IFD8.
+#[tactic(auto, unfolding(crate::specs::Entry::plain_of, reading::specs::Reading::pick))]
+pub fn plain(kind: Kind) -> Kind
+    ensures { code_of result ≡ plain_of kind }
 {
-    let t = code(kind);
-    if t == 16 {
-        return 4;
+    match kind {
+        Kind::Long8 => Kind::Long,
+        Kind::Ifd8 => Kind::Ifd,
+        _ => kind,
     }
-    if t == 18 { 13 } else { t }
 }
 
 // The bytes of one value; 0 where the type is unknown.
 pub fn size(kind: Kind) -> usize
     ensures { (result ≡ kind_width kind) × (result ≤ 8) }
 {
-    let t = code(kind);
-    SIZES[t] as usize
+    SIZES[code(kind)] as usize
 }
 
 // Whether so many values or entries of a size fit. More than any file has bytes count as one more than that.
@@ -129,7 +129,7 @@ pub fn fits(size: usize, count: usize, room: usize) -> bool
     requires { (size ≤ 20) × (room ≤ 67108864) }
     ensures { result ≡ leb (size * count) room }
 {
-    size * number::smaller(count, 67108865) <= room
+    size * count.min(67108865) <= room
 }
 
 // Whether so many of a size lie in a file of a length, from a place on.
@@ -137,11 +137,7 @@ pub fn many_inside(place: usize, size: usize, count: usize, len: usize) -> bool
     requires { (size ≤ 20) × (len ≤ 67108864) }
     ensures { result ≡ leb (place + size * count) len }
 {
-    if place <= len {
-        fits(size, count, len - place)
-    } else {
-        false
-    }
+    place <= len && fits(size, count, len - place)
 }
 
 // The entry at a place: its bytes before its value.

@@ -37,7 +37,13 @@ fn placed_tag(file: &[u8], order: Order, widths: Widths, at: usize) -> Result<us
 }
 
 // So many entries from a place on: their values lie in the file, and their tags ascend strictly.
-fn check_entries(file: &[u8], order: Order, widths: Widths, count: usize, at: usize) -> Result<usize, Refusal>
+fn check_entries(
+    file: &[u8],
+    order: Order,
+    widths: Widths,
+    count: usize,
+    at: usize,
+) -> Result<usize, Refusal>
     requires { (at + entry_width widths * count ≤ length file.now) × (length file.now ≤ 67108864) × WidthsIn widths }
     ensures { out result ≡ run file.now (shape_from widths (length file.now) order count at 0) }
 {
@@ -62,21 +68,23 @@ pub fn ifd_at(file: &[u8], order: Order, widths: Widths, at: usize) -> Result<If
     ensures { (out result ≡ run file.now (ifd_reading widths (length file.now) order at)) × IfdIn file.now result }
 {
     let entries = widths.entries;
-    let word = widths.word;
-    if number::inside(at, entries, file.len()) {
-        let count = number::value(file, order, entries, at);
-        let first = at + entries;
-        if 0 < count {
-            if entry::many_inside(first + word, 4 + word + word, count, file.len()) {
-                check_entries(file, order, widths, count, first)?;
-                return Ok(Ifd {
-                    order,
-                    widths,
-                    count,
-                    at: first,
-                });
-            }
-        }
+    if !number::inside(at, entries, file.len()) {
+        return Err(Refusal::Shape);
     }
-    Err(Refusal::Shape)
+    let word = widths.word;
+    let count = number::value(file, order, entries, at);
+    let first = at + entries;
+    if count == 0 {
+        return Err(Refusal::Shape);
+    }
+    if !entry::many_inside(first + word, 4 + word + word, count, file.len()) {
+        return Err(Refusal::Shape);
+    }
+    check_entries(file, order, widths, count, first)?;
+    Ok(Ifd {
+        order,
+        widths,
+        count,
+        at: first,
+    })
 }

@@ -6,13 +6,14 @@ ghost use Rattle.directory.specs.Facts.Out.{out, passed};
 ghost use Rattle.directory.specs.Widths.{entry_width};
 ghost use Rattle.directory.specs.Facts.Widths.{WidthsIn};
 ghost use Rattle.directory.specs.Facts.Shape.{Tested};
-ghost use Rattle.directory.specs.Tag.{find_from, allows_of, absent_of, tested_reading, values_reading, not_carried};
+ghost use Rattle.directory.specs.Tag.{found_reading, allows_of, absent_of, tested_reading, values_reading, not_carried};
 ghost use Rattle.directory.specs.Facts.Tag.{FoundIn, Placed, ValuesIn, NumberIn, Numeric};
 ghost use Rattle.directory.specs.Tag.{each_reading, one_reading, judged_of, all_reading};
+ghost use Rattle.directory.specs.Tag.{required, optional, range};
 
 use crate::entry::{Entry, Kind};
 use crate::refusal::Refusal;
-use crate::{Ifd, Widths, entry};
+use crate::{Ifd, entry};
 use reading::number;
 use reading::number::Order;
 
@@ -47,6 +48,34 @@ pub struct Rule {
     pub most: usize,
 }
 
+impl Rule {
+    // Exactly n values, which must be there.
+    pub fn required(tag: usize, kinds: Kinds, n: usize) -> Rule
+        ensures { result ≡ required tag kinds n }
+    {
+        Rule {
+            tag,
+            kinds,
+            required: true,
+            least: n,
+            most: n,
+        }
+    }
+
+    // Exactly n values, or none.
+    pub fn optional(tag: usize, kinds: Kinds, n: usize) -> Rule
+        ensures { result ≡ optional tag kinds n }
+    {
+        Rule {
+            tag,
+            kinds,
+            required: false,
+            least: n,
+            most: n,
+        }
+    }
+}
+
 // Where the values of a tag stand, their type, the bytes of one, and how many there are; none where the tag is absent.
 #[derive(Clone, Copy)]
 pub struct Values {
@@ -64,20 +93,28 @@ pub struct Range {
     pub to: usize,
 }
 
-// The first of so many entries with a tag: of the others only the tag is read.
-fn find(file: &[u8], order: Order, widths: Widths, count: usize, at: usize, tag: usize) -> Option<Found>
-    requires { (at + entry_width widths * count ≤ length file.now) × WidthsIn widths }
-    ensures { (result ≡ run file.now (find_from widths order count at tag)) × FoundIn widths (length file.now) result }
+impl Range {
+    pub fn new(legal: usize, from: usize, to: usize) -> Range
+        ensures { result ≡ range legal from to }
+    {
+        Range { legal, from, to }
+    }
+}
+
+// The first entry with a tag: of the others only the tag is read.
+fn find(file: &[u8], ifd: Ifd, tag: usize) -> Option<Found>
+    requires { Tested file.now ifd }
+    ensures { (result ≡ run file.now (found_reading ifd tag)) × FoundIn ifd.widths (length file.now) result }
 {
-    let word = widths.word;
+    let word = ifd.widths.word;
     let head = 4 + word;
     let step = head + word;
-    let mut p = at;
-    for _ in 0..count {
-        if number::short(file, order, p) as usize == tag {
+    let mut p = ifd.at;
+    for _ in 0..ifd.count {
+        if number::short(file, ifd.order, p) as usize == tag {
             return Some(Found {
                 place: p + head,
-                entry: entry::header(file, order, widths, p),
+                entry: entry::header(file, ifd.order, ifd.widths, p),
             });
         }
         p += step;
@@ -88,20 +125,21 @@ fn find(file: &[u8], order: Order, widths: Widths, count: usize, at: usize, tag:
 fn allows(kinds: Kinds, kind: Kind) -> bool
     ensures { result ≡ allows_of kinds kind }
 {
-    let t = entry::plain(kind);
+    let kind = entry::plain(kind);
     match kinds {
-        Kinds::Byte => t == 1,
-        Kinds::Short => t == 3,
-        Kinds::Long => t == 4,
-        Kinds::ShortOrLong => t == 3 || t == 4,
-        Kinds::LongOrIfd => t == 4 || t == 13,
-        Kinds::ShortOrRational => t == 3 || t == 5,
-        Kinds::ShortLongOrRational => if t == 3 { true } else { t == 4 || t == 5 },
-        Kinds::SignedRational => t == 10,
-        Kinds::Undefined => t == 7,
+        Kinds::Byte => matches!(kind, Kind::Byte),
+        Kinds::Short => matches!(kind, Kind::Short),
+        Kinds::Long => matches!(kind, Kind::Long),
+        Kinds::ShortOrLong => matches!(kind, Kind::Short | Kind::Long),
+        Kinds::LongOrIfd => matches!(kind, Kind::Long | Kind::Ifd),
+        Kinds::ShortOrRational => matches!(kind, Kind::Short | Kind::Rational),
+        Kinds::ShortLongOrRational => matches!(kind, Kind::Short | Kind::Long | Kind::Rational),
+        Kinds::SignedRational => matches!(kind, Kind::SignedRational),
+        Kinds::Undefined => matches!(kind, Kind::Undefined),
     }
 }
 
+#[tactic(auto, unfolding(crate::specs::Tag::absent_of, reading::specs::Reading::pick))]
 fn absent(rule: Rule) -> Result<Values, Refusal>
     ensures { (out result ≡ absent_of rule) × ((size : ℕ) → ValuesIn size rule result) }
 {
@@ -118,48 +156,34 @@ fn absent(rule: Rule) -> Result<Values, Refusal>
 }
 
 // The entry of a tag, whose value or offset stands at a place.
-fn tested(
-    file: &[u8],
-    order: Order,
-    widths: Widths,
-    rule: Rule,
-    found: Found,
-) -> Result<Values, Refusal>
-    requires word_in_bounds { (found.place + widths.word ≤ length file.now) × WidthsIn widths }
-    requires placed { Placed widths file.now order found.place found.entry }
-    ensures { (out result ≡ run file.now (tested_reading widths order rule found.place found.entry)) × ValuesIn (length file.now) rule result }
+fn tested(file: &[u8], ifd: Ifd, rule: Rule, found: Found) -> Result<Values, Refusal>
+    requires word_in_bounds { (found.place + ifd.widths.word ≤ length file.now) × WidthsIn ifd.widths }
+    requires placed { Placed ifd.widths file.now ifd.order found.place found.entry }
+    ensures { (out result ≡ run file.now (tested_reading ifd.widths ifd.order rule found.place found.entry)) × ValuesIn (length file.now) rule result }
 {
-    let place = found.place;
-    let kind = found.entry.kind;
-    let count = found.entry.count;
-    let tag = rule.tag;
-    if allows(rule.kinds, kind) {
-        if count < rule.least {
-            return Err(Refusal::Illegal(tag));
-        }
-        if rule.most < count {
-            return Err(Refusal::Illegal(tag));
-        }
-        let size = entry::size(kind);
-        let word = widths.word;
-        if entry::fits(size, count, word) {
-            Ok(Values {
-                place,
-                kind,
-                size,
-                count,
-            })
-        } else {
-            Ok(Values {
-                place: number::value(file, order, word, place),
-                kind,
-                size,
-                count,
-            })
-        }
-    } else {
-        Err(Refusal::Illegal(tag))
+    let entry = found.entry;
+    if !allows(rule.kinds, entry.kind) {
+        return Err(Refusal::Illegal(rule.tag));
     }
+    if entry.count < rule.least {
+        return Err(Refusal::Illegal(rule.tag));
+    }
+    if rule.most < entry.count {
+        return Err(Refusal::Illegal(rule.tag));
+    }
+    let size = entry::size(entry.kind);
+    let word = ifd.widths.word;
+    let place = if entry::fits(size, entry.count, word) {
+        found.place
+    } else {
+        number::value(file, ifd.order, word, found.place)
+    };
+    Ok(Values {
+        place,
+        kind: entry.kind,
+        size,
+        count: entry.count,
+    })
 }
 
 // A tag by its rule.
@@ -167,38 +191,33 @@ pub fn look_up(file: &[u8], ifd: Ifd, rule: Rule) -> Result<Values, Refusal>
     requires { Tested file.now ifd }
     ensures { (out result ≡ run file.now (values_reading ifd rule)) × ValuesIn (length file.now) rule result }
 {
-    let order = ifd.order;
-    let widths = ifd.widths;
-    match find(file, order, widths, ifd.count, ifd.at, rule.tag) {
+    match find(file, ifd, rule.tag) {
         None => absent(rule),
-        Some(found) => tested(file, order, widths, rule, found),
+        Some(found) => tested(file, ifd, rule, found),
     }
 }
 
 // A tag that must not be there.
+#[tactic(auto, using(reading::proofs::Reading::run_then, reading::proofs::Reading::run_answer), unfolding(crate::specs::Tag::not_carried))]
 pub fn not_carried(file: &[u8], ifd: Ifd, tag: usize) -> Result<(), Refusal>
     requires { Tested file.now ifd }
     ensures { passed result ≡ run file.now (not_carried ifd tag) }
 {
-    let order = ifd.order;
-    let widths = ifd.widths;
-    match find(file, order, widths, ifd.count, ifd.at, tag) {
+    match find(file, ifd, tag) {
         None => Ok(()),
         Some(_) => Err(Refusal::NotCarried(tag)),
     }
 }
 
 // A number that must be in a range.
+#[tactic(auto, unfolding(crate::specs::Tag::judged_of, crate::specs::Tag::range_fault, reading::specs::Reading::pick))]
 pub fn judged(tag: usize, range: Range, v: usize) -> Result<usize, Refusal>
     ensures { (out result ≡ judged_of tag range v) × NumberIn range result }
 {
     if v < range.legal {
         return Err(Refusal::Illegal(tag));
     }
-    if v < range.from {
-        return Err(Refusal::NotCarried(tag));
-    }
-    if range.to < v {
+    if v < range.from || range.to < v {
         return Err(Refusal::NotCarried(tag));
     }
     Ok(v)
@@ -226,33 +245,37 @@ pub fn each(
 }
 
 // A tag that holds one number, or its default.
-pub fn one(file: &[u8], ifd: Ifd, rule: Rule, default: usize, range: Range) -> Result<usize, Refusal>
+#[tactic(auto, using(crate::proofs::Outs::bind_refused), unfolding(crate::specs::Tag::one_reading))]
+pub fn one(
+    file: &[u8],
+    ifd: Ifd,
+    rule: Rule,
+    default: usize,
+    range: Range,
+) -> Result<usize, Refusal>
     requires tested { Tested file.now ifd }
     requires numeric { Numeric rule.kinds }
     ensures { (out result ≡ run file.now (one_reading ifd rule default range)) × NumberIn range result }
 {
     let v = look_up(file, ifd, rule)?;
-    let count = v.count;
-    if count == 0 {
+    if v.count == 0 {
         return judged(rule.tag, range, default);
     }
-    let size = v.size;
-    let place = v.place;
-    let order = ifd.order;
-    judged(rule.tag, range, number::value(file, order, size, place))
+    judged(
+        rule.tag,
+        range,
+        number::value(file, ifd.order, v.size, v.place),
+    )
 }
 
 // A tag whose numbers must all be in a range.
+#[tactic(auto, using(crate::proofs::Outs::bind_refused), unfolding(crate::specs::Tag::all_reading))]
 pub fn all(file: &[u8], ifd: Ifd, rule: Rule, range: Range) -> Result<Values, Refusal>
     requires tested { Tested file.now ifd }
     requires numeric { Numeric rule.kinds }
     ensures { (out result ≡ run file.now (all_reading ifd rule range)) × ValuesIn (length file.now) rule result }
 {
     let v = look_up(file, ifd, rule)?;
-    let size = v.size;
-    let place = v.place;
-    let count = v.count;
-    let order = ifd.order;
-    each(file, order, size, rule.tag, range, count, place)?;
+    each(file, ifd.order, v.size, rule.tag, range, v.count, v.place)?;
     Ok(v)
 }

@@ -43,18 +43,8 @@ fn inspect(file: &[u8], ifd: Ifd) -> Result<Option<Children>, Refusal>
     requires { Tested file.now ifd }
     ensures { (look_out result ≡ run file.now (look_reading ifd)) × LookIn (length file.now) result }
 {
-    let subfile = Rule {
-        tag: names::NEW_SUBFILE_TYPE,
-        kinds: Kinds::Long,
-        required: false,
-        least: 1,
-        most: 1,
-    };
-    let any = Range {
-        legal: 0,
-        from: 0,
-        to: 0xFFFF_FFFF_FFFF_FFFF,
-    };
+    let subfile = Rule::optional(names::NEW_SUBFILE_TYPE, Kinds::Long, 1);
+    let any = Range::new(0, 0, 0xFFFF_FFFF_FFFF_FFFF);
     if tag::one(file, ifd, subfile, 0, any)? == 0 {
         return Ok(None);
     }
@@ -95,24 +85,12 @@ fn check_version(file: &[u8], ifd: Ifd) -> Result<usize, Refusal>
     let version = tag::look_up(
         file,
         ifd,
-        Rule {
-            tag: names::DNG_VERSION,
-            kinds: Kinds::Byte,
-            required: true,
-            least: 4,
-            most: 4,
-        },
+        Rule::required(names::DNG_VERSION, Kinds::Byte, 4),
     )?;
     let given = tag::look_up(
         file,
         ifd,
-        Rule {
-            tag: names::DNG_BACKWARD_VERSION,
-            kinds: Kinds::Byte,
-            required: false,
-            least: 4,
-            most: 4,
-        },
+        Rule::optional(names::DNG_BACKWARD_VERSION, Kinds::Byte, 4),
     )?;
     let n = backward(file, version, given);
     if 0x01070100 < n {

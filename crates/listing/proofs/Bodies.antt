@@ -25,16 +25,15 @@ use Rattle.rawtags.specs.Facts.Crop.{CropWithin}
 use Rattle.rawtags.specs.Raw.{active_rows, active_columns}
 use Rattle.rawtags.specs.declared.crop.Crop.{Crop}
 use Rattle.raw.specs.declared.front.Picture.{Picture}
-use Rattle.develop.specs.Calls.{Opened, opened, size_of, tags_of, frame_of, joined, values_of, Window, window_with, window_of, window_call, alone_in}
-use Rattle.develop.specs.Facts.View.{Viewed}
+use Rattle.develop.specs.Calls.{Opened, opened, size_of, tags_of, frame_of, joined, values_of, inside, Window, window_with, window_of, window_call, alone_in}
+use Rattle.develop.specs.Facts.View.{Viewed, OpeningIs}
 use Rattle.develop.specs.declared.View.{View}
-use Rattle.develop.specs.declared.Answer.{Answer}
+use Rattle.directory.specs.declared.refusal.Refusal.{Refusal}
 use Rattle.develop.proofs.Answers.{frame_alone, developed_alone, values_same, alone_is_unit}
-use Rattle.develop.proofs.Called.{rows_inside, columns_inside, fault_none, filled_none}
+use Rattle.develop.proofs.Called.{test_passed, filled_passed}
 use Rattle.listing.specs.Text.{values_text, rows_text, refused_text, frame_text, crop_size, cropped_frame, listed_of, head_text, body_text}
 use Rattle.listing.specs.Text.{listing_of}
-use Rattle.listing.specs.Facts.Body.{lines_text, Listed, rows_from, OpenedIs, RefusedIs, Headed}
-use Rattle.listing.specs.declared.First.{First}
+use Rattle.listing.specs.Facts.Body.{lines_text, Listed, ListedIs, rows_from}
 use Rattle.listing.proofs.Lines.{line_length, refused_short, frame_short}
 
 -- ---- the values of a row
@@ -129,7 +128,7 @@ module _ (row : ℕ → List (List Float)) (m : ℕ) (e : (r : ℕ) → length (
 abbrev HasCrop : Picture → Type 0
 HasCrop p = CropWithin (active_rows p.raw.tags.area) (active_columns p.raw.tags.area) p.raw.tags.crop
 
-module _ (f : List ℕ) (o : Opened) (inside : HasCrop o.picture) where
+module _ (f : List ℕ) (o : Opened) (crop : HasCrop o.picture) where
   abbrev c : Crop
   c = (tags_of o).crop
 
@@ -152,9 +151,9 @@ module _ (f : List ℕ) (o : Opened) (inside : HasCrop o.picture) where
       λ (r : ℕ). run_of (λ (x : ℕ). run_of (λ (p : ℕ). alone_in f o r x p) 1 0 n) 1 0 (active_columns (tags_of o).area) in
       let columns : List (List Float) → List (List Float) = λ (xs : List (List Float)). take c.columns (drop c.left xs) in
       ap (cropped_frame c) (frame_alone f o)
-      ∙ ap (map columns) (run_part whole c.top c.rows (active_rows (tags_of o).area) inside.bottom)
+      ∙ ap (map columns) (run_part whole c.top c.rows (active_rows (tags_of o).area) crop.bottom)
       ∙ run_map columns whole c.top c.rows
-      ∙ run_same _ row 1 1 c.top c.top c.rows (λ i h. run_part _ c.left c.columns (active_columns (tags_of o).area) inside.right)
+      ∙ run_same _ row 1 1 c.top c.top c.rows (λ i h. run_part _ c.left c.columns (active_columns (tags_of o).area) crop.right)
 
   rows_from_law : (t : ℕ) → drop t (cropped_frame c (frame_of f o)) ≡ run_of row 1 (c.top + t) (c.rows - t)
   rows_from_law t = ap (λ (q : Frame). drop t q) cropped_rows ∙ run_drop row t c.top c.rows
@@ -201,7 +200,7 @@ pub values_units : (f : List ℕ) (o : Opened) (t l h w n : ℕ) → AllInUnit (
 values_units f o t l h w n = units_joined _ (λ r. units_joined _ (λ c. units_run _ (alone_is_unit f o r c) 0 n) l w) t h
 
 -- ---- what the window's promise says of a block of rows
-module _ (f : List ℕ) (t h : ℕ) (old new : List Float) (a : Answer) where
+module _ (f : List ℕ) (t h : ℕ) (old new : List Float) (a : Result (Unit {0}) Refusal) where
   -- its values are numbers from 0 to 1, and its lines come next in the listing
   abbrev pub Block : Picture → Type 0
   Block p =
@@ -210,7 +209,7 @@ module _ (f : List ℕ) (t h : ℕ) (old new : List Float) (a : Answer) where
       1 ≤ h → t + h ≤ c.rows → length old ≡ h * m → window_with a new ≡ window_call f (c.top + t) c.left h c.columns old →
       AllInUnit new × (lines_text m h new ++ body_text f (t + h) (listed_of f) ≡ body_text f t (listed_of f))
 
-  module _ (o : Opened) (inside : HasCrop o.picture) (accepted : is o ≡ opened f) where
+  module _ (o : Opened) (crop : HasCrop o.picture) (accepted : is o ≡ opened f) where
     abbrev w : Crop
     w = (tags_of o).crop
 
@@ -223,24 +222,23 @@ module _ (f : List ℕ) (t h : ℕ) (old new : List Float) (a : Answer) where
         new ≡ values_of (alone_in f o) (w.top + t) w.left h w.columns z.samples
     block_values s b l e =
         let x : ℕ → ℕ → ℕ → Float = standing (frame_of f o) in
-        let r : rows_inside z (w.top + t) w.left h w.columns ≡ true =
-        rw (le-leb 1 h s, le-leb (w.top + t + h) z.rows (omega (arith, inside.bottom))) refl in
-        let y : columns_inside z (w.top + t) w.left h w.columns ≡ true =
-        rw (le-leb 1 w.columns inside.some_columns, le-leb (w.left + w.columns) z.columns inside.right) refl in
+        let y : inside z (w.top + t) w.left h w.columns ≡ true =
+        rw (le-leb 1 h s, le-leb 1 w.columns crop.some_columns, le-leb (w.top + t + h) z.rows (omega (arith, crop.bottom)),
+        le-leb (w.left + w.columns) z.columns crop.right) refl in
         let m : length old ≡ h * w.columns * z.samples = l ∙ sym (mul_assoc h w.columns z.samples) in
-        let g = fault_none z (w.top + t) w.left h w.columns z.samples (length old) r y m in
+        let g = test_passed z (w.top + t) w.left h w.columns z.samples (length old) y m in
         let d = e ∙ ap (window_of f (w.top + t) w.left h w.columns old) (sym accepted)
-        ∙ sym (filled_none z (w.top + t) w.left h w.columns z.samples old x _ g refl) in
+        ∙ sym (filled_passed z (w.top + t) w.left h w.columns z.samples old x _ g refl) in
         ap (λ (y : Window). y.slice) d
         ∙ values_same _ _ (w.top + t) w.left h w.columns z.samples (λ i j k u₁ u₂ u₃ u₄ l.
-        developed_alone f o i j k (record { row = omega (arith, inside.bottom); column = omega (arith, inside.right); plane = l }))
+        developed_alone f o i j k (record { row = omega (arith, crop.bottom); column = omega (arith, crop.right); plane = l }))
 
     block_of : is o ≡ listed_of f → Block o.picture
     block_of listed s b l e =
         let v = block_values s b l e in (
           subst AllInUnit (sym v) (values_units f o (w.top + t) w.left h w.columns z.samples),
           ap (λ (y : Out Opened). lines_text (w.columns * z.samples) h new ++ body_text f (t + h) y) (sym listed)
-              ∙ body_next f o inside t h b new v ∙ ap (λ (y : Out Opened). body_text f t y) listed,
+              ∙ body_next f o crop t h b new v ∙ ap (λ (y : Out Opened). body_text f t y) listed,
         )
 
 -- ---- the crop of a file that was opened
@@ -264,7 +262,7 @@ module _ (f : List ℕ) (v : View) (q : Listed f v) where
   file_inside : HasCrop o.picture
   file_inside = subst HasCrop (sym q.viewed.picture) (crop_inside_law f v q.viewed)
 
-  pub block_listed : (t h : ℕ) (old new : List Float) (a : Answer) → Block f t h old new a v.picture
+  pub block_listed : (t h : ℕ) (old new : List Float) (a : Result (Unit {0}) Refusal) → Block f t h old new a v.picture
   block_listed t h old new a =
       subst (Block f t h old new a) q.viewed.picture (block_of f t h old new a o file_inside q.viewed.accepted q.listed)
 
@@ -279,6 +277,10 @@ listed_in f h = sym (ap (λ (b : Bool). pick b (opened f) (refused 1 0)) (le-leb
 
 pub viewed_listed : (f : List ℕ) (v : View) → Viewed f v → length f ≤ 65536 → Listed f v
 viewed_listed f v q h = record { viewed = q; listed = q.accepted ∙ listed_in f h }
+
+pub opening_listed : (f : List ℕ) (r : Result View Refusal) → length f ≤ 65536 → OpeningIs f r → ListedIs f r
+opening_listed f (Ok v) h q = viewed_listed f v q h
+opening_listed f (Err r) h q = q ∙ listed_in f h
 
 -- no row comes behind the crop's last one
 pub rows_none : (f : List ℕ) (v : View) → Listed f v → (t : ℕ) → (crop_size v.picture).rows ≤ t → rows_from f t ≡ []
@@ -310,24 +312,12 @@ short_listed f v q =
     let b : length_of f (is o) < 18446744073709551616 = omega (arith, a, frame_short y, l, r) in
     subst (λ (x : Out Opened). length_of f x < 18446744073709551616) q.listed b
 
--- ---- the first line
-module _ (f : List ℕ) where
-  pub headed_refused : (n d : ℕ) → refused n d ≡ listed_of f → (h : First) (text : List ℕ) → RefusedIs n d h text → Headed f h text
-  headed_refused n d e h text p =
-      record {
-        inside = p.0;
-        line = p.1 ∙ ap head_text e;
-        short = short_refused f n d e;
-        file = subst (OpenedIs f) (sym p.2) (sym (ap (body_text f 0) e));
-      }
+-- ---- the first line, and what is behind it
+module _ (f : List ℕ) (line : List ℕ) where
+  pub line_refused : (n d : ℕ) → refused n d ≡ listed_of f → line ≡ refused_text n d → line ++ [] ≡ listing_of f
+  line_refused n d e q = ap (λ (xs : List ℕ). xs ++ []) q ∙ ap (λ (o : Out Opened). head_text o ++ body_text f 0 o) e
 
-  pub headed_frame :
-      (v : View) (h : First) (text : List ℕ) → Listed f v → h.opening ≡ Ok v
-      → (h.length ≤ length text) × (take h.length text ≡ frame_text (crop_size v.picture)) → Headed f h text
-  headed_frame v h text q o p =
-      record {
-        inside = p.0;
-        line = p.1 ∙ ap (λ (x : Picture). frame_text (crop_size x)) (sym q.viewed.picture) ∙ ap head_text q.listed;
-        short = short_listed f v q;
-        file = subst (OpenedIs f) (sym o) q;
-      }
+  pub line_frame : (v : View) → Listed f v → line ≡ frame_text (crop_size v.picture) → line ++ rows_from f 0 ≡ listing_of f
+  line_frame v q e =
+      ap (λ (xs : List ℕ). xs ++ rows_from f 0)
+      (e ∙ ap (λ (x : Picture). frame_text (crop_size x)) (sym q.viewed.picture) ∙ ap head_text q.listed)

@@ -129,6 +129,15 @@ module _ (xs : List Float) where
         b.2 ∙ l.same ∙ p.2,
       )
 
+-- those behind the first, as a slice
+pub rest_length : (xs : List Float) → length (take (length xs - 1) (drop 1 xs)) ≡ length xs - 1
+rest_length xs = simp (length-take, length-drop) (omega arith)
+
+pub rest_at : (xs : List Float) (k : ℕ) → k + 1 < length xs → get_or (take (length xs - 1) (drop 1 xs)) k nan ≡ get_or xs (k + 1) nan
+rest_at xs k h =
+    let e : 1 + k ≡ k + 1 = omega arith in
+    get_or-take (length xs - 1) (drop 1 xs) k nan (omega arith) ∙ get_or-drop 1 xs k nan ∙ ap (λ (i : ℕ). get_or xs i nan) e
+
 -- ---- lines
 pub units_part : (xs : List Float) (a m : ℕ) → a + m ≤ length xs → AllInUnit xs → AllInUnit (take m (drop a xs))
 units_part xs a m h u k b =

@@ -10,18 +10,15 @@ use lib.Seq.{take_at, drop_at, drop-drop}
 use Rattle.std.specs.Prelude.{Result, Ok, Err}
 use Rattle.std.specs.Result.{is_ok, IsErr}
 use Rattle.listing.specs.Text.{listing_of}
-use Rattle.listing.specs.Facts.Body.{Headed, rows_from}
 use Rattle.listing.specs.Pieces.{Stands, Remains, Ends}
-use Rattle.listing.specs.declared.First.{First}
 
 module _ (f : List ℕ) where
-  -- before anything is written, the first line and all rows are to come
-  pub all_remains : (at : ℕ) → at ≡ 0 → (h : First) (text : List ℕ) → Headed f h text →
-      Remains f at (take h.length text ++ rows_from f 0)
-  all_remains at z h text q =
+  -- before anything is written, the first line and all behind it are to come
+  pub all_remains : (at : ℕ) → at ≡ 0 → (line rest : List ℕ) → line ++ rest ≡ listing_of f → Remains f at (line ++ rest)
+  all_remains at z line rest q =
       record {
         inside = omega (arith, z);
-        behind = ap (λ (k : ℕ). drop k (listing_of f)) z ∙ sym (ap (λ (line : List ℕ). line ++ rows_from f 0) q.line);
+        behind = ap (λ (k : ℕ). drop k (listing_of f)) z ∙ sym q;
       }
 
   -- ---- the piece that is to come next
@@ -74,6 +71,8 @@ module _ (f : List ℕ) where
   ends_failed (Ok x) at e n = absurd (true≢false (sym e))
   ends_failed (Err x) at e n = n
 
-  -- the first line and the rows are the listing
-  pub line_and_rows : (h : First) (text : List ℕ) → Headed f h text → take h.length text ++ rows_from f 0 ≡ listing_of f
-  line_and_rows h text q = ap (λ (line : List ℕ). line ++ rows_from f 0) q.line
+  -- the last piece ends it, written or not
+  pub ends_last : (at : ℕ) (piece : List ℕ) → Remains f at (piece ++ []) → (well : Bool) (end : ℕ) →
+      end ≡ cond well (at + length piece) at → Ends f end well
+  ends_last at piece r true end e = ends_whole end (written_rest at piece [] r true end e refl)
+  ends_last at piece r false end e = ends_early at piece [] r false end e refl

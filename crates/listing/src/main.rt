@@ -13,12 +13,14 @@ ghost use Rattle.std.specs.Io.{ReadsAtMost};
 ghost use Rattle.std.specs.Io.KnownBytes.{Appends, Consumes, IsAtEnd};
 ghost use Rattle.std.specs.Result.{is_ok};
 ghost use Rattle.std.specs.Float.Ieee.{is_nan};
+ghost use Rattle.directory.specs.Refusal.{number_of, detail_of};
 ghost use Rattle.rows.specs.Facts.Part.{AllInUnit, SizedIn};
 ghost use Rattle.listing.specs.Text.{decimal_of, value_text, values_text, refused_text, frame_text, crop_size, listing_of};
-ghost use Rattle.listing.specs.Facts.Body.{Puts, LinesIn, lines_text, RefusedIs, Headed, Ready, BlockIn, rows_from};
+ghost use Rattle.listing.specs.Facts.Body.{Puts, LinesIn, lines_text, ListedIs, Ready, BlockIn, rows_from};
 ghost use Rattle.listing.specs.Pieces.{Stands, Remains, Ends};
 
-use develop::{Opening, View, window};
+use develop::{View, window};
+use directory::refusal::Refusal;
 use opcodes::grid::Size;
 use raw::front::Picture;
 use std::io::{Read, Write};
@@ -28,12 +30,9 @@ fn put(text: &mut [u8], at: usize, word: &[u8]) -> usize
     requires { at + length word.now ≤ length text.old }
     ensures { Puts text.old at word.now text.new result }
 {
-    let mut i = 0;
-    while i < word.len() {
-        text[at + i] = word[i];
-        i += 1;
-    }
-    at + i
+    let end = at + word.len();
+    text[at..end].copy_from_slice(word);
+    end
 }
 
 // A space and a number.
@@ -63,11 +62,9 @@ fn put_line(text: &mut [u8], at: usize, values: &[f64]) -> usize
     ensures { Puts text.old at (values_text values.now) text.new result }
 {
     let mut end = put_value(text, at, values[0]);
-    let mut i = 1;
-    while i < values.len() {
+    for value in &values[1..] {
         let next = put(text, end, b" ");
-        end = put_value(text, next, values[i]);
-        i += 1;
+        end = put_value(text, next, *value);
     }
     put(text, end, b"\n")
 }
@@ -77,28 +74,26 @@ fn put_lines(text: &mut [u8], values: &[f64], height: usize, width: usize) -> us
     requires { LinesIn width height values.now text.old }
     ensures { (result ≤ length text.new) × (take result text.new ≡ lines_text width height values.now) }
 {
-    let mut i = 0;
-    let mut a = 0;
     let mut end = 0;
-    while i < height {
-        let e = a + width;
-        end = put_line(text, end, &values[a..e]);
-        a = e;
-        i += 1;
+    for i in 0..height {
+        let a = i * width;
+        end = put_line(text, end, &values[a..a + width]);
     }
     end
 }
 
-fn put_refusal(text: &mut [u8], number: usize, detail: usize) -> usize
+// The whole text of a refused file.
+fn put_refusal(text: &mut [u8], refusal: Refusal) -> usize
     requires { 128 ≤ length text.old }
-    ensures { (result ≤ length text.new) × (take result text.new ≡ refused_text number detail) }
+    ensures { (result ≤ length text.new) × (take result text.new ≡ refused_text (number_of refusal) (detail_of refusal)) }
 {
     let a = put(text, 0, b"refused");
-    let b = put_number(text, a, number);
-    let c = put_number(text, b, detail);
+    let b = put_number(text, a, refusal.number());
+    let c = put_number(text, b, refusal.detail());
     put(text, c, b"\n")
 }
 
+// The first line of an accepted file.
 fn put_size(text: &mut [u8], size: Size) -> usize
     requires { 128 ≤ length text.old }
     ensures { (result ≤ length text.new) × (take result text.new ≡ frame_text size) }
@@ -110,47 +105,14 @@ fn put_size(text: &mut [u8], size: Size) -> usize
     put(text, d, b"\n")
 }
 
-// A text's length, and the file as it was opened.
-#[derive(Clone, Copy)]
-struct First {
-    length: usize,
-    opening: Opening,
-}
-
-// The whole text of a refused file.
-fn refused(text: &mut [u8], number: usize, detail: usize) -> First
-    requires { 128 ≤ length text.old }
-    ensures { RefusedIs number detail result text.new }
-{
-    First {
-        length: put_refusal(text, number, detail),
-        opening: Opening::Refused { number, detail },
-    }
-}
-
-// The first line of a file's listing.
-fn put_first(text: &mut [u8], file: &[u8]) -> First
-    requires { 128 ≤ length text.old }
-    ensures { Headed file.now result text.new }
+// The file as it was opened: one of over 65,536 bytes counts as refusal 1.
+fn opened(file: &[u8]) -> Result<View, Refusal>
+    ensures { ListedIs file.now result }
 {
     if file.len() > 65536 {
-        return refused(text, 1, 0);
+        return Err(Refusal::FileSize);
     }
-    match develop::open(file) {
-        Opening::Refused { number, detail } => refused(text, number, detail),
-        Ok(view) => {
-            let tags = view.picture.raw.tags;
-            let size = Size {
-                rows: tags.crop.rows,
-                columns: tags.crop.columns,
-                samples: tags.frame.samples,
-            };
-            First {
-                length: put_size(text, size),
-                opening: Ok(view),
-            }
-        }
-    }
+    develop::open(file)
 }
 
 // How many rows the block has that begins at the crop's row `top`: as many as fit.
@@ -160,8 +122,7 @@ fn block(picture: Picture, top: usize) -> usize
 {
     let tags = picture.raw.tags;
     let most = 49152 / (tags.crop.columns * tags.frame.samples);
-    let left = tags.crop.rows - top;
-    if left < most { left } else { most }
+    most.min(tags.crop.rows - top)
 }
 
 // The lines of `height` rows from the crop's row `top` on: with the lines of the rows after them, they are the lines of all rows
@@ -184,7 +145,7 @@ fn put_rows(
     let width = crop.columns * tags.frame.samples;
     let m = height * width;
     let first = crop.top + top;
-    window::opened_window(
+    let _ = window::opened_window(
         file,
         view,
         first,
@@ -232,6 +193,7 @@ fn print_rows<W: Write>(
     let picture = view.picture;
     let rows = picture.raw.tags.crop.rows;
     let mut top = 0;
+    // no range: the last block has fewer rows
     while top < rows {
         let height = block(picture, top);
         let n = put_rows(text, values, file, view, top, height);
@@ -270,12 +232,22 @@ fn list<W: Write>(out: &mut W, file: &[u8], written: &mut usize) -> std::io::Res
 {
     let mut values = value_space();
     let mut text = text_space();
-    let first = put_first(&mut text, file);
-    let opening = first.opening;
-    write_piece(out, file, written, &text[..first.length])?;
-    match opening {
-        Opening::Refused { number, detail } => Ok(()),
-        Ok(view) => print_rows(out, &mut text, &mut values, file, view, written),
+    match opened(file) {
+        Err(refusal) => {
+            let n = put_refusal(&mut text, refusal);
+            write_piece(out, file, written, &text[..n])
+        }
+        Ok(view) => {
+            let tags = view.picture.raw.tags;
+            let size = Size {
+                rows: tags.crop.rows,
+                columns: tags.crop.columns,
+                samples: tags.frame.samples,
+            };
+            let n = put_size(&mut text, size);
+            write_piece(out, file, written, &text[..n])?;
+            print_rows(out, &mut text, &mut values, file, view, written)
+        }
     }
 }
 
@@ -286,6 +258,7 @@ fn read_file<R: Read>(input: &mut R, file: &mut [u8]) -> std::io::Result<usize>
     ensures end { IfOk result (λ n. n < length file.new → IsAtEnd (R.remaining input.new)) }
 {
     let mut n = 0;
+    // std's methods that read up to the end fill a Vec; this fills the room it is lent
     while n < file.len() {
         let more = input.read(&mut file[n..])?;
         if more == 0 {

@@ -1,6 +1,7 @@
 -- The bracket of a place and the corners around it, by the code's tests; the gain that they give.
 -- Assumes nothing.
-use Rattle.std.proofs.Common.{◌≡◌, ℕ, suc, ◌+◌, ◌-◌, ◌*◌, ◌<◌, ◌≤◌, min, Bool, true, false, ltb, List, length, sym, refl, ap, ◌∙◌, mul-le-mul_right, suc-mul, mul-le-mul_left, arith, ltb-true, le-ltb, lt-ltb, eq-eqb, ne_eqb}
+use Rattle.std.proofs.Common.{◌≡◌, ℕ, suc, ◌+◌, ◌-◌, ◌*◌, ◌<◌, ◌≤◌, min, Bool, true, false, ltb, List, length, sym, refl, ap, ◌∙◌, mul-le-mul_right}
+use Rattle.std.proofs.Common.{suc-mul, mul-le-mul_left, arith, ltb-true, le-ltb, lt-ltb, eq-eqb, ne_eqb}
 use lib.Ieee.{Float, binary64, lt, le, sub}
 use Rattle.reading.specs.Reading.{pick}
 use Rattle.levels.specs.Clip.{plus_zero}

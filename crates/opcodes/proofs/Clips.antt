@@ -1,6 +1,7 @@
 -- The clip by two comparisons, each with its own choice.
 -- Assumes nothing.
-use Rattle.std.proofs.Common.{◌≡◌, ℕ, ◌*◌, ◌<◌, ◌≤◌, Bool, true, false, ◌&&◌, ◌||◌, eqb, ltb, ℤ, sym, refl, subst, ⊎_elim, true≢false, one-mul, zero-mul, arith, ltb-false, le-ltb, lt-ltb, eq-eqb, ne_eqb}
+use Rattle.std.proofs.Common.{◌≡◌, ℕ, ◌*◌, ◌<◌, ◌≤◌, Bool, true, false, ◌&&◌, ◌||◌, eqb, ltb, ℤ, sym, refl, subst, ⊎_elim, true≢false, one-mul}
+use Rattle.std.proofs.Common.{zero-mul, arith, ltb-false, le-ltb, lt-ltb, eq-eqb, ne_eqb}
 use lib.Ieee.{Float, nan, inf, fin, up, down, lt, le, eq}
 use lib.Ieee.Fits.{down_pos}
 use Rattle.levels.specs.Clip.{clip_of, plus_zero, one}

@@ -1,6 +1,10 @@
 -- Of an f64 from 0.5 to 65535.5, `index_from_bits` is the greatest whole number not above it; and of a sum in this range it is `index_of`.
 -- Assumes nothing.
-use Rattle.std.proofs.Common.{◌≡◌, ℕ, zero, suc, ◌+◌, ◌-◌, ◌*◌, ◌/◌, ◌^◌, ◌<◌, ◌≤◌, min, Bool, true, false, not, T, leb, sym, refl, ap, ◌∙◌, subst, ⊎_elim, true≢false, le_trans, le_of_eq, lt_of_lt_of_le, le-add_right, lt_of_le_of_lt, mul-le-mul_right, mod-lt, zero-lt-suc, mul_assoc, div-lt_iff_lt-mul, lt_of_mul-lt-mul_right, mul-lt-mul_of_pos_right, le-div_iff_mul-le, mul-one, not-le_of_lt, div-mul-le_self, le_of_mul-le-mul_right, arith, ltb→lt, lt→ltb, pow_pos, pow_mono, pow-add, shl_lt, ltb-false, le-ltb, lt-ltb}
+use Rattle.std.proofs.Common.{◌≡◌, ℕ, zero, suc, ◌+◌, ◌-◌, ◌*◌, ◌/◌, ◌^◌, ◌<◌, ◌≤◌, min, Bool, true, false, not, T, leb, sym, refl, ap, ◌∙◌, subst}
+use Rattle.std.proofs.Common.{⊎_elim, true≢false, le_trans, le_of_eq, lt_of_lt_of_le, le-add_right, lt_of_le_of_lt, mul-le-mul_right, mod-lt}
+use Rattle.std.proofs.Common.{zero-lt-suc, mul_assoc, div-lt_iff_lt-mul, lt_of_mul-lt-mul_right, mul-lt-mul_of_pos_right, le-div_iff_mul-le, mul-one}
+use Rattle.std.proofs.Common.{not-le_of_lt, div-mul-le_self, le_of_mul-le-mul_right, arith, ltb→lt, lt→ltb, pow_pos, pow_mono, pow-add, shl_lt}
+use Rattle.std.proofs.Common.{ltb-false, le-ltb, lt-ltb}
 use native.Mathlib.Nat.{div-eq_of_lt, lt-div-mul-add}
 use lib.Ieee.{Float, nan, inf, fin, binary64, top, up, down, is_nan, le, of_bits, to_bits, to_unsigned}
 use lib.Ieee.Bits.{of_bits-to_bits}

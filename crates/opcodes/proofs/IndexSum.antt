@@ -1,6 +1,7 @@
 -- Of a clipped x, x * 65535.0 + 0.5 is an f64 from 0.5 to 65535.5.
 -- Assumes nothing.
-use Rattle.std.proofs.Common.{◌≡◌, ℕ, ◌+◌, ◌*◌, ◌<◌, ◌≤◌, Bool, true, false, ◌&&◌, ◌||◌, T, ltb, ℤ, pos, sym, refl, ap, ◌∙◌, subst, inl, inr, zero-lt-suc, mul-pos, arith, ltb→lt, lt→ltb}
+use Rattle.std.proofs.Common.{◌≡◌, ℕ, ◌+◌, ◌*◌, ◌<◌, ◌≤◌, Bool, true, false, ◌&&◌, ◌||◌, T, ltb, ℤ, pos, sym, refl, ap, ◌∙◌, subst, inl, inr}
+use Rattle.std.proofs.Common.{zero-lt-suc, mul-pos, arith, ltb→lt, lt→ltb}
 use lib.Ieee.{Float, nan, inf, fin, binary64, up, down, round, lt, le, eq, add, mul}
 use lib.Ieee.Fits.{down_pos, and_l, and_r, add-fits}
 use lib.Ieee.Order.{round_mono}

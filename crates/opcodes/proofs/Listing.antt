@@ -1,6 +1,7 @@
 -- The list by the code's tests, opcode by opcode.
 -- Assumes nothing.
-use Rattle.std.proofs.Common.{◌≡◌, ℕ, zero, suc, ◌+◌, ◌-◌, ◌<◌, ◌≤◌, Bool, true, false, eqb, leb, List, [], ◌∷◌, length, sym, refl, ap, ◌∙◌, add-zero, arith, le-ltb, lt-ltb, eq-eqb, ne_eqb, eqb-true, le-leb, leb-false, leb-true}
+use Rattle.std.proofs.Common.{◌≡◌, ℕ, zero, suc, ◌+◌, ◌-◌, ◌<◌, ◌≤◌, Bool, true, false, eqb, leb, List, [], ◌∷◌, length, sym, refl, ap, ◌∙◌, add-zero}
+use Rattle.std.proofs.Common.{arith, le-ltb, lt-ltb, eq-eqb, ne_eqb, eqb-true, le-leb, leb-false, leb-true}
 use borrow.Author.Tests.{lt-leb}
 use Rattle.reading.specs.Bytes.{part}
 use Rattle.reading.specs.Number.{number_of}
@@ -10,8 +11,9 @@ use Rattle.reading.proofs.Reading.{running, run_answer, run_ask, pick_yes, pick_
 use Rattle.directory.specs.Out.{Out, Out.refused, Out.is, bind}
 use Rattle.directory.proofs.Outs.{bind_refused, bind_is, bind_inverse, not_refused, same_value}
 use Rattle.opcodes.specs.Opcode.{Opcode, skipped, kept}
-use Rattle.opcodes.specs.OpcodeList.{header_of, class_of, opcode_fault, parameters_of, opcode_reading, list_from, list_reading, start_of}
-use Rattle.opcodes.specs.Facts.OpcodeList.{counted_on, counted_one}
+use Rattle.opcodes.specs.Grid.{grid_of}
+use Rattle.opcodes.specs.OpcodeList.{header_of, class_of, opcode_fault, opcode_kind, parameters_of, opcode_reading, list_from, list_reading, start_of}
+use Rattle.opcodes.specs.Facts.OpcodeList.{counted_on, counted_one, tested}
 use Rattle.opcodes.specs.declared.grid.Size.{Size}
 use Rattle.opcodes.specs.declared.list.Header.{Header}
 use Rattle.opcodes.specs.declared.list.Class.TheVariants as class
@@ -19,14 +21,25 @@ use Rattle.opcodes.specs.declared.list.Counts.{Counts}
 
 -- ---- one opcode
 module _ (z : Size) (i id : ℕ) (ps : List ℕ) (c : Counts) where
-  pub parameters_kept : opcode_fault z id ps ≡ 0 →
+  pub parameters_kept : ◌≡◌ {A = Out ℕ} (is 0) (tested (opcode_fault z id ps) i) →
       is (record { kept = c.kept + 1; skipped = c.skipped }) ≡ counted_one c (parameters_of z i id ps)
   unfolding parameters_of pick
-  parameters_kept e = rw (eq-eqb _ _ e)
+  parameters_kept e = go (eqb (opcode_fault z id ps) 0) e
+    where
+      go : (b : Bool) → ◌≡◌ {A = Out ℕ} (is 0) (pick b (is 0) (refused (opcode_fault z id ps) i)) →
+          is (record { kept = c.kept + 1; skipped = c.skipped })
+          ≡ counted_one c (pick b (is (kept (grid_of ps) (opcode_kind z id ps))) (refused (opcode_fault z id ps) i))
+      go true e = refl
+      go false e = absurd (not_refused 0 _ _ e)
 
-  pub parameters_refused : (opcode_fault z id ps ≡ 0 → ⊥) → refused (opcode_fault z id ps) i ≡ counted_one c (parameters_of z i id ps)
+  pub parameters_refused : {n d : ℕ} → ◌≡◌ {A = Out ℕ} (refused n d) (tested (opcode_fault z id ps) i) → refused n d ≡ counted_one c (parameters_of z i id ps)
   unfolding parameters_of pick
-  parameters_refused e = rw (ne_eqb _ _ e)
+  parameters_refused {n} {d} e = go (eqb (opcode_fault z id ps) 0) e
+    where
+      go : (b : Bool) → ◌≡◌ {A = Out ℕ} (refused n d) (pick b (is 0) (refused (opcode_fault z id ps) i)) →
+          refused n d ≡ counted_one c (pick b (is (kept (grid_of ps) (opcode_kind z id ps))) (refused (opcode_fault z id ps) i))
+      go true e = absurd (not_refused 0 n d (sym e))
+      go false e = cc
 
 pub carried_run : (f : List ℕ) (z : Size) (i at : ℕ) (h : Header) →
     run f (opcode_reading class.Carried z i at h) ≡ parameters_of z i h.id (part f (at + 16) h.length)

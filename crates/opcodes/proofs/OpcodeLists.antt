@@ -1,8 +1,11 @@
 -- The list's definitions by the code's tests.
 -- Assumes nothing.
-use Rattle.std.proofs.Common.{◌≡◌, ℕ, zero, suc, ◌+◌, ◌-◌, ◌*◌, ◌%◌, ◌<◌, ◌≤◌, Bool, true, false, ◌&&◌, ◌||◌, eqb, leb, ◌⊎◌, List, length, sym, refl, ap, ◌∙◌, inl, inr, true≢false, mul-suc, arith, ltb-true, eqb-true, le-leb, leb-true}
+use Rattle.std.proofs.Common.{◌≡◌, ℕ, suc, ◌+◌, ◌-◌, ◌*◌, ◌%◌, ◌<◌, ◌≤◌, Bool, true, false, not, ◌&&◌, ◌||◌, eqb, leb, ◌⊎◌, List, length, sym, refl}
+use Rattle.std.proofs.Common.{ap, ◌∙◌, inl, inr, true≢false, arith, ltb-true, eqb-true, le-leb, leb-true}
 use lib.Seq.{take-length}
 use borrow.Author.Tests.{lt-leb}
+use Rattle.std.specs.Prelude.{Option, Some, None, Float}
+use Rattle.std.specs.Option.{is_some}
 use Rattle.reading.specs.Bytes.{part}
 use Rattle.reading.specs.Reading.{pick}
 use Rattle.reading.specs.Number.{number_of}
@@ -11,7 +14,7 @@ use Rattle.reading.proofs.Bytes.{part_part}
 use Rattle.opcodes.specs.Grid.{long_of, grid_of, fits_of}
 use Rattle.opcodes.specs.Facts.Grid.{FitsIn}
 use Rattle.opcodes.specs.OpcodeList.{listed_id, class_of, count_of, rows_of, columns_of, table_form, polynomial_form, lines_form, form_of}
-use Rattle.opcodes.specs.OpcodeList.{refused_at, refused_in, exact_of, plain_fault}
+use Rattle.opcodes.specs.OpcodeList.{refused_real, refused_at, refused_in, exact_of, plain_fault}
 use Rattle.opcodes.specs.declared.grid.Size.{Size}
 use Rattle.opcodes.specs.declared.grid.Grid.{Grid}
 use Rattle.opcodes.specs.declared.list.Header.{Header}
@@ -23,14 +26,23 @@ module _ (h : Header) where
   unfolding class_of pick
   class_carried a b = rw (a, b)
 
-  pub class_unlisted : listed_id h.id ≡ false → (b : Bool) → eqb (h.flags % 2) 1 ≡ b → pick b class.Optional class.Compulsory ≡ class_of h
-  unfolding class_of pick
-  class_unlisted a b e = rw (a, e)
-
-  pub class_newer : listed_id h.id ≡ true → leb h.version 0x01070100 ≡ false → (b : Bool) → eqb (h.flags % 2) 1 ≡ b →
+  -- newer, or not listed
+  pub class_other :
+      {l : Bool} → l ≡ listed_id h.id → ((l ≡ true) × (0x01070100 < h.version)) ⊎ (l ≡ false) → (b : Bool) → eqb (h.flags % 2) 1 ≡ b →
       pick b class.Optional class.Compulsory ≡ class_of h
   unfolding class_of pick
-  class_newer a v b e = rw (a, v, e)
+  class_other a (inl v) b e = rw (sym a ∙ v.0, lt-leb _ _ v.1, e)
+  class_other a (inr v) b e = rw (sym a ∙ v, e)
+
+-- an opcode that is carried is listed
+pub carried_listed : (h : Header) → class.Carried ≡ class_of h → listed_id h.id ≡ true
+unfolding class_of pick
+carried_listed h e = go (listed_id h.id) (leb h.version 0x01070100) (eqb (h.flags % 2) 1) e
+  where
+    go : (a b d : Bool) → class.Carried ≡ pick (a && b) class.Carried (pick d class.Optional class.Compulsory) → a ≡ true
+    go true b d q = refl
+    go false b true q = absurd (grind arith)
+    go false b false q = absurd (grind arith)
 
 module _ (g : Grid) (id n : ℕ) where
   pub form_table : eqb id 7 ≡ true → table_form n ≡ form_of g id n
@@ -52,25 +64,25 @@ module _ (g : Grid) (id n : ℕ) where
       form_columns e = rw (a, b, e)
 
 module _ (w : ℕ) (ps : List ℕ) where
-  pub refused_none : (p n : ℕ) → n ≡ 0 → refused_in w ps p n ≡ false
+  -- what is left of n numbers at the i-th
+  pub refused_over : (p n i : ℕ) → n ≤ i → refused_in w ps p (n - i) ≡ false
   unfolding refused_in
-  refused_none p zero e = refl
-  refused_none p (suc n) e = absurd (omega arith)
+  refused_over p n i h = let q : n - i ≡ 0 = omega arith in rw q
 
-  pub refused_here : (p n : ℕ) → 0 < n → refused_at w ps p ≡ true → refused_in w ps p n ≡ true
+  pub refused_here : (p n i : ℕ) → i < n → refused_at w ps p ≡ true → refused_in w ps p (n - i) ≡ true
   unfolding refused_in
-  refused_here p zero h e = absurd (omega arith)
-  refused_here p (suc n) h e = rw e
+  refused_here p n i h e = let q : n - i ≡ suc (n - (i + 1)) = omega arith in rw (q, e)
 
-  pub refused_there : (p n : ℕ) → 0 < n → refused_at w ps p ≡ false → refused_in w ps p n ≡ refused_in w ps (p + w) (n - 1)
+  pub refused_there : (p n i : ℕ) → i < n → refused_at w ps p ≡ false → refused_in w ps p (n - i) ≡ refused_in w ps (p + w) (n - (i + 1))
   unfolding refused_in
-  refused_there p zero h e = absurd (omega arith)
-  refused_there p (suc n) h e = let q : n ≡ suc n - 1 = omega arith in rw e (ap (refused_in w ps (p + w)) q)
+  refused_there p n i h e = let q : n - i ≡ suc (n - (i + 1)) = omega arith in rw (q, e)
 
--- n values of a width: one, and all the others
-pub one_less : (w n : ℕ) → 0 < n → w * n ≡ w + w * (n - 1)
-one_less w zero h = absurd (omega arith)
-one_less w (suc n) h = let q : suc n - 1 ≡ n = omega arith in rw q (omega (arith, mul-suc w n))
+-- as `is_none` says it
+pub refused_told : (x : Option Float) (r : Bool) → is_some x ≡ not r → r ≡ refused_real x
+refused_told None true e = refl
+refused_told None false e = absurd (true≢false (sym e))
+refused_told (Some v) true e = absurd (true≢false e)
+refused_told (Some v) false e = refl
 
 -- ---- an opcode's parameters
 module _ (z : Size) (id : ℕ) (ps : List ℕ) where

@@ -1,6 +1,9 @@
 -- Horner's rule over coefficients that end in -0.0 is Horner's rule without it, in every bit, at a number that is finite and not negative.
 -- Assumes nothing.
-use Rattle.std.proofs.Common.{◌≡◌, ℕ, zero, suc, ◌+◌, ◌-◌, ◌*◌, ◌%◌, ◌^◌, ◌<◌, ◌≤◌, Bool, true, false, cond, ◌&&◌, T, eqb, ltb, leb, List, [], ◌∷◌, ◌++◌, length, get_or, replicate, ℤ, pos, negsuc, sym, refl, ap, ◌∙◌, subst, ⊎_elim, lt_of_lt_of_le, lt_irrefl, zero-lt-suc, mul_assoc, mul-lt-mul_of_pos_right, mul-pos, one-mul, pow-suc, zero-add, zero-mul, mul-one, sub-add_cancel, not-le_of_lt, mul_left_comm, arith, eqb→eq, ltb→lt, lt→ltb, leb→le, pow_pos, pow_mono, pow-add, shl_lt}
+use Rattle.std.proofs.Common.{◌≡◌, ℕ, zero, suc, ◌+◌, ◌-◌, ◌*◌, ◌%◌, ◌^◌, ◌<◌, ◌≤◌, Bool, true, false, cond, ◌&&◌, T, eqb, ltb, leb, List, [], ◌∷◌}
+use Rattle.std.proofs.Common.{◌++◌, length, get_or, replicate, ℤ, pos, negsuc, sym, refl, ap, ◌∙◌, subst, ⊎_elim, lt_of_lt_of_le, lt_irrefl}
+use Rattle.std.proofs.Common.{zero-lt-suc, mul_assoc, mul-lt-mul_of_pos_right, mul-pos, one-mul, pow-suc, zero-add, zero-mul, mul-one, sub-add_cancel}
+use Rattle.std.proofs.Common.{not-le_of_lt, mul_left_comm, arith, eqb→eq, ltb→lt, lt→ltb, leb→le, pow_pos, pow_mono, pow-add, shl_lt}
 use Prim.Native.Nat.compare
 use Prim.Native.Nat.{Ordering}
 use Prim.Native.Nat.{compare}

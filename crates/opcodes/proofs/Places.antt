@@ -1,6 +1,9 @@
 -- A GainMap's places: none is a NaN, and one that is neither at or below 0 nor at or above a whole number lies between them.
 -- Assumes nothing.
-use Rattle.std.proofs.Common.{◌≡◌, ℕ, zero, suc, ◌+◌, ◌-◌, ◌*◌, ◌/◌, ◌^◌, ◌<◌, ◌≤◌, Bool, true, false, cond, not, ◌&&◌, ◌||◌, T, eqb, ltb, ℤ, pos, sym, refl, ap, ◌∙◌, subst, ⊎_elim, true≢false, le_refl, div-lt_iff_lt-mul, mul-le-mul, lt_of_mul-lt-mul_right, mul-lt-mul_of_pos_right, le-div_iff_mul-le, zero-mul, arith, ltb→lt, lt→ltb, ltb-false, ltb-true, le-ltb, lt-ltb, eq-eqb, ne_eqb}
+use Rattle.std.proofs.Common.{◌≡◌, ℕ, zero, suc, ◌+◌, ◌-◌, ◌*◌, ◌/◌, ◌^◌, ◌<◌, ◌≤◌, Bool, true, false, cond, not, ◌&&◌, ◌||◌, T, eqb, ltb, ℤ, pos}
+use Rattle.std.proofs.Common.{sym, refl, ap, ◌∙◌, subst, ⊎_elim, true≢false, le_refl, div-lt_iff_lt-mul, mul-le-mul, lt_of_mul-lt-mul_right}
+use Rattle.std.proofs.Common.{mul-lt-mul_of_pos_right, le-div_iff_mul-le, zero-mul, arith, ltb→lt, lt→ltb, ltb-false, ltb-true, le-ltb, lt-ltb}
+use Rattle.std.proofs.Common.{eq-eqb, ne_eqb}
 use mathlib.Core.Bool.{beq}
 use borrow.Author.Tests.{eqb-false}
 use lib.Ieee.{Float, nan, inf, fin, Format, binary64, up, down, round, unlike, lt, le}
@@ -9,8 +12,8 @@ use lib.Ieee.Fits.{down_pos}
 use lib.Ieee.Exact.{HasValue}
 use lib.Ieee.Scale.{finite}
 use lib.Ieee.Positive.{positive, positive_of_value, first_pos}
+use Rattle.std.specs.Prelude.{Option}
 use Rattle.reading.specs.Real.{refused_pattern, real_of}
-use Rattle.reading.specs.declared.real.Real.{Real}
 use Rattle.reading.proofs.Pattern.{is_refused, is_value, bits_finite}
 use Rattle.reading.proofs.Wholes.{in_float_law, int_value}
 use Rattle.levels.specs.Clip.{plus_zero}
@@ -38,8 +41,8 @@ pub real_finite : (f : Format) (b : ℕ) → T (finite (value_of (real_of f b)))
 real_finite f b = go (refused_pattern f b) refl
   where
     go : (r : Bool) → refused_pattern f b ≡ r → T (finite (value_of (real_of f b)))
-    go true e = subst (λ (v : Real). T (finite (value_of v))) (is_refused f b e) tt
-    go false e = subst (λ (v : Real). T (finite (value_of v))) (is_value f b e) (bits_finite f b e)
+    go true e = subst (λ (v : Option Float). T (finite (value_of v))) (is_refused f b e) tt
+    go false e = subst (λ (v : Option Float). T (finite (value_of v))) (is_value f b e) (bits_finite f b e)
 
 -- and above 0 where its pattern is
 above_positive : (x : Float) → T (finite x) → lt plus_zero x ≡ true → T (positive x)
@@ -57,7 +60,7 @@ real_positive f b h a = go (refused_pattern f b) refl
   where
     go : (r : Bool) → refused_pattern f b ≡ r → T (positive (value_of (real_of f b)))
     go true e = absurd (true≢false (ap refused_real (is_refused f b e) ∙ h))
-    go false e = subst (λ (v : Real). T (positive (value_of v))) (is_value f b e) (above_positive (of_bits f b) (bits_finite f b e) a)
+    go false e = subst (λ (v : Option Float). T (positive (value_of v))) (is_value f b e) (above_positive (of_bits f b) (bits_finite f b e) a)
 
 -- ---- a place is no NaN
 round_number : (s : Bool) (a c : ℕ) → is_nan (round binary64 s a c) ≡ false

@@ -3,11 +3,11 @@
 use Rattle.std.proofs.Common.{◌≡◌, ℕ, zero, suc, ◌+◌, ◌≤◌, Bool, true, false, cond, T, List, sym, ◌∙◌, arith}
 use lib.Ieee.{Float, binary64, of_bits, fits}
 use lib.Ieee.Bits.{of_bits-fits}
+use Rattle.std.specs.Prelude.{Some, None}
 use Rattle.reading.specs.Bytes.{part}
 use Rattle.reading.specs.Number.{number_of}
 use Rattle.reading.specs.Real.{refused_pattern, real_of}
 use Rattle.reading.specs.declared.number.Order.TheVariants.{Big}
-use Rattle.reading.specs.declared.real.Real.TheVariants.{Refused, Value}
 use Rattle.levels.specs.Clip.{clip_of}
 use Rattle.levels.specs.Run.{run_of}
 use Rattle.levels.proofs.Runs.{length_run}
@@ -19,7 +19,7 @@ value_fits : (b : ℕ) → T (fits binary64 (value_of (real_of binary64 b)))
 unfolding real_of fits
 value_fits b = go (refused_pattern binary64 b)
   where
-    go : (t : Bool) → T (fits binary64 (value_of (cond t Refused (Value (of_bits binary64 b)))))
+    go : (t : Bool) → T (fits binary64 (value_of (cond t None (Some (of_bits binary64 b)))))
     go true = tt
     go false = of_bits-fits binary64 b
 

@@ -1,6 +1,8 @@
 -- The step of an accepted opcode acts as the opcode does.
 -- Assumes nothing.
-use Rattle.std.proofs.Common.{◌≡◌, ℕ, zero, suc, ◌+◌, ◌-◌, ◌*◌, ◌/◌, ◌<◌, ◌≤◌, Bool, true, false, ◌&&◌, ◌||◌, eqb, ltb, leb, List, length, get_or, sym, refl, ap, ◌∙◌, true≢false, add-mul, one-mul, le-div_iff_mul-le, div-mul-le_self, arith, ltb-true, eq-eqb, ne_eqb, eqb-true, le-leb, leb-false, leb-true}
+use Rattle.std.proofs.Common.{◌≡◌, ℕ, zero, suc, ◌+◌, ◌-◌, ◌*◌, ◌/◌, ◌<◌, ◌≤◌, Bool, true, false, ◌&&◌, ◌||◌, eqb, ltb, leb, List, length, get_or}
+use Rattle.std.proofs.Common.{sym, refl, ap, ◌∙◌, true≢false, add-mul, one-mul, le-div_iff_mul-le, div-mul-le_self, arith, ltb-true, eq-eqb, ne_eqb}
+use Rattle.std.proofs.Common.{eqb-true, le-leb, leb-false, leb-true}
 use lib.Ieee.{Float, binary32, binary64, add, mul}
 use borrow.Author.Tests.{eqb-false}
 use Rattle.reading.specs.Bytes.{part}

@@ -1,6 +1,7 @@
 -- Two neighbouring opcodes change places in the file: the list stays accepted, with the two in the other order.
 -- Assumes nothing.
-use Rattle.std.proofs.Common.{◌≡◌, ℕ, zero, suc, ◌+◌, ◌-◌, ◌<◌, ◌≤◌, Bool, true, false, ◌⊎◌, List, [], ◌∷◌, ◌++◌, length, get_or, take, drop, sym, refl, ap, ◌∙◌, inl, inr, append_assoc, arith, length-append, length-take-le, take-take, drop-drop, take_at, drop_at}
+use Rattle.std.proofs.Common.{◌≡◌, ℕ, zero, suc, ◌+◌, ◌-◌, ◌<◌, ◌≤◌, Bool, true, false, ◌⊎◌, List, [], ◌∷◌, ◌++◌, length, get_or, take, drop, sym}
+use Rattle.std.proofs.Common.{refl, ap, ◌∙◌, inl, inr, append_assoc, arith, length-append, length-take-le, take-take, drop-drop, take_at, drop_at}
 use mathlib.Core.Path.{fun_ext}
 use lib.Ieee.{Float}
 use Rattle.reading.specs.Bytes.{part, replaced}

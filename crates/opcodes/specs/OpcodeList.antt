@@ -1,5 +1,6 @@
 -- OpcodeList2. No definition of an opcode names a place in the file: an opcode is a function of its own bytes.
-use Rattle.std.specs.Prelude.{ℕ, zero, suc, ◌+◌, ◌-◌, ◌*◌, ◌%◌, Bool, true, false, ◌&&◌, ◌||◌, List, [], ◌∷◌, length, ◌==◌, nat_le, nat_lt, Float, Option, is_none}
+use Rattle.std.specs.Prelude.{ℕ, zero, suc, ◌+◌, ◌-◌, ◌*◌, ◌%◌, Bool, true, false, ◌&&◌, ◌||◌, List, [], ◌∷◌, length, ◌==◌, nat_le, nat_lt, Float}
+use Rattle.std.specs.Prelude.{Option, is_none}
 use Rattle.std.specs.Float.{binary32, binary64}
 use Rattle.reading.specs.Bytes.{part}
 use Rattle.reading.specs.Number.{number_of}
@@ -65,7 +66,8 @@ abbrev pub refused_real : Option Float → Bool
 refused_real x = is_none x
 
 abbrev pub refused_at : ℕ → List ℕ → ℕ → Bool
-refused_at w ps p = pick (w == 8) (refused_real (real_of binary64 (number_of Big (part ps p 8)))) (refused_real (real_of binary32 (number_of Big (part ps p 4))))
+refused_at w ps p =
+    pick (w == 8) (refused_real (real_of binary64 (number_of Big (part ps p 8)))) (refused_real (real_of binary32 (number_of Big (part ps p 4))))
 
 -- one of n numbers of a width from a place on is
 unfoldable pub refused_in : ℕ → List ℕ → ℕ → ℕ → Bool

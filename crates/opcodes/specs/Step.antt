@@ -72,5 +72,6 @@ coefficients_of f at n = run_of (double_in f) 8 at n
 -- the step of up to nine coefficients: -0.0 stands above the highest
 unfoldable pub polynomial_of : List Float → Step
 polynomial_of cs =
-    Polynomial (slice_index_or cs 0 minus_zero) (slice_index_or cs 1 minus_zero) (slice_index_or cs 2 minus_zero) (slice_index_or cs 3 minus_zero) (slice_index_or cs 4 minus_zero)
-    (slice_index_or cs 5 minus_zero) (slice_index_or cs 6 minus_zero) (slice_index_or cs 7 minus_zero) (slice_index_or cs 8 minus_zero)
+    Polynomial (slice_index_or cs 0 minus_zero) (slice_index_or cs 1 minus_zero) (slice_index_or cs 2 minus_zero)
+    (slice_index_or cs 3 minus_zero) (slice_index_or cs 4 minus_zero) (slice_index_or cs 5 minus_zero) (slice_index_or cs 6 minus_zero)
+    (slice_index_or cs 7 minus_zero) (slice_index_or cs 8 minus_zero)

@@ -52,10 +52,7 @@ fn above(ps: &[u8], at: usize) -> bool
     ensures { result ≡ above_at ps.now at }
 {
     let n = number::eight(ps, Order::Big, at);
-    if nan_pattern(n) {
-        return false;
-    }
-    0.0 < f64::from_bits(n)
+    !nan_pattern(n) && 0.0 < f64::from_bits(n)
 }
 
 // Whether a number of points is from 1 to 64, and the spacing above 0 where there is more than one.
@@ -64,16 +61,7 @@ fn axis_legal(ps: &[u8], points: usize, spacing: usize) -> bool
     ensures { result ≡ axis_legal ps.now points spacing }
 {
     let n = grid::field(ps, points);
-    if n < 1 {
-        return false;
-    }
-    if 64 < n {
-        return false;
-    }
-    if n == 1 {
-        return true;
-    }
-    above(ps, spacing)
+    1 <= n && n <= 64 && (n == 1 || above(ps, spacing))
 }
 
 // Whether points, spacings and planes are as the rules have them.
@@ -81,12 +69,7 @@ pub fn legal(ps: &[u8]) -> bool
     requires { 76 ≤ length ps.now }
     ensures { result ≡ gain_map_legal ps.now }
 {
-    if axis_legal(ps, 32, 40) {
-        if axis_legal(ps, 36, 48) {
-            return 1 <= grid::field(ps, 72);
-        }
-    }
-    false
+    axis_legal(ps, 32, 40) && axis_legal(ps, 36, 48) && 1 <= grid::field(ps, 72)
 }
 
 // How many gains there are.
@@ -173,13 +156,11 @@ pub fn located_near(axis: Axis, size: usize, n: usize, corners: Corners) -> Brac
         return Bracket::At(0);
     }
     let p = place(axis, size, n);
-    let from = corners.from;
-    if from < p {
-        if p < corners.to {
-            return Bracket::Between(corners.point, p - from);
-        }
+    if corners.from < p && p < corners.to {
+        Bracket::Between(corners.point, p - corners.from)
+    } else {
+        bracket_at(points, p)
     }
-    bracket_at(points, p)
 }
 
 // The point that a bracket is at, or the first of its two.
@@ -272,7 +253,7 @@ pub fn plane_for(ps: &[u8], j: usize) -> usize
     ensures { (result ≡ min j (planes_in ps.now - 1)) × (result < planes_in ps.now) }
 {
     let last = grid::field(ps, 72) - 1;
-    if j <= last { j } else { last }
+    j.min(last)
 }
 
 // The gain at a row and a column of the active area, on the opcode's j-th plane.

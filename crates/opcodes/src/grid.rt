@@ -32,14 +32,7 @@ pub fn every(first: usize, end: usize, pitch: usize, n: usize) -> bool
     requires { 1 ≤ pitch }
     ensures { result ≡ every_of first end pitch n }
 {
-    if n < first {
-        return false;
-    }
-    if n < end {
-        (n - first) % pitch == 0
-    } else {
-        false
-    }
+    first <= n && n < end && (n - first) % pitch == 0
 }
 
 // Whether a sample is on the grid.
@@ -47,12 +40,10 @@ pub fn on(grid: Grid, row: ActiveRow, column: ActiveColumn, plane: usize) -> boo
     requires { (1 ≤ grid.row_pitch) × (1 ≤ grid.column_pitch) × (grid.plane < 0x1_0000_0000) × (grid.planes < 0x1_0000_0000) }
     ensures { result ≡ on_of grid row.0 column.0 plane }
 {
-    if every(grid.top, grid.bottom, grid.row_pitch, row.0) {
-        if every(grid.left, grid.right, grid.column_pitch, column.0) {
-            return grid.plane <= plane && plane < grid.plane + grid.planes;
-        }
-    }
-    false
+    every(grid.top, grid.bottom, grid.row_pitch, row.0)
+        && every(grid.left, grid.right, grid.column_pitch, column.0)
+        && grid.plane <= plane
+        && plane < grid.plane + grid.planes
 }
 
 // How many rows or columns a grid has.
@@ -99,13 +90,10 @@ fn planes_fit(size: Size, grid: Grid) -> bool
     requires { (grid.plane < 0x1_0000_0000) × (grid.planes < 0x1_0000_0000) }
     ensures { result ≡ planes_fit size grid }
 {
-    if grid.planes < 1 {
-        return false;
-    }
-    if size.samples < grid.plane + grid.planes {
-        return false;
-    }
-    1 <= grid.row_pitch && 1 <= grid.column_pitch
+    1 <= grid.planes
+        && grid.plane + grid.planes <= size.samples
+        && 1 <= grid.row_pitch
+        && 1 <= grid.column_pitch
 }
 
 // Whether the grid lies in the frame.
@@ -113,10 +101,7 @@ pub fn fits(size: Size, grid: Grid) -> bool
     requires { (grid.plane < 0x1_0000_0000) × (grid.planes < 0x1_0000_0000) }
     ensures { result ≡ fits_of size grid }
 {
-    if inside(grid.top, grid.bottom, size.rows) {
-        if inside(grid.left, grid.right, size.columns) {
-            return planes_fit(size, grid);
-        }
-    }
-    false
+    inside(grid.top, grid.bottom, size.rows)
+        && inside(grid.left, grid.right, size.columns)
+        && planes_fit(size, grid)
 }

@@ -1,10 +1,10 @@
 // The test of OpcodeList2: which opcodes are kept and which are skipped, or the refusal.
-ghost use Rattle.std.specs.Prelude.{◌≡◌, ◌+◌, ◌*◌, ◌<◌, ◌≤◌, ◌&&◌, ◌||◌, ◌⊎◌, length, ◌==◌, nat_le};
-ghost use Rattle.directory.specs.Facts.Out.{out};
+ghost use Rattle.std.specs.Prelude.{◌≡◌, true, ◌+◌, ◌*◌, ◌<◌, ◌≤◌, ◌&&◌, ◌||◌, ◌⊎◌, length, ◌==◌, nat_le};
+ghost use Rattle.directory.specs.Facts.Out.{out, passed};
 ghost use Rattle.reading.specs.Bytes.{part};
 ghost use Rattle.reading.specs.Reading.{run};
 ghost use Rattle.opcodes.specs.OpcodeList.{header_of, listed_id, class_of, table_form, polynomial_form, lines_form, form_of, refused_at, refused_in, exact_of, plain_fault, gain_map_fault, opcode_fault, opcode_reading, list_from, list_reading};
-ghost use Rattle.opcodes.specs.Facts.OpcodeList.{none, counted_one, counted_on};
+ghost use Rattle.opcodes.specs.Facts.OpcodeList.{id_of, none, counted_one, counted_on, tested};
 
 use crate::grid::{Grid, Size};
 use crate::{gain_map, grid};
@@ -26,6 +26,18 @@ pub enum Class {
     Carried,
     Optional,
     Compulsory,
+}
+
+// The opcodes that are carried, ids 7 to 13.
+#[derive(Clone, Copy)]
+pub enum Kind {
+    MapTable,
+    MapPolynomial,
+    GainMap,
+    DeltaPerRow,
+    DeltaPerColumn,
+    ScalePerRow,
+    ScalePerColumn,
 }
 
 // What stands behind a grid and its LONG: whether the LONG is legal, how many bytes, and how many of
@@ -70,15 +82,28 @@ fn listed(id: usize) -> bool
     within(7, id, 13)
 }
 
+// The kind of an id that is listed.
+pub fn kind_of(id: usize) -> Kind
+    requires { listed_id id ≡ true }
+    ensures { id_of result ≡ id }
+{
+    match id {
+        7 => Kind::MapTable,
+        8 => Kind::MapPolynomial,
+        9 => Kind::GainMap,
+        10 => Kind::DeltaPerRow,
+        11 => Kind::DeltaPerColumn,
+        12 => Kind::ScalePerRow,
+        _ => Kind::ScalePerColumn,
+    }
+}
+
 pub fn classify(header: Header) -> Class
     ensures { result ≡ class_of header }
 {
-    if listed(header.id) {
-        if header.version <= 0x0107_0100 {
-            return Class::Carried;
-        }
-    }
-    if header.flags % 2 == 1 {
+    if listed(header.id) && header.version <= 0x0107_0100 {
+        Class::Carried
+    } else if header.flags % 2 == 1 {
         Class::Optional
     } else {
         Class::Compulsory
@@ -121,28 +146,20 @@ fn lines_form(lines: usize, n: usize) -> Form
     }
 }
 
-fn by_row(id: usize) -> bool
-    ensures { result ≡ (id == 10 || id == 12) }
-{
-    id == 10 || id == 12
-}
-
-fn form_for(grid: Grid, id: usize, n: usize) -> Form
+// The form of an opcode that is no GainMap.
+fn form_for(grid: Grid, kind: Kind, n: usize) -> Form
     requires top_le_bottom { (grid.top ≤ grid.bottom) × (grid.bottom ≤ 16384) × (1 ≤ grid.row_pitch) × (grid.row_pitch < 0x1_0000_0000) }
     requires left_le_right { (grid.left ≤ grid.right) × (grid.right ≤ 16384) × (1 ≤ grid.column_pitch) × (grid.column_pitch < 0x1_0000_0000) }
     requires n_bound { n < 0x1_0000_0000 }
-    ensures { result ≡ form_of grid id n }
+    ensures { result ≡ form_of grid (id_of kind) n }
 {
-    if id == 7 {
-        return table_form(n);
-    }
-    if id == 8 {
-        return polynomial_form(n);
-    }
-    if by_row(id) {
-        lines_form(grid::lines(grid.top, grid.bottom, grid.row_pitch), n)
-    } else {
-        lines_form(grid::lines(grid.left, grid.right, grid.column_pitch), n)
+    match kind {
+        Kind::MapTable => table_form(n),
+        Kind::MapPolynomial => polynomial_form(n),
+        Kind::DeltaPerRow | Kind::ScalePerRow => {
+            lines_form(grid::lines(grid.top, grid.bottom, grid.row_pitch), n)
+        }
+        _ => lines_form(grid::lines(grid.left, grid.right, grid.column_pitch), n),
     }
 }
 
@@ -162,14 +179,12 @@ fn refused_in(file: &[u8], width: usize, at: usize, n: usize) -> bool
     requires { (at + width * n ≤ length file.now) × (0 < n → (width ≡ 4) ⊎ (width ≡ 8)) }
     ensures { result ≡ refused_in width file.now at n }
 {
-    let mut left = n;
     let mut p = at;
-    while 0 < left {
+    for _ in 0..n {
         if refused_at(file, width, p) {
             return true;
         }
         p += width;
-        left -= 1;
     }
     false
 }
@@ -178,33 +193,29 @@ fn exact(form: Form, length: usize) -> bool
     requires { form.bytes < 0x1000_0000_0000 }
     ensures { result ≡ exact_of form length }
 {
-    let legal = form.legal;
-    if legal {
-        length == 36 + form.bytes
-    } else {
-        false
-    }
+    form.legal && length == 36 + form.bytes
 }
 
 // An opcode's own bytes, where it is no GainMap; it is the i-th of the list.
-fn test_plain(ps: &[u8], size: Size, id: usize, i: usize) -> Result<(), Refusal>
+fn test_plain(ps: &[u8], size: Size, kind: Kind, i: usize) -> Result<(), Refusal>
     requires { (size.rows ≤ 16384) × (size.columns ≤ 16384) }
-    ensures { TestedBy (plain_fault size id ps.now) i result }
+    ensures { passed result ≡ tested (plain_fault size (id_of kind) ps.now) i }
 {
     if ps.len() < 36 {
         return Err(Refusal::Malformed(i));
     }
     let g = grid::grid_at(ps, 0);
-    if grid::fits(size, g) {
-        let m = form_for(g, id, grid::field(ps, 32));
-        if exact(m, ps.len()) {
-            if refused_in(ps, m.width, 36, m.numbers) {
-                return Err(Refusal::NotFinite(i));
-            }
-            return Ok(());
-        }
+    if !grid::fits(size, g) {
+        return Err(Refusal::Malformed(i));
     }
-    Err(Refusal::Malformed(i))
+    let m = form_for(g, kind, grid::field(ps, 32));
+    if !exact(m, ps.len()) {
+        return Err(Refusal::Malformed(i));
+    }
+    if refused_in(ps, m.width, 36, m.numbers) {
+        return Err(Refusal::NotFinite(i));
+    }
+    Ok(())
 }
 
 // Whether one of a GainMap's numbers is refused: four DOUBLEs, and the gains.
@@ -212,48 +223,53 @@ fn gain_map_refused(ps: &[u8], n: usize) -> bool
     requires { 76 + 4 * n ≤ length ps.now }
     ensures { result ≡ (refused_in 8 ps.now 40 4 || refused_in 4 ps.now 76 n) }
 {
-    if refused_in(ps, 8, 40, 4) {
-        return true;
-    }
-    refused_in(ps, 4, 76, n)
+    refused_in(ps, 8, 40, 4) || refused_in(ps, 4, 76, n)
 }
 
 // A GainMap's own bytes; it is the i-th of the list.
 fn test_gain_map(ps: &[u8], size: Size, i: usize) -> Result<(), Refusal>
-    ensures { TestedBy (gain_map_fault size ps.now) i result }
+    ensures { passed result ≡ tested (gain_map_fault size ps.now) i }
 {
     if ps.len() < 76 {
         return Err(Refusal::Malformed(i));
     }
     let g = grid::grid_at(ps, 0);
-    if grid::fits(size, g) {
-        if gain_map::legal(ps) {
-            let n = gain_map::count(ps);
-            if ps.len() == 76 + 4 * n {
-                if gain_map_refused(ps, n) {
-                    return Err(Refusal::NotFinite(i));
-                }
-                return Ok(());
-            }
-        }
+    if !grid::fits(size, g) {
+        return Err(Refusal::Malformed(i));
     }
-    Err(Refusal::Malformed(i))
+    if !gain_map::legal(ps) {
+        return Err(Refusal::Malformed(i));
+    }
+    let n = gain_map::count(ps);
+    if ps.len() != 76 + 4 * n {
+        return Err(Refusal::Malformed(i));
+    }
+    if gain_map_refused(ps, n) {
+        return Err(Refusal::NotFinite(i));
+    }
+    Ok(())
 }
 
 // The parameters of the i-th opcode, in its own bytes.
-fn test_parameters(ps: &[u8], size: Size, id: usize, i: usize) -> Result<(), Refusal>
+fn test_parameters(ps: &[u8], size: Size, kind: Kind, i: usize) -> Result<(), Refusal>
     requires { (size.rows ≤ 16384) × (size.columns ≤ 16384) }
-    ensures { TestedBy (opcode_fault size id ps.now) i result }
+    ensures { passed result ≡ tested (opcode_fault size (id_of kind) ps.now) i }
 {
-    if id == 9 {
-        test_gain_map(ps, size, i)
-    } else {
-        test_plain(ps, size, id, i)
+    match kind {
+        Kind::GainMap => test_gain_map(ps, size, i),
+        _ => test_plain(ps, size, kind, i),
     }
 }
 
 // The i-th opcode, whose header stands at a place, counted.
-fn judge(file: &[u8], size: Size, i: usize, at: usize, header: Header, counts: Counts) -> Result<Counts, Refusal>
+fn judge(
+    file: &[u8],
+    size: Size,
+    i: usize,
+    at: usize,
+    header: Header,
+    counts: Counts,
+) -> Result<Counts, Refusal>
     requires length_in_bounds { (at + 16 + header.length ≤ length file.now) × (size.rows ≤ 16384) × (size.columns ≤ 16384) }
     requires kept_bound { (counts.kept ≤ 32) × (counts.skipped ≤ 32) }
     ensures { out result ≡ counted_one counts (run file.now (opcode_reading (class_of header) size i at header)) }
@@ -261,22 +277,29 @@ fn judge(file: &[u8], size: Size, i: usize, at: usize, header: Header, counts: C
     match classify(header) {
         Class::Carried => {
             let from = at + 16;
-            test_parameters(&file[from..from + header.length], size, header.id, i)?;
+            let kind = kind_of(header.id);
+            test_parameters(&file[from..from + header.length], size, kind, i)?;
             Ok(Counts {
                 kept: counts.kept + 1,
-                skipped: counts.skipped,
+                ..counts
             })
         }
         Class::Optional => Ok(Counts {
-            kept: counts.kept,
             skipped: counts.skipped + 1,
+            ..counts
         }),
         Class::Compulsory => Err(Refusal::Compulsory(i)),
     }
 }
 
 // So many opcodes in the bytes from a place on.
-fn test_opcodes(file: &[u8], size: Size, count: usize, at: usize, bytes: usize) -> Result<Counts, Refusal>
+fn test_opcodes(
+    file: &[u8],
+    size: Size,
+    count: usize,
+    at: usize,
+    bytes: usize,
+) -> Result<Counts, Refusal>
     requires { (at + bytes ≤ length file.now) × (size.rows ≤ 16384) × (size.columns ≤ 16384) × (count ≤ 32) }
     ensures { out result ≡ counted_on none (run file.now (list_from size count 0 at bytes)) }
 {

@@ -2,8 +2,9 @@
 ghost use Rattle.std.specs.Prelude.{◌≡◌, ◌+◌, ◌*◌, ◌≤◌, true, length};
 ghost use Rattle.opcodes.specs.Facts.StepAt.{plain_id, float_at, FloatIn, step_of, StepAtIn};
 
+use crate::list::Kind;
 use crate::step::Step;
-use crate::{grid, step};
+use crate::{grid, list, step};
 use reading::number::Order;
 use reading::{number, real};
 
@@ -29,22 +30,12 @@ pub fn step_for(file: &[u8], at: usize, id: usize, i: usize, j: usize) -> Step
     requires { StepAtIn file.now at id i j × (plain_id id ≡ true) }
     ensures { result ≡ step_of file.now at id i j }
 {
-    if id == 7 {
-        return Step::Table(at + 32);
-    }
-    if id == 8 {
-        let degree = grid::field(file, at + 32);
-        return step::polynomial_at(file, at + 36, degree + 1);
-    }
-    if id == 10 {
-        return Step::Add(float_value(file, at, i));
-    }
-    if id == 11 {
-        return Step::Add(float_value(file, at, j));
-    }
-    if id == 12 {
-        Step::Scale(float_value(file, at, i))
-    } else {
-        Step::Scale(float_value(file, at, j))
+    match list::kind_of(id) {
+        Kind::MapTable => Step::Table(at + 32),
+        Kind::MapPolynomial => step::polynomial_at(file, at + 36, grid::field(file, at + 32) + 1),
+        Kind::DeltaPerRow => Step::Add(float_value(file, at, i)),
+        Kind::DeltaPerColumn => Step::Add(float_value(file, at, j)),
+        Kind::ScalePerRow => Step::Scale(float_value(file, at, i)),
+        _ => Step::Scale(float_value(file, at, j)),
     }
 }

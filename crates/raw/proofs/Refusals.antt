@@ -4,8 +4,9 @@ use Prim.Native.Nat.{ℕ, zero, suc, ◌+◌, ◌-◌, min}
 use lib.Dec.{lit<}
 use Rattle.reading.specs.declared.number.Order.{Order}
 use Rattle.levels.specs.Levels.{Levels}
-use Rattle.levels.specs.declared.black.Black.{Black}
-use Rattle.levels.specs.declared.black.Black.TheVariants as black
+use Rattle.std.specs.Prelude.{Result, Ok, Err}
+use Rattle.levels.specs.declared.black.BlackFault.{BlackFault}
+use Rattle.levels.specs.declared.black.BlackFault.TheVariants as black
 use Rattle.levels.specs.declared.black.BlackKind.{BlackKind}
 use Rattle.directory.specs.declared.Ifd.{Ifd}
 use Rattle.directory.specs.declared.tag.Kinds.{Kinds}
@@ -88,10 +89,10 @@ unfolding repeat_reading pair_reading side_reading
 repeat_small d = search tags depth 10
 
 module _ (tag : ℕ) (small : SmallDetail tag) where
-  black_out_law : (b : Black) → SmallRefusal (black_out tag b)
-  black_out_law (black.Parts b) = tt
-  black_out_law black.Illegal = (lit< tt, small)
-  black_out_law black.NotCarried = (lit< tt, small)
+  black_out_law : (b : Result (Unit {0}) BlackFault) → SmallRefusal (black_out tag b)
+  black_out_law (Ok u) = tt
+  black_out_law (Err black.Illegal) = (lit< tt, small)
+  black_out_law (Err black.NotCarried) = (lit< tt, small)
 
   blacks_small : (o : Order) (k : BlackKind) (size n p : ℕ) → SmallRefusals (blacks_test o tag k size n p)
   unfolding blacks_test

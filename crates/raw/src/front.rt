@@ -6,9 +6,9 @@ ghost use Rattle.directory.specs.Facts.Shape.{Tested};
 ghost use Rattle.raw.specs.Front.{raw_reading, front_reading};
 ghost use Rattle.raw.specs.Facts.Front.{RawIn, FrontIn};
 
-use directory::refusal::Refusal;
 use crate::spans;
 use crate::spans::Spans;
+use directory::refusal::Refusal;
 use directory::{Ifd, tree};
 use rawtags::Tags;
 use reading::number::Order;
@@ -37,7 +37,7 @@ fn raw_of(file: &[u8], ifd: Ifd) -> Result<Raw, Refusal>
     let order = ifd.order;
     let tags = rawtags::tags_of(file, ifd)?;
     let spans = spans::spans_of(file, order, tags)?;
-Ok(Raw { tags, spans })
+    Ok(Raw { tags, spans })
 }
 
 pub fn open(file: &[u8]) -> Result<Picture, Refusal>
@@ -48,5 +48,10 @@ pub fn open(file: &[u8]) -> Result<Picture, Refusal>
     let ifd = roots.raw;
     let order = ifd.order;
     let raw = raw_of(file, ifd)?;
-Ok(Picture { first, directory: ifd, order, raw, })
+    Ok(Picture {
+        first,
+        directory: ifd,
+        order,
+        raw,
+    })
 }

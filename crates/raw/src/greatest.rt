@@ -15,7 +15,6 @@ use directory::tag::Values;
 use levels::active::{ActiveColumn, ActiveRow};
 use levels::black::BlackKind;
 use rawtags::Tags;
-use reading::number;
 use reading::number::Order;
 
 // The greatest deltas of the columns and of the rows, by residue: by the column and the row of the repeat that they meet.
@@ -44,11 +43,8 @@ fn greatest_delta(
     }
     let times = (n - 1 - first) / step + 1;
     let mut best = sample::delta_at(file, order, deltas, first);
-    let mut k = 1;
-    while k < times {
-        let next = sample::delta_at(file, order, deltas, first + step * k);
-        best = levels::greater(best, next);
-        k += 1;
+    for k in 1..times {
+        best = best.max(sample::delta_at(file, order, deltas, first + step * k));
     }
     best
 }
@@ -59,12 +55,9 @@ fn by_residue(file: &[u8], order: Order, deltas: Values, n: usize, step: usize) 
     requires n_bound { (n ≤ 16384) × (1 ≤ step) × (step ≤ 8) }
     ensures { ByResidue (run file.now (blacks_reading order BlackKind.SignedRational deltas)) n step result }
 {
-    let last = number::smaller(step, n);
     let mut found = [0; 8];
-    let mut i = 0;
-    while i < last {
+    for i in 0..step.min(n) {
         found[i] = greatest_delta(file, order, deltas, n, step, i);
-        i += 1;
     }
     found
 }
@@ -124,13 +117,9 @@ fn greatest_by_residues(
     ensures value { result ≡ greatest_by_residues (run file.now (levels_reading order tags)) deltas.columns deltas.rows plane down across }
     ensures result_bound { nat_abs result ≤ 50330880 }
 {
-    let pairs = down * across;
     let mut best = residue_black(file, order, tags, deltas, plane, 0, 0);
-    let mut k = 1;
-    while k < pairs {
-        let next = residue_black(file, order, tags, deltas, plane, k / across, k % across);
-        best = levels::greater(best, next);
-        k += 1;
+    for k in 1..down * across {
+        best = best.max(residue_black(file, order, tags, deltas, plane, k / across, k % across));
     }
     best
 }
@@ -152,7 +141,7 @@ pub fn greatest_black(
     let repeat = tags.levels.repeat;
     let rows = area.bottom - area.top;
     let columns = area.right - area.left;
-    let down = number::smaller(repeat.rows, rows);
-    let across = number::smaller(repeat.columns, columns);
+    let down = repeat.rows.min(rows);
+    let across = repeat.columns.min(columns);
     greatest_by_residues(file, order, tags, deltas, plane, down, across)
 }

@@ -5,13 +5,16 @@ use mathlib.Core.Path.{◌≡◌, refl, sym, subst, ◌∙◌}
 use mathlib.Core.Bool.{Bool, true, false}
 use mathlib.Core.List.{List}
 use mathlib.Core.Logic.{◌⊎◌, inl, inr, ⊎_elim}
-use Prim.Native.Nat.{ℕ, ◌≤◌}
+use Prim.Native.Nat.{ℕ, ◌+◌, ◌*◌, ◌≤◌}
 use native.Mathlib.Omega.{arith}
 use lib.Dec.{eqb, leb, ltb}
-use borrow.Author.Tests.{eqb-true, eqb-false, leb-true, leb-false, ltb-true, ltb-false}
+use borrow.Author.Tests.{eq-eqb, ne_eqb, eqb-true, eqb-false, leb-true, ltb-true}
+use Rattle.reading.specs.Bytes.{part}
+use Rattle.reading.specs.Number.{number_of}
 use Rattle.reading.specs.Reading.{Reading.answer, pick, run}
-use Rattle.reading.proofs.Reading.{run_answer}
-use Rattle.directory.specs.Out.{Out.refused, Out.is}
+use Rattle.reading.specs.declared.number.Order.{Order}
+use Rattle.reading.proofs.Reading.{running, run_answer}
+use Rattle.directory.specs.Out.{Out, Out.refused, Out.is}
 use Rattle.directory.specs.Tag.{values_reading, one_reading, required, optional, range}
 use Rattle.directory.specs.declared.Ifd.{Ifd}
 use Rattle.directory.specs.declared.tag.Kinds.TheVariants as kinds
@@ -27,25 +30,38 @@ use Rattle.rawtags.specs.declared.Tags.{Tags}
 use Rattle.rawtags.specs.declared.frame.Dimensions.{Dimensions}
 use Rattle.rawtags.specs.declared.area.Area.{Area}
 use Rattle.rawtags.proofs.TagsLaws.{tags_read}
-use Rattle.rawtags.proofs.AreaLaws.{area_rows, area_bottom, area_columns, area_right, area_is, four_whole, four_is}
 
 area_of_in : (v : Dimensions) (x a : Area) → is a ≡ area_of v x → AreaWithin v a
-area_of_in v x a e =
-    go (ltb x.top x.bottom) refl (leb x.bottom v.length) refl (ltb x.left x.right) refl (leb x.right v.width) refl
+unfolding area_of pick
+area_of_in v x a =
+    go (ltb x.top x.bottom) (leb x.bottom v.length) (ltb x.left x.right) (leb x.right v.width) refl refl refl refl
   where
+    no : Out Area
+    no = refused 4 active_area
+
     go :
-        (s : Bool) → ltb x.top x.bottom ≡ s → (t : Bool) → leb x.bottom v.length ≡ t →
-        (y : Bool) → ltb x.left x.right ≡ y → (z : Bool) → leb x.right v.width ≡ z → AreaWithin v a
-    go false p t q y g z h = absurd (not_refused a 4 active_area (e ∙ sym (area_rows v x (ltb-false _ _ p))))
-    go true p false q y g z h = absurd (not_refused a 4 active_area (e ∙ sym (area_bottom v x (ltb-true _ _ p) (leb-false _ _ q))))
-    go true p true q false g z h =
-        absurd (not_refused a 4 active_area (e ∙ sym (area_columns v x (ltb-true _ _ p) (leb-true _ _ q) (ltb-false _ _ g))))
-    go true p true q true g false h =
-        absurd (not_refused a 4 active_area (e ∙ sym (area_right v x (ltb-true _ _ p) (leb-true _ _ q) (ltb-true _ _ g) (leb-false _ _ h))))
-    go true p true q true g true h =
-        let i = area_is v x (ltb-true _ _ p) (leb-true _ _ q) (ltb-true _ _ g) (leb-true _ _ h) in
-        subst (AreaWithin v) (sym (same_value a x (e ∙ sym i)))
+        (s t y z : Bool) → ltb x.top x.bottom ≡ s → leb x.bottom v.length ≡ t → ltb x.left x.right ≡ y → leb x.right v.width ≡ z →
+        is a ≡ pick s (pick t (pick y (pick z (is x) no) no) no) no → AreaWithin v a
+    go false t y z p q g h e = absurd (not_refused a 4 active_area e)
+    go true false y z p q g h e = absurd (not_refused a 4 active_area e)
+    go true true false z p q g h e = absurd (not_refused a 4 active_area e)
+    go true true true false p q g h e = absurd (not_refused a 4 active_area e)
+    go true true true true p q g h e =
+        subst (AreaWithin v) (sym (same_value a x e))
         (record { rows = ltb-true _ _ p; columns = ltb-true _ _ g; bottom = leb-true _ _ q; right = leb-true _ _ h })
+
+module _ (f : List ℕ) (o : Order) (v : Dimensions) (x : Values) where
+  four_whole : x.count ≡ 0 → run f (four_reading o v x) ≡ is (area 0 0 v.length v.width)
+  unfolding four_reading
+  four_whole e = simp (eq-eqb _ _ e, running)
+
+  at : ℕ → ℕ
+  at p = number_of o (part f p x.size)
+
+  four_is : (x.count ≡ 0 → ⊥) → run f (four_reading o v x) ≡ area_of v
+      (area (at x.place) (at (x.place + x.size)) (at (x.place + 2 * x.size)) (at (x.place + 3 * x.size)))
+  unfolding four_reading at
+  four_is e = simp (ne_eqb _ _ e, running)
 
 area_in : (f : List ℕ) (d : Ifd) (v : Dimensions) → 1 ≤ v.length → 1 ≤ v.width → (a : Area) → is a ≡ run f (area_reading d v) → AreaWithin v a
 unfolding area_reading
@@ -55,9 +71,9 @@ area_in f d v rows columns a e =
   where
     go : (x : Values) → is a ≡ run f (four_reading d.order v x) → (b : Bool) → eqb x.count 0 ≡ b → AreaWithin v a
     go x q true z =
-        subst (AreaWithin v) (sym (same_value a (area 0 0 v.length v.width) (q ∙ sym (four_whole f d.order v x (eqb-true _ _ z)))))
+        subst (AreaWithin v) (sym (same_value a (area 0 0 v.length v.width) (q ∙ four_whole f d.order v x (eqb-true _ _ z))))
         (record { rows = omega arith; columns = omega arith; bottom = omega arith; right = omega arith })
-    go x q false z = area_of_in v _ a (q ∙ sym (four_is f d.order v x (eqb-false _ _ z) _ _ _ _ refl refl refl refl))
+    go x q false z = area_of_in v _ a (q ∙ four_is f d.order v x (eqb-false _ _ z))
 
 -- none, one plane or three
 samples_known : (p : ℕ) → (samples_of p ≡ 0) ⊎ ((samples_of p ≡ 1) ⊎ (samples_of p ≡ 3))

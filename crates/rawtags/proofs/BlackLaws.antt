@@ -8,7 +8,6 @@ use mathlib.Core.List.{List}
 use mathlib.Core.Bool.{true}
 use mathlib.Core.Logic.{⊎_elim}
 use Prim.Native.Nat.{ℕ, ◌+◌, ◌*◌, ◌≤◌, ◌<◌}
-use native.Mathlib.Nat.{mul-le-mul}
 use native.Mathlib.Omega.{arith}
 use lib.ListN.{length}
 use Rattle.levels.proofs.Runs.{within, run_same}
@@ -32,7 +31,7 @@ use Rattle.directory.specs.declared.tag.Values.{Values}
 use Rattle.directory.proofs.Outs.{bind_inverse}
 use Rattle.levels.specs.Run.{run_of}
 use Rattle.levels.specs.Black.{black_of, width_of, value_of, black_at, first_refused}
-use Rattle.levels.specs.declared.black.Black.{Black}
+use Rattle.levels.specs.declared.black.BlackFault.{BlackFault}
 use Rattle.rawtags.specs.Black.{kind_for, black_out, blacks_test}
 use Rattle.rawtags.specs.White.{white_reading, white_rule}
 use Rattle.rawtags.specs.Facts.White.{WhitesIn}
@@ -51,12 +50,6 @@ width_most kind.Long8 = omega arith
 width_most kind.Rational = omega arith
 width_most kind.SignedRational = omega arith
 
-pub cells_fit : (r c s : ℕ) → r ≤ 8 → c ≤ 8 → s ≤ 3 → r * c * s ≤ 192
-cells_fit r c s a b d = mul-le-mul (mul-le-mul a b) d
-
-pub pair_fits : (r c : ℕ) → r ≤ 8 → c ≤ 8 → r * c ≤ 64
-pair_fits r c a b = mul-le-mul a b
-
 module _ (f : List ℕ) (o : Order) (k : BlackKind) (size n p : ℕ) (sized : 0 < n → size ≡ width_of k) where
   -- a tag's values are the same in its bytes and in the file
   same_run : run_of (black_at k o (part f p (size * n))) size 0 n ≡ run_of (black_at k o f) size p n
@@ -69,7 +62,7 @@ module _ (f : List ℕ) (o : Order) (k : BlackKind) (size n p : ℕ) (sized : 0 
       ap (λ (bs : List ℕ). black_of (value_of k o bs))
       (part_part f p (size * n) (0 + size * i) (width_of k) b ∙ ap (λ (q : ℕ). part f q (width_of k)) g))
 
-  pub blacks_test_law : (tag : ℕ) (b : Black) → b ≡ first_refused (run_of (black_at k o f) size p n) →
+  pub blacks_test_law : (tag : ℕ) (b : Result (Unit {0}) BlackFault) → b ≡ first_refused (run_of (black_at k o f) size p n) →
       black_out tag b ≡ run f (blacks_test o tag k size n p)
   unfolding blacks_test
   blacks_test_law tag b e = ap (black_out tag) (e ∙ sym (ap first_refused same_run)) ∙ sym (simp running)

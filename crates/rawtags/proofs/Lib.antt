@@ -1,12 +1,10 @@
+pub mod Chain
 pub mod Strip
-pub mod AreaLaws
-pub mod RepeatLaws
 pub mod WholeLaws
 pub mod CropLaws
 pub mod CropExamples
 pub mod PatternLaws
 pub mod PatternExamples
-pub mod Depth
 pub mod BlackLaws
 pub mod Ranges
 pub mod TagsLaws

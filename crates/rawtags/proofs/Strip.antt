@@ -5,7 +5,7 @@ use mathlib.Core.Path.{◌≡◌, refl, sym, ap, subst, ◌∙◌}
 use mathlib.Core.Bool.{Bool, true, false}
 use mathlib.Core.List.{List}
 use Prim.Native.Nat.{ℕ, zero, suc, ◌+◌, ◌*◌, ◌-◌, ◌/◌, ◌≤◌, ◌<◌, min}
-use native.Mathlib.Nat.{mul-le-mul, mul-suc, add-div_right}
+use native.Mathlib.Nat.{mul-suc, add-div_right}
 use native.Mathlib.Numerals.{add-one}
 use native.Mathlib.Omega.{arith}
 use lib.Dec.{eqb, leb}
@@ -18,15 +18,6 @@ use Rattle.reading.proofs.Reading.{running, run_answer}
 use Rattle.directory.specs.Out.{Out.refused, Out.is}
 use Rattle.rawtags.specs.Strips.{strip_from}
 use Rattle.directory.proofs.Outs.{not_refused}
-
-pub strip_bytes_fit : (here row : ℕ) → here ≤ 16384 → row ≤ 98304 → here * row ≤ 1610612736
-strip_bytes_fit here row h r = mul-le-mul h r
-
-pub wide_fits : (w s : ℕ) → w ≤ 16384 → s ≤ 3 → w * s ≤ 49152
-wide_fits w s h r = mul-le-mul h r
-
-pub row_fits : (w s b : ℕ) → w ≤ 16384 → s ≤ 3 → b ≤ 2 → w * s * b ≤ 98304
-row_fits w s b h r k = mul-le-mul (wide_fits w s h r) k
 
 -- "length / rows per strip, rounded up": the same as (length + rows - 1) / rows, which is more than a word for great rows
 rounded_up : (n r : ℕ) → 1 ≤ n → 1 ≤ r → (n - 1) / r + 1 ≡ (n + r - 1) / r

@@ -1,14 +1,13 @@
--- The tags of the raw directory, case by case: the first that is refused answers, and where none is, all of them.
+-- The tags of the raw directory, step by step.
 -- Assumes nothing.
 use mathlib.Core.Path.{◌≡◌, sym, subst, ◌∙◌}
 use mathlib.Core.List.{List}
 use Prim.Native.Nat.{ℕ}
 use Rattle.reading.specs.Reading.{run}
 use Rattle.reading.proofs.Reading.{run_answer}
-use Rattle.directory.specs.Out.{Out.refused, Out.is}
+use Rattle.directory.specs.Out.{Out.is}
 use Rattle.directory.specs.declared.Ifd.{Ifd}
-use Rattle.directory.specs.declared.tag.Values.{Values}
-use Rattle.directory.proofs.Outs.{bind_refused, bind_is, bind_inverse, same_value}
+use Rattle.directory.proofs.Outs.{bind_inverse, same_value}
 use Rattle.rawtags.specs.Frame.{frame_reading}
 use Rattle.rawtags.specs.Layout.{layout_reading}
 use Rattle.rawtags.specs.Strips.{strips_reading}
@@ -17,66 +16,9 @@ use Rattle.rawtags.specs.LevelTags.{level_tags_reading}
 use Rattle.rawtags.specs.Crop.{crop_reading}
 use Rattle.rawtags.specs.Lists.{list_tag_reading}
 use Rattle.rawtags.specs.Raw.{active_rows, active_columns, tags_reading}
-use Rattle.rawtags.specs.declared.frame.Dimensions.{Dimensions}
-use Rattle.rawtags.specs.declared.layout.Layout.{Layout}
-use Rattle.rawtags.specs.declared.area.Area.{Area}
-use Rattle.rawtags.specs.declared.level_tags.LevelTags.{LevelTags}
-use Rattle.rawtags.specs.declared.crop.Crop.{Crop}
 use Rattle.rawtags.specs.declared.Tags.{Tags}
 
-module _ (f : List ℕ) (len : ℕ) (d : Ifd) where
-  abbrev RefusedFirst : ℕ → ℕ → Type 0
-  RefusedFirst n k = refused n k ≡ run f (tags_reading len d)
-
-  pub frame_refused : (n k : ℕ) → refused n k ≡ run f (frame_reading d) → RefusedFirst n k
-  unfolding tags_reading
-  frame_refused n k e = bind_refused _ _ _ n k e
-
-  module _ (v : Dimensions) (ev : is v ≡ run f (frame_reading d)) where
-    pub layout_refused : (n k : ℕ) → refused n k ≡ run f (layout_reading d v.samples) → RefusedFirst n k
-    unfolding tags_reading
-    layout_refused n k e = bind_refused _ _ _ n k e ∙ sym (bind_is _ _ _ v ev)
-
-    module _ (l : Layout) (el : is l ≡ run f (layout_reading d v.samples)) where
-      pub strips_refused : (n k : ℕ) → refused n k ≡ run f (strips_reading len d v l) → RefusedFirst n k
-      unfolding tags_reading
-      strips_refused n k e = bind_refused _ _ _ n k e ∙ sym (bind_is _ _ _ v ev ∙ bind_is _ _ _ l el)
-
-      module _ (s : Values) (es : is s ≡ run f (strips_reading len d v l)) where
-        pub area_refused : (n k : ℕ) → refused n k ≡ run f (area_reading d v) → RefusedFirst n k
-        unfolding tags_reading
-        area_refused n k e = bind_refused _ _ _ n k e ∙ sym (bind_is _ _ _ v ev ∙ bind_is _ _ _ l el ∙ bind_is _ _ _ s es)
-
-        module _ (a : Area) (ea : is a ≡ run f (area_reading d v)) where
-          pub level_tags_refused : (n k : ℕ) → refused n k ≡ run f (level_tags_reading d v.samples (active_rows a) (active_columns a)) →
-              RefusedFirst n k
-          unfolding tags_reading
-          level_tags_refused n k e =
-              bind_refused _ _ _ n k e ∙ sym (bind_is _ _ _ v ev ∙ bind_is _ _ _ l el ∙ bind_is _ _ _ s es ∙ bind_is _ _ _ a ea)
-
-          module _ (x : LevelTags) (ex : is x ≡ run f (level_tags_reading d v.samples (active_rows a) (active_columns a))) where
-            pub crop_refused : (n k : ℕ) → refused n k ≡ run f (crop_reading d (active_rows a) (active_columns a)) → RefusedFirst n k
-            unfolding tags_reading
-            crop_refused n k e =
-                bind_refused _ _ _ n k e
-                ∙ sym (bind_is _ _ _ v ev ∙ bind_is _ _ _ l el ∙ bind_is _ _ _ s es ∙ bind_is _ _ _ a ea ∙ bind_is _ _ _ x ex)
-
-            module _ (c : Crop) (ec : is c ≡ run f (crop_reading d (active_rows a) (active_columns a))) where
-              pub list_tag_refused : (n k : ℕ) → refused n k ≡ run f (list_tag_reading d) → RefusedFirst n k
-              unfolding tags_reading
-              list_tag_refused n k e =
-                  bind_refused _ _ _ n k e
-                  ∙ sym (bind_is _ _ _ v ev ∙ bind_is _ _ _ l el ∙ bind_is _ _ _ s es ∙ bind_is _ _ _ a ea ∙ bind_is _ _ _ x ex
-                  ∙ bind_is _ _ _ c ec)
-
-              pub tags_are : (o : Values) → is o ≡ run f (list_tag_reading d) →
-                  is (record { frame = v; layout = l; strips = s; area = a; levels = x; crop = c; list = o }) ≡ run f (tags_reading len d)
-              unfolding tags_reading
-              tags_are o eo =
-                  sym (bind_is _ _ _ v ev ∙ bind_is _ _ _ l el ∙ bind_is _ _ _ s es ∙ bind_is _ _ _ a ea ∙ bind_is _ _ _ x ex
-                  ∙ bind_is _ _ _ c ec ∙ bind_is _ _ _ o eo ∙ run_answer _ _)
-
--- ---- and back: what each step read, of tags that none refused
+-- what each step read, of tags that none refused
 pub record TagsRead (f : List ℕ) (len : ℕ) (d : Ifd) (t : Tags) : Type 0 where
   pub frame : is t.frame ≡ run f (frame_reading d)
   pub layout : is t.layout ≡ run f (layout_reading d t.frame.samples)

@@ -1,6 +1,6 @@
 -- Whole numbers, case by case.
 -- Assumes nothing.
-use mathlib.Core.Path.{◌≡◌, refl, sym, ◌∙◌}
+use mathlib.Core.Path.{◌≡◌, refl}
 use mathlib.Core.List.{List}
 use Prim.Native.Nat.{ℕ, ◌+◌, ◌/◌, ◌%◌}
 use borrow.Author.Tests.{eq-eqb, ne_eqb}
@@ -8,14 +8,12 @@ use Rattle.reading.specs.Bytes.{part}
 use Rattle.reading.specs.Number.{number_of}
 use Rattle.reading.specs.Reading.{run}
 use Rattle.reading.specs.declared.number.Order.{Order}
-use Rattle.reading.proofs.Reading.{running, run_answer, pick_yes, pick_no}
+use Rattle.reading.proofs.Reading.{running, pick_yes, pick_no}
 use Rattle.directory.specs.Out.{Out.refused, Out.is}
 use Rattle.directory.specs.Entry.{code_of, kind_width}
 use Rattle.directory.specs.declared.entry.Kind.{Kind}
 use Rattle.directory.specs.declared.tag.Values.{Values}
-use Rattle.directory.proofs.Outs.{bind_refused, bind_is}
-use Rattle.rawtags.specs.Whole.{whole_number_of, whole_number_reading, both_reading}
-use Rattle.rawtags.specs.declared.whole.Lengths.{Lengths}
+use Rattle.rawtags.specs.Whole.{whole_number_of, whole_number_reading}
 
 -- ---- a fraction
 module _ (tag n d : ℕ) where
@@ -49,26 +47,3 @@ module _ (f : List ℕ) (o : Order) (tag : ℕ) (v : Values) where
         whole_number_of tag n 1 ≡ run f (whole_number_reading o tag v at)
     unfolding whole_number_reading
     of_number e n en = simp (ne_eqb _ _ e, running, ← en)
-
-  -- ---- both values
-  module _ (default : Lengths) where
-    pub both_default : v.count ≡ 0 → is default ≡ run f (both_reading o tag default v)
-    unfolding both_reading
-    both_default e = simp (eq-eqb _ _ e, running)
-
-    module _ (e : v.count ≡ 0 → ⊥) where
-      pub horizontal_refused : (n d : ℕ) → refused n d ≡ run f (whole_number_reading o tag v v.place) →
-          refused n d ≡ run f (both_reading o tag default v)
-      unfolding both_reading
-      horizontal_refused n d h = rw (ne_eqb _ _ e, pick_no) (bind_refused _ _ _ n d h)
-
-      module _ (x : ℕ) (ex : is x ≡ run f (whole_number_reading o tag v v.place)) where
-        pub vertical_refused : (n d : ℕ) → refused n d ≡ run f (whole_number_reading o tag v (v.place + v.size)) →
-            refused n d ≡ run f (both_reading o tag default v)
-        unfolding both_reading
-        vertical_refused n d h = rw (ne_eqb _ _ e, pick_no) (bind_refused _ _ _ n d h ∙ sym (bind_is _ _ _ x ex))
-
-        pub both_is : (y : ℕ) → is y ≡ run f (whole_number_reading o tag v (v.place + v.size)) →
-            is (record { horizontal = x; vertical = y }) ≡ run f (both_reading o tag default v)
-        unfolding both_reading
-        both_is y h = rw (ne_eqb _ _ e, pick_no) (sym (bind_is _ _ _ x ex ∙ bind_is _ _ _ y h ∙ run_answer f _))

@@ -9,4 +9,3 @@ pub mod Raw
 pub mod Repeat
 pub mod Strips
 pub mod White
-pub mod Whole

@@ -9,46 +9,39 @@ ghost use Rattle.rawtags.specs.Facts.Repeat.{RepeatWithin};
 ghost use Rattle.rawtags.specs.Black.{kind_for, blacks_test, black_rule, black_reading, delta_rule, delta_reading};
 
 use crate::repeat::Repeat;
-use directory::tag::{Kinds, Rule, Values};
+use directory::entry::Kind;
 use directory::refusal::Refusal;
-use directory::{Ifd, entry, names, tag};
+use directory::tag::{Kinds, Rule, Values};
+use directory::{Ifd, names, tag};
 use levels::black;
 use levels::black::{BlackFault, BlackKind};
 use reading::number::Order;
 
 // The type of a black level by its entry's.
+#[tactic(auto, unfolding(crate::specs::Black::kind_for, reading::specs::Reading::pick))]
 pub fn kind_for(values: Values) -> BlackKind
     ensures { result ≡ kind_for values.kind }
 {
-    let kind = values.kind;
-    let t = entry::code(kind);
-    if t == 3 {
-        return BlackKind::Short;
-    }
-    if t == 4 {
-        return BlackKind::Long;
-    }
-    if t == 16 {
-        BlackKind::Long8
-    } else {
-        BlackKind::Rational
+    match values.kind {
+        Kind::Short => BlackKind::Short,
+        Kind::Long => BlackKind::Long,
+        Kind::Long8 => BlackKind::Long8,
+        _ => BlackKind::Rational,
     }
 }
 
-// So many black levels from a place on.
+// The black levels of a tag.
 fn check_blacks(
     file: &[u8],
     order: Order,
     tag: usize,
     kind: BlackKind,
-    size: usize,
-    count: usize,
-    place: usize,
+    v: Values,
 ) -> Result<(), Refusal>
-    requires { (place + size * count ≤ length file.now) × (0 < count → size ≡ width_of kind) }
-    ensures { passed result ≡ run file.now (blacks_test order tag kind size count place) }
+    requires { (v.place + v.size * v.count ≤ length file.now) × (0 < v.count → v.size ≡ width_of kind) }
+    ensures { passed result ≡ run file.now (blacks_test order tag kind v.size v.count v.place) }
 {
-    match black::first_refused(file, order, kind, place, size, count) {
+    match black::first_refused(file, order, kind, v.place, v.size, v.count) {
         Ok(()) => Ok(()),
         Err(BlackFault::Illegal) => Err(Refusal::Illegal(tag)),
         Err(BlackFault::NotCarried) => Err(Refusal::NotCarried(tag)),
@@ -56,6 +49,7 @@ fn check_blacks(
 }
 
 // BlackLevel.
+#[tactic(auto, using(crate::proofs::Chain::chain), unfolding(crate::specs::Black::black_reading))]
 pub fn black_of(file: &[u8], ifd: Ifd, repeat: Repeat, samples: usize) -> Result<Values, Refusal>
     requires tested { Tested file.now ifd }
     requires repeat_in { RepeatWithin repeat × (samples ≤ 3) }
@@ -63,49 +57,20 @@ pub fn black_of(file: &[u8], ifd: Ifd, repeat: Repeat, samples: usize) -> Result
     ensures values_in { ValuesIn (length file.now) (black_rule repeat samples) result }
 {
     let cells = repeat.rows * repeat.columns * samples;
-    let rule = Rule {
-        tag: names::BLACK_LEVEL,
-        kinds: Kinds::ShortLongOrRational,
-        required: false,
-        least: cells,
-        most: cells,
-    };
+    let rule = Rule::optional(names::BLACK_LEVEL, Kinds::ShortLongOrRational, cells);
     let v = tag::look_up(file, ifd, rule)?;
-    let size = v.size;
-    let place = v.place;
-    let count = v.count;
-    let order = ifd.order;
-    let kind = kind_for(v);
-    check_blacks(file, order, names::BLACK_LEVEL, kind, size, count, place)?;
-Ok(v)
+    check_blacks(file, ifd.order, names::BLACK_LEVEL, kind_for(v), v)?;
+    Ok(v)
 }
 
 // BlackLevelDeltaH or BlackLevelDeltaV.
+#[tactic(auto, using(crate::proofs::Chain::chain), unfolding(crate::specs::Black::delta_reading))]
 pub fn delta_of(file: &[u8], ifd: Ifd, tag: usize, many: usize) -> Result<Values, Refusal>
     requires { Tested file.now ifd }
     ensures result_value { out result ≡ run file.now (delta_reading ifd tag many) }
     ensures values_in { ValuesIn (length file.now) (delta_rule tag many) result }
 {
-    let rule = Rule {
-        tag,
-        kinds: Kinds::SignedRational,
-        required: false,
-        least: many,
-        most: many,
-    };
-    let v = tag::look_up(file, ifd, rule)?;
-    let size = v.size;
-    let place = v.place;
-    let count = v.count;
-    let order = ifd.order;
-    check_blacks(
-        file,
-        order,
-        tag,
-        BlackKind::SignedRational,
-        size,
-        count,
-        place,
-    )?;
-Ok(v)
+    let v = tag::look_up(file, ifd, Rule::optional(tag, Kinds::SignedRational, many))?;
+    check_blacks(file, ifd.order, tag, BlackKind::SignedRational, v)?;
+    Ok(v)
 }

@@ -6,9 +6,9 @@ ghost use Rattle.directory.specs.Facts.Shape.{Tested};
 ghost use Rattle.rawtags.specs.Crop.{crop_of, crop_from, crop_reading};
 ghost use Rattle.rawtags.specs.Facts.Crop.{CropIn};
 
-use directory::refusal::Refusal;
 use crate::whole;
 use crate::whole::Lengths;
+use directory::refusal::Refusal;
 use directory::{Ifd, names};
 use reading::number;
 
@@ -21,6 +21,7 @@ pub struct Crop {
     pub rows: usize,
 }
 
+#[tactic(auto, using(reading::proofs::Bytes::some_inside_law), unfolding(crate::specs::Crop::crop_of, reading::specs::Reading::pick))]
 fn tested_crop(origin: Lengths, size: Lengths, rows: usize, columns: usize) -> Result<Crop, Refusal>
     ensures { (out result ≡ crop_of rows columns (crop_from origin size)) × CropIn rows columns result }
 {
@@ -30,15 +31,17 @@ fn tested_crop(origin: Lengths, size: Lengths, rows: usize, columns: usize) -> R
         columns: size.horizontal,
         rows: size.vertical,
     };
-    if number::some_inside(crop.left, crop.columns, columns) {
-        if number::some_inside(crop.top, crop.rows, rows) {
-            return Ok(crop);
-        }
+    if number::some_inside(crop.left, crop.columns, columns)
+        && number::some_inside(crop.top, crop.rows, rows)
+    {
+        Ok(crop)
+    } else {
+        Err(Refusal::Illegal(names::DEFAULT_CROP_SIZE))
     }
-    Err(Refusal::Illegal(names::DEFAULT_CROP_SIZE))
 }
 
 // Of so many active rows and columns.
+#[tactic(auto, using(crate::proofs::Chain::chain), unfolding(crate::specs::Crop::crop_reading))]
 pub fn crop_of(file: &[u8], ifd: Ifd, rows: usize, columns: usize) -> Result<Crop, Refusal>
     requires { Tested file.now ifd }
     ensures { (out result ≡ run file.now (crop_reading ifd rows columns)) × CropIn rows columns result }

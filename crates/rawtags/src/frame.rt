@@ -1,5 +1,5 @@
 // The frame: ImageWidth, ImageLength, PhotometricInterpretation, SamplesPerPixel.
-ghost use Rattle.std.specs.Prelude.{◌≡◌};
+ghost use Rattle.std.specs.Prelude.{◌≡◌, ◌⊎◌, MatchOption};
 ghost use Rattle.reading.specs.Reading.{run};
 ghost use Rattle.directory.specs.Facts.Out.{out};
 ghost use Rattle.directory.specs.Facts.Shape.{Tested};
@@ -7,11 +7,11 @@ ghost use Rattle.directory.specs.Facts.Tag.{NumberIn};
 ghost use Rattle.rawtags.specs.Frame.{samples_of, planes_reading, dimension_reading, dimension_range, frame_reading};
 ghost use Rattle.rawtags.specs.Facts.Frame.{DimensionsIn, PlanesIn};
 
-use directory::tag::{Kinds, Range, Rule};
 use directory::refusal::Refusal;
+use directory::tag::{Kinds, Range, Rule};
 use directory::{Ifd, names, tag};
 
-// Columns and rows as stored, and samples per pixel.
+// Columns and rows as stored, and samples per pixel. No ghost field bounds them: `frame_reading` builds one of any numbers.
 #[derive(Clone, Copy)]
 pub struct Dimensions {
     pub width: usize,
@@ -19,73 +19,44 @@ pub struct Dimensions {
     pub samples: usize,
 }
 
-// The samples per pixel of a mosaic and of LinearRaw; 0 of anything else.
-fn samples_of(photometric: usize) -> usize
-    ensures { result ≡ samples_of photometric }
+// The samples per pixel of a mosaic and of LinearRaw.
+#[tactic(auto, unfolding(crate::specs::Frame::samples_of, reading::specs::Reading::pick))]
+fn samples_of(photometric: usize) -> Option<usize>
+    ensures { MatchOption result (samples_of photometric ≡ 0) (λ s. (s ≡ samples_of photometric) × ((s ≡ 1) ⊎ (s ≡ 3))) }
 {
-    if photometric == 32803 {
-        return 1;
+    match photometric {
+        32803 => Some(1),
+        34892 => Some(3),
+        _ => None,
     }
-    if photometric == 34892 { 3 } else { 0 }
 }
 
 // PhotometricInterpretation and SamplesPerPixel.
+#[tactic(auto, using(crate::proofs::Chain::chain), unfolding(crate::specs::Frame::planes_reading))]
 fn planes(file: &[u8], ifd: Ifd) -> Result<usize, Refusal>
     requires { Tested file.now ifd }
     ensures { (out result ≡ run file.now (planes_reading ifd)) × PlanesIn result }
 {
-    let photometric = Rule {
-        tag: names::PHOTOMETRIC_INTERPRETATION,
-        kinds: Kinds::Short,
-        required: true,
-        least: 1,
-        most: 1,
-    };
-    let any = Range {
-        legal: 0,
-        from: 0,
-        to: 65535,
-    };
-    let p = tag::one(file, ifd, photometric, 0, any)?;
-    let samples = samples_of(p);
-    if samples == 0 {
+    let photometric = Rule::required(names::PHOTOMETRIC_INTERPRETATION, Kinds::Short, 1);
+    let p = tag::one(file, ifd, photometric, 0, Range::new(0, 0, 65535))?;
+    let Some(samples) = samples_of(p) else {
         return Err(Refusal::NotCarried(names::PHOTOMETRIC_INTERPRETATION));
-    }
-    let per_pixel = Rule {
-        tag: names::SAMPLES_PER_PIXEL,
-        kinds: Kinds::Short,
-        required: false,
-        least: 1,
-        most: 1,
     };
-    let same = Range {
-        legal: 0,
-        from: samples,
-        to: samples,
-    };
-    tag::one(file, ifd, per_pixel, 1, same)
+    let per_pixel = Rule::optional(names::SAMPLES_PER_PIXEL, Kinds::Short, 1);
+    tag::one(file, ifd, per_pixel, 1, Range::new(0, samples, samples))
 }
 
 // ImageWidth or ImageLength.
+#[tactic(auto, unfolding(crate::specs::Frame::dimension_reading))]
 fn dimension(file: &[u8], ifd: Ifd, tag: usize) -> Result<usize, Refusal>
     requires { Tested file.now ifd }
     ensures { (out result ≡ run file.now (dimension_reading ifd tag)) × NumberIn dimension_range result }
 {
-    let rule = Rule {
-        tag,
-        kinds: Kinds::ShortOrLong,
-        required: true,
-        least: 1,
-        most: 1,
-    };
-    let range = Range {
-        legal: 1,
-        from: 1,
-        to: 16384,
-    };
-    tag::one(file, ifd, rule, 0, range)
+    let rule = Rule::required(tag, Kinds::ShortOrLong, 1);
+    tag::one(file, ifd, rule, 0, Range::new(1, 1, 16384))
 }
 
+#[tactic(auto, using(crate::proofs::Chain::chain), unfolding(crate::specs::Frame::frame_reading))]
 pub fn frame_of(file: &[u8], ifd: Ifd) -> Result<Dimensions, Refusal>
     requires { Tested file.now ifd }
     ensures { (out result ≡ run file.now (frame_reading ifd)) × DimensionsIn result }

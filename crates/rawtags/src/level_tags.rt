@@ -6,9 +6,9 @@ ghost use Rattle.directory.specs.Facts.Shape.{Tested};
 ghost use Rattle.rawtags.specs.LevelTags.{level_tags_reading};
 ghost use Rattle.rawtags.specs.Facts.LevelTags.{LevelTagsIn};
 
-use directory::refusal::Refusal;
 use crate::repeat::Repeat;
 use crate::{black, repeat, white};
+use directory::refusal::Refusal;
 use directory::tag::Values;
 use directory::{Ifd, names};
 
@@ -22,6 +22,7 @@ pub struct LevelTags {
     pub white: Values,
 }
 
+#[tactic(auto, using(crate::proofs::Chain::chain), unfolding(crate::specs::LevelTags::level_tags_reading))]
 pub fn level_tags_of(
     file: &[u8],
     ifd: Ifd,

@@ -8,10 +8,10 @@ ghost use Rattle.directory.specs.Facts.Shape.{Tested};
 ghost use Rattle.rawtags.specs.Raw.{tags_reading};
 ghost use Rattle.rawtags.specs.Facts.Raw.{TagsIn};
 
-use directory::refusal::Refusal;
 use area::Area;
 use crop::Crop;
 use directory::Ifd;
+use directory::refusal::Refusal;
 use directory::tag::Values;
 use frame::Dimensions;
 use layout::Layout;
@@ -43,6 +43,7 @@ pub struct Tags {
 }
 
 // The tags, in order of test.
+#[tactic(auto, using(crate::proofs::Chain::chain), unfolding(crate::specs::Raw::tags_reading))]
 pub fn tags_of(file: &[u8], ifd: Ifd) -> Result<Tags, Refusal>
     requires { Tested file.now ifd }
     ensures { (out result ≡ run file.now (tags_reading (length file.now) ifd)) × TagsIn file.now ifd.order result }

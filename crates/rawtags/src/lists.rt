@@ -6,10 +6,11 @@ ghost use Rattle.directory.specs.Facts.Shape.{Tested};
 ghost use Rattle.directory.specs.Facts.Tag.{ValuesIn};
 ghost use Rattle.rawtags.specs.Lists.{list_rule, list_tag_reading};
 
-use directory::tag::{Kinds, Rule, Values};
 use directory::refusal::Refusal;
+use directory::tag::{Kinds, Rule, Values};
 use directory::{Ifd, names, tag};
 
+#[tactic(auto, using(crate::proofs::Chain::chain), unfolding(crate::specs::Lists::list_tag_reading))]
 pub fn list_of(file: &[u8], ifd: Ifd) -> Result<Values, Refusal>
     requires { Tested file.now ifd }
     ensures { (out result ≡ run file.now (list_tag_reading ifd)) × ValuesIn (length file.now) list_rule result }

@@ -11,25 +11,18 @@ ghost use Rattle.rawtags.specs.Facts.Strips.{StripsIn};
 
 use crate::frame::Dimensions;
 use crate::layout::Layout;
-use directory::tag::{Kinds, Rule, Values};
 use directory::refusal::Refusal;
+use directory::tag::{Kinds, Rule, Values};
 use directory::{Ifd, names, tag};
 use reading::number;
 use reading::number::Order;
-
-// Where the numbers of one tag stand and how wide they are.
-#[derive(Clone, Copy)]
-pub struct Run {
-    pub place: usize,
-    pub size: usize,
-}
 
 // Strip by strip: its byte count (4, StripByteCounts), then its place (4, StripOffsets).
 fn check_strips(
     file: &[u8],
     order: Order,
-    offsets: Run,
-    counts: Run,
+    offsets: Values,
+    counts: Values,
     count: usize,
     rows: usize,
     lines: usize,
@@ -40,30 +33,34 @@ fn check_strips(
     requires lines_bound { (lines ≤ 16384) × (row ≤ 98304) }
     ensures { passed result ≡ run file.now (strip_from (length file.now) order offsets.size counts.size rows row count offsets.place counts.place lines) }
 {
-    let width = offsets.size;
-    let breadth = counts.size;
     let mut p = offsets.place;
     let mut q = counts.place;
     let mut rest = lines;
     for _ in 0..count {
-        let here = number::smaller(rows, rest);
-        let bytes = number::value(file, order, breadth, q);
+        let here = rows.min(rest);
+        let bytes = number::value(file, order, counts.size, q);
         if bytes != here * row {
             return Err(Refusal::Illegal(names::STRIP_BYTE_COUNTS));
         }
-        let place = number::value(file, order, width, p);
+        let place = number::value(file, order, offsets.size, p);
         if !number::inside(place, bytes, file.len()) {
             return Err(Refusal::Illegal(names::STRIP_OFFSETS));
         }
-        p += width;
-        q += breadth;
+        p += offsets.size;
+        q += counts.size;
         rest -= here;
     }
     Ok(())
 }
 
 // StripOffsets and StripByteCounts: where the strips' offsets stand.
-pub fn strips_of(file: &[u8], ifd: Ifd, frame: Dimensions, layout: Layout) -> Result<Values, Refusal>
+#[tactic(auto, using(crate::proofs::Chain::chain), unfolding(crate::specs::Strips::strips_reading))]
+pub fn strips_of(
+    file: &[u8],
+    ifd: Ifd,
+    frame: Dimensions,
+    layout: Layout,
+) -> Result<Values, Refusal>
     requires tested { Tested file.now ifd }
     requires dimensions_in { DimensionsWithin frame × LayoutWithin layout }
     ensures result_value { out result ≡ run file.now (strips_reading (length file.now) ifd frame layout) }
@@ -72,31 +69,19 @@ pub fn strips_of(file: &[u8], ifd: Ifd, frame: Dimensions, layout: Layout) -> Re
     let rows = layout.rows;
     let count = (frame.length - 1) / rows + 1;
     let row = frame.width * frame.samples * layout.bytes;
-    let offsets_rule = Rule {
-        tag: names::STRIP_OFFSETS,
-        kinds: Kinds::ShortOrLong,
-        required: true,
-        least: count,
-        most: count,
-    };
+    let offsets_rule = Rule::required(names::STRIP_OFFSETS, Kinds::ShortOrLong, count);
     let offsets = tag::look_up(file, ifd, offsets_rule)?;
-    let counts_rule = Rule {
-        tag: names::STRIP_BYTE_COUNTS,
-        kinds: Kinds::ShortOrLong,
-        required: true,
-        least: count,
-        most: count,
-    };
+    let counts_rule = Rule::required(names::STRIP_BYTE_COUNTS, Kinds::ShortOrLong, count);
     let counts = tag::look_up(file, ifd, counts_rule)?;
-    let order = ifd.order;
-    let at = Run {
-        place: offsets.place,
-        size: offsets.size,
-    };
-    let long = Run {
-        place: counts.place,
-        size: counts.size,
-    };
-    check_strips(file, order, at, long, count, rows, frame.length, row)?;
-Ok(offsets)
+    check_strips(
+        file,
+        ifd.order,
+        offsets,
+        counts,
+        count,
+        rows,
+        frame.length,
+        row,
+    )?;
+    Ok(offsets)
 }

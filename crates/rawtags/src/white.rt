@@ -16,22 +16,12 @@ pub fn white_of(file: &[u8], ifd: Ifd, samples: usize) -> Result<Values, Refusal
     requires { Tested file.now ifd }
     ensures { (out result ≡ run file.now (white_reading ifd samples)) × WhitesIn file.now ifd.order (white_rule samples) result }
 {
-    let rule = Rule {
-        tag: names::WHITE_LEVEL,
-        kinds: Kinds::ShortOrLong,
-        required: false,
-        least: samples,
-        most: samples,
-    };
-    let range = Range {
-        legal: 0,
-        from: 0,
-        to: 65535,
-    };
-    tag::all(file, ifd, rule, range)
+    let rule = Rule::optional(names::WHITE_LEVEL, Kinds::ShortOrLong, samples);
+    tag::all(file, ifd, rule, Range::new(0, 0, 65535))
 }
 
 // LinearizationTable.
+#[tactic(auto, unfolding(crate::specs::White::table_reading))]
 pub fn table_of(file: &[u8], ifd: Ifd) -> Result<Values, Refusal>
     requires { Tested file.now ifd }
     ensures { (out result ≡ run file.now (table_reading ifd)) × ValuesIn (length file.now) table_rule result }

@@ -1,15 +1,16 @@
 // Values that must be whole numbers: SHORT, LONG or RATIONAL.
-ghost use Rattle.std.specs.Prelude.{◌≡◌, ◌+◌, ◌≤◌, length};
+ghost use Rattle.std.specs.Prelude.{◌≡◌, ◌+◌, ◌*◌, ◌≤◌, ◌<◌, length};
 ghost use Rattle.reading.specs.Facts.Number.{Wide};
 ghost use Rattle.reading.specs.Reading.{run};
 ghost use Rattle.directory.specs.Entry.{kind_width};
 ghost use Rattle.directory.specs.Facts.Out.{out};
 ghost use Rattle.directory.specs.Facts.Shape.{Tested};
-ghost use Rattle.rawtags.specs.Whole.{whole_number_of, whole_number_reading, lengths_reading};
+ghost use Rattle.rawtags.specs.Whole.{whole_number_of, whole_number_reading, both_reading, lengths_reading};
 
-use directory::tag::{Kinds, Rule, Values};
+use directory::entry::Kind;
 use directory::refusal::Refusal;
-use directory::{Ifd, entry, tag};
+use directory::tag::{Kinds, Rule, Values};
+use directory::{Ifd, tag};
 use reading::number;
 use reading::number::Order;
 
@@ -21,6 +22,7 @@ pub struct Lengths {
 }
 
 // The value of a fraction, as it is written.
+#[tactic(auto, unfolding(crate::specs::Whole::whole_number_of, reading::specs::Reading::pick))]
 fn whole_number(tag: usize, numerator: usize, denominator: usize) -> Result<usize, Refusal>
     ensures { out result ≡ whole_number_of tag numerator denominator }
 {
@@ -35,43 +37,56 @@ fn whole_number(tag: usize, numerator: usize, denominator: usize) -> Result<usiz
 }
 
 // One of a tag's values, at a place.
-fn whole_number_at(file: &[u8], order: Order, tag: usize, values: Values, at: usize) -> Result<usize, Refusal>
+#[tactic(auto, using(reading::proofs::Reading::running), unfolding(crate::specs::Whole::whole_number_reading, directory::specs::Entry::kind_width))]
+fn whole_number_at(
+    file: &[u8],
+    order: Order,
+    tag: usize,
+    values: Values,
+    at: usize,
+) -> Result<usize, Refusal>
     requires { (at + values.size ≤ length file.now) × Wide values.size × (values.size ≡ kind_width values.kind) }
     ensures { out result ≡ run file.now (whole_number_reading order tag values at) }
 {
-    let kind = values.kind;
-    if entry::code(kind) == 5 {
+    if let Kind::Rational = values.kind {
         let numerator = number::long(file, order, at) as usize;
         let denominator = number::long(file, order, at + 4) as usize;
-        return whole_number(tag, numerator, denominator);
+        whole_number(tag, numerator, denominator)
+    } else {
+        whole_number(tag, number::value(file, order, values.size, at), 1)
     }
-    let n = number::value(file, order, values.size, at);
-    whole_number(tag, n, 1)
 }
 
-// A tag with two values, or its default.
-pub fn lengths_of(file: &[u8], ifd: Ifd, tag: usize, default: Lengths) -> Result<Lengths, Refusal>
-    requires { Tested file.now ifd }
-    ensures { out result ≡ run file.now (lengths_reading ifd tag default) }
+// Both values, or the default.
+#[tactic(auto, using(reading::proofs::Reading::running), unfolding(crate::specs::Whole::both_reading))]
+fn both_of(
+    file: &[u8],
+    order: Order,
+    tag: usize,
+    default: Lengths,
+    v: Values,
+) -> Result<Lengths, Refusal>
+    requires { 0 < v.count → (v.place + v.size * 2 ≤ length file.now) × Wide v.size × (v.size ≡ kind_width v.kind) }
+    ensures { out result ≡ run file.now (both_reading order tag default v) }
 {
-    let rule = Rule {
-        tag,
-        kinds: Kinds::ShortLongOrRational,
-        required: false,
-        least: 2,
-        most: 2,
-    };
-    let v = tag::look_up(file, ifd, rule)?;
-    let count = v.count;
-    if count == 0 {
+    if v.count == 0 {
         return Ok(default);
     }
-    let order = ifd.order;
-    let place = v.place;
-    let horizontal = whole_number_at(file, order, tag, v, place)?;
-    let vertical = whole_number_at(file, order, tag, v, place + v.size)?;
+    let horizontal = whole_number_at(file, order, tag, v, v.place)?;
+    let vertical = whole_number_at(file, order, tag, v, v.place + v.size)?;
     Ok(Lengths {
         horizontal,
         vertical,
     })
+}
+
+// A tag with two values, or its default.
+#[tactic(auto, using(crate::proofs::Chain::chain), unfolding(crate::specs::Whole::lengths_reading))]
+pub fn lengths_of(file: &[u8], ifd: Ifd, tag: usize, default: Lengths) -> Result<Lengths, Refusal>
+    requires { Tested file.now ifd }
+    ensures { out result ≡ run file.now (lengths_reading ifd tag default) }
+{
+    let rule = Rule::optional(tag, Kinds::ShortLongOrRational, 2);
+    let v = tag::look_up(file, ifd, rule)?;
+    both_of(file, ifd.order, tag, default, v)
 }

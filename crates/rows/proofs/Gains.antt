@@ -31,16 +31,13 @@ use Rattle.opcodes.proofs.StepLaws.{on_in, plain_listed}
 use Rattle.opcodes.proofs.BracketLaws.{gain_in_law}
 use Rattle.opcodes.proofs.GainMaps.{map_accepted, fault_map, fault_plain}
 use Rattle.rows.specs.Facts.Sweep.{planes_of, over_part}
-use Rattle.rows.specs.Facts.GainMap.{column_at, times_gain, gain_line}
+use Rattle.rows.specs.Facts.GainMap.{ColumnsIn, times_gain, gain_line}
 use Rattle.rows.specs.Facts.Part.{KeptIn, PlainIn, kept_of, gained_of}
 use Rattle.samples.proofs.Eaches.{each_same, each_none}
 use Rattle.rows.proofs.GridColumns.{whole}
-use Rattle.rows.proofs.Sweeps.{every_told, line_first, line_more}
+use Rattle.rows.proofs.Sweeps.{every_told, nth_tell, nth_number}
 
--- ---- what the loops go by: the columns of the locals, and the gains along a row of map plane p
-abbrev pub columns_of : ℕ → ℕ → ℕ → ℕ → ℕ → ℕ → Columns
-columns_of left pitch skip first end step = record { left = left; pitch = pitch; skip = skip; first = first; end = end; step = step }
-
+-- ---- what the loops go by: the gains along a row of map plane p
 abbrev pub along : List ℕ → Bracket → ℕ → ℕ → ℕ → ℕ → ℕ → ℕ → Float → Float
 along ps down plane width left pitch p j x = times_gain ps down (min (p - plane) (planes_in ps - 1)) width (left + j * pitch) x
 
@@ -52,15 +49,13 @@ column_below left right pitch j p h =
     (let s : j + 1 ≤ lines_of left right pitch = omega arith in s) in
     omega (arith, add-mul j 1 pitch, one-mul pitch)
 
-module _ (s : Columns) where
-  pub column_first : s.left + s.skip * s.pitch ≡ column_at s s.first
-  column_first = ap (λ (n : ℕ). s.left + n * s.pitch) (line_first s.skip s.first s.step)
-
-  pub column_more : (i c : ℕ) → 0 < s.step → s.first ≤ i → c ≡ column_at s i → c + s.pitch ≡ column_at s (i + s.step)
-  column_more i c p f e =
-      let n = s.skip + (i - s.first) / s.step in
-      let m : c + s.pitch ≡ s.left + (n + 1) * s.pitch = omega (arith, add-mul n 1 s.pitch, one-mul s.pitch) in
-      m ∙ ap (λ (k : ℕ). s.left + k * s.pitch) (line_more s.skip i s.first s.step n p f refl)
+-- the n-th of them is one of the active area
+pub column_inside : (s : Columns) (width len : ℕ) → ColumnsIn s width len → (n : ℕ) → s.places.first + n * s.places.pitch < s.places.end
+    → s.left + (s.skip + n) * s.pitch < width
+column_inside s width len h n b =
+    let p = s.places in
+    subst (λ (m : ℕ). s.left + (s.skip + m) * s.pitch < width) (nth_number p.first p.end p.pitch n h.places.some)
+    (h.inside (p.first + n * p.pitch) (nth_tell p.first p.end p.pitch n b))
 
 module _ (z : Size) (ps : List ℕ) where
   abbrev own : Grid

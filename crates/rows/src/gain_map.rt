@@ -11,21 +11,20 @@ ghost use Rattle.rows.specs.Facts.GainMap.{column_at, ColumnsIn, times_gain, gai
 ghost use Rattle.rows.specs.Facts.Part.{SizedIn, gained_of};
 
 use crate::sweep;
+use crate::sweep::Places;
 use levels::active::{ActiveColumn, ActiveRow};
 use opcodes::gain_map::{Axis, Bracket};
 use opcodes::grid::{Grid, Size};
 use opcodes::step::Step;
 use opcodes::{gain_map, grid, step};
 
-// A grid's columns, from number `skip` on, in a part of a row: at first, first + step, .. below end.
+// A grid's columns, from number `skip` on, and their places in a part of a row.
 #[derive(Clone, Copy)]
 pub struct Columns {
     pub left: usize,
     pub pitch: usize,
     pub skip: usize,
-    pub first: usize,
-    pub end: usize,
-    pub step: usize,
+    pub places: Places,
 }
 
 // These columns on map plane q, in a row whose bracket is `down`; the active area is `width` columns wide.
@@ -40,23 +39,18 @@ fn sweep_gain(
 )
     requires columns_in { ColumnsIn columns width (length out.old) × (width ≤ 16384) }
     requires gain_map_in { GainMapIn ps.now × (across ≡ across_of ps.now) × BracketIn (long_of ps.now 32) down × (q < planes_in ps.now) }
-    ensures { out.new ≡ swept_of columns.first columns.end columns.step (λ (k : ℕ) (x : Float). times_gain ps.now down q width (column_at columns k) x) out.old }
+    ensures { out.new ≡ swept_of columns.places.first columns.places.end columns.places.pitch (λ (k : ℕ) (x : Float). times_gain ps.now down q width (column_at columns k) x) out.old }
 {
-    let left = columns.left;
+    let places = columns.places;
     let pitch = columns.pitch;
-    let skip = columns.skip;
-    let first = columns.first;
-    let end = columns.end;
-    let step = columns.step;
+    let start = columns.left + columns.skip * pitch;
     let mut corners = gain_map::corners_at(ps, down, q, 0);
-    let mut c = left + skip * pitch;
-    let mut i = first;
-    while i < end {
+    for n in 0..places.count() {
+        let i = places.first + n * places.pitch;
+        let c = start + n * pitch;
         let bracket = gain_map::located_near(across, width, c, corners);
         corners = gain_map::corners_near(ps, corners, down, q, gain_map::point(bracket));
         out[i] = step::clip(out[i] * gain_map::corners_gain(corners, down, bracket));
-        c += pitch;
-        i += step;
     }
 }
 
@@ -86,19 +80,20 @@ fn gain_planes(
     let skip = sweep::skipped(left, pitch, l);
     let first = sweep::first_at(left, pitch, l, n);
     let end = sweep::end_at(right, l, n, out.len());
-    let mut p = plane;
-    while p < stop {
+    for p in plane..stop {
         let q = gain_map::plane_for(ps, p - plane);
+        let places = Places {
+            first: first + p,
+            end,
+            pitch: pitch * n,
+        };
         let columns = Columns {
             left,
             pitch,
             skip,
-            first: first + p,
-            end,
-            step: pitch * n,
+            places,
         };
         sweep_gain(ps, across, width, down, q, columns, out);
-        p += 1;
     }
 }
 

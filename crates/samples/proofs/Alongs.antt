@@ -10,6 +10,7 @@ use native.Mathlib.Omega.{arith}
 use lib.IntN.{ℤ, pos, nat_abs}
 use lib.Ieee.{Float, nan}
 use lib.ListN.{length, get_or, take, drop, length-take, length-drop, get_or-eq_default}
+use Rattle.std.specs.Prelude.{Result, Ok, Err}
 use Rattle.reading.specs.Bytes.{part}
 use Rattle.reading.specs.Reading.{run}
 use Rattle.reading.specs.declared.fraction.Fraction.{Fraction}
@@ -20,8 +21,7 @@ use Rattle.levels.specs.Black.{black_of, black_at, value_of, width_of, parts_of}
 use Rattle.levels.specs.Levels.{Levels, cell_for, span_of}
 use Rattle.levels.specs.Facts.Reciprocal.{of_parts, inverse_of, SpanIn}
 use Rattle.levels.specs.Run.{run_of}
-use Rattle.levels.specs.declared.black.Black.{Black}
-use Rattle.levels.specs.declared.black.Black.TheVariants.{Parts, Illegal, NotCarried}
+use Rattle.levels.specs.declared.black.BlackFault.{BlackFault}
 use Rattle.levels.specs.declared.black.BlackKind.{BlackKind}
 use Rattle.levels.proofs.Carried.{black_carried}
 use Rattle.levels.proofs.Residues.{cell_same}
@@ -83,10 +83,9 @@ module _ (v : Levels) (n : ℕ) (some : 1 ≤ n) where
 parts_small : (x : Fraction) → nat_abs (parts_of (black_of x)) ≤ most_black
 parts_small x = go (black_of x) refl
   where
-    go : (y : Black) → black_of x ≡ y → nat_abs (parts_of y) ≤ most_black
-    go (Parts b) e = (black_carried x b e).small
-    go Illegal e = omega arith
-    go NotCarried e = omega arith
+    go : (y : Result ℤ BlackFault) → black_of x ≡ y → nat_abs (parts_of y) ≤ most_black
+    go (Ok b) e = (black_carried x b e).small
+    go (Err f) e = omega arith
 
 at_small : (k : BlackKind) (o : Order) (f : List ℕ) (p : ℕ) → nat_abs (parts_of (black_at k o f p)) ≤ most_black
 unfolding black_at

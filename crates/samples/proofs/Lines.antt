@@ -3,13 +3,14 @@
 use mathlib.Core.Path.{◌≡◌, refl, sym, ap, ◌∙◌, subst}
 use mathlib.Core.Logic.{⊎_elim}
 use mathlib.Core.List.{List, ◌++◌}
-use Prim.Native.Nat.{ℕ, ◌+◌, ◌-◌, ◌*◌, ◌≤◌, ◌<◌}
+use Prim.Native.Nat.{ℕ, ◌+◌, ◌-◌, ◌*◌, ◌/◌, ◌%◌, ◌≤◌, ◌<◌, min}
 use native.Mathlib.Nat.{ne_of_lt, mul-add, add_assoc, add-mul, mul-le-mul_right}
 use native.Mathlib.Omega.{arith}
 use lib.IntN.{ℤ, pos, nat_abs, ◌+ℤ◌, +ℤ_idr}
 use lib.Ieee.{Float, nan, binary64, add}
 use lib.ListN.{length, get_or, set, take, drop, replicate, length-take, get_or-append, get_or-eq_default}
 use lib.Seq.{get_or-set_same, get_or-set_other, get_or-append-add, get_or-take, get_or-drop, length-take-le}
+use Rattle.std.proofs.lemmas.Grind.{div_ceil_times}
 use mir.Syntax.{w32, w64}
 use mir.Val.{SFits, to_z, of_z}
 use mir.Facts.{to_z-of_z}
@@ -101,6 +102,17 @@ rows_more d g q r a xs ys e l m w v s k h b =
     put_before d a (a + q - a) xs ys (s * q + k) (omega arith) (omega (arith, add-mul s 1 q)) ∙ w s k i b)
     (le_or_lt r s)
 
+-- group by group, n to a group
+module _ (n len count g : ℕ) (some : 1 ≤ n) (q : count ≡ len / n + min 1 (len % n)) where
+  times : (len ≤ count * n) × (count * n < len + n)
+  times = rw q (div_ceil_times len n some)
+
+  pub groups_told : g < count → g * n < len
+  groups_told h = let m : (g + 1) * n ≤ count * n = mul-le-mul_right n (omega arith) in omega (arith, add-mul g 1 n, times)
+
+  pub groups_whole : count ≤ g → len ≤ g * n
+  groups_whole h = let m : count * n ≤ g * n = mul-le-mul_right n h in omega (arith, times)
+
 -- the numbers of a part of a list
 pub part_at : {A : Type 0} (d : A) (a n k : ℕ) (xs : List A) → k < n → get_or (take n (drop a xs)) k d ≡ get_or xs (a + k) d
 part_at d a n k xs h = get_or-take n (drop a xs) k d h ∙ get_or-drop a xs k d
@@ -117,10 +129,6 @@ plain_number f o b at k = number_of o (part f (at + b * k) b)
 
 abbrev pub plain_value : List ℕ → Order → ℕ → ℕ → (ℕ → ℤ) → (ℕ → ℤ) → ℕ → Float
 plain_value f o b at black span k = scaled_of (level_of (difference_of (plain_number f o b at k) (black k)) (span k))
-
-pub plain_is : (f : List ℕ) (o : Order) (b at : ℕ) (black span : ℕ → ℤ) (k v : ℕ) → v ≡ plain_number f o b at k
-    → scaled_of (level_of (difference_of v (black k)) (span k)) ≡ plain_value f o b at black span k
-plain_is f o b at black span k v e = ap (λ (n : ℕ). scaled_of (level_of (difference_of n (black k)) (span k))) e
 
 pub plain_inside : (f : List ℕ) (l : Line) (n b k : ℕ) → LineIn f l n → l.bytes ≡ b → k < n → l.place + b * k + b ≤ length f
 plain_inside f l n b k w e h = subst (λ (m : ℕ). l.place + m * k + m ≤ length f) e (w.inside k h)

@@ -1,9 +1,10 @@
 // What the rows of a window share along a part of a row.
-ghost use Rattle.std.specs.Prelude.{◌≡◌, ℕ, ◌+◌, ◌*◌, ◌/◌, ◌%◌, ◌≤◌, ◌<◌, Float, length, get_or};
+ghost use Rattle.std.specs.Prelude.{◌≡◌, ℕ, ◌+◌, ◌*◌, ◌/◌, ◌%◌, ◌≤◌, ◌<◌, Float, length, get_or, nat_abs};
 ghost use Rattle.std.specs.Float.{nan};
 ghost use Rattle.levels.specs.Facts.Black.{Small};
 ghost use Rattle.levels.specs.Facts.Reciprocal.{of_parts, inverse_of};
 ghost use Rattle.raw.specs.Facts.Front.{RawWithin};
+ghost use Rattle.raw.specs.Facts.Spans.{span_at};
 ghost use Rattle.rawtags.specs.Facts.Raw.{TagsWithin};
 ghost use Rattle.raw.specs.Stored.{levels_reading};
 ghost use Rattle.reading.specs.Reading.{run};
@@ -14,8 +15,8 @@ use levels::active::{ActiveColumn, ActiveRow};
 use levels::reciprocal;
 use raw::front::Raw;
 use raw::sample;
+use raw::spans::Spans;
 use rawtags::Tags;
-use reading::number;
 use reading::number::Order;
 
 // How many numbers of a part are worked out at a time: all of them, or whole repeats.
@@ -28,7 +29,7 @@ pub fn piece(tags: Tags, len: usize) -> usize
     let columns = tags.levels.repeat.columns;
     let samples = tags.frame.samples;
     let period = columns * samples;
-    let most = number::smaller(512, 1536 / (rows + 1));
+    let most = (1536 / (rows + 1)).min(512);
     if len <= most {
         len
     } else {
@@ -36,42 +37,38 @@ pub fn piece(tags: Tags, len: usize) -> usize
     }
 }
 
-// The numbers behind the first `period`: these over and over.
-fn repeat(period: usize, out: &mut [f64])
-    requires { 1 ≤ period }
-    ensures { (g : ℕ → Float) → ((k : ℕ) → k < period → k < length out.old → get_or out.old k nan ≡ g k) → ((k : ℕ) → g (k + period) ≡ g k) → Filled nan g (length out.old) out.new }
+// The first `period` numbers by a function of their place, and then these over and over.
+fn repeated<F: Fn(usize) -> f64>(period: usize, number: F, out: &mut [f64])
+    requires some { 1 ≤ period }
+    requires callable { (k : ℕ) → k < period → k < length out.old → F.pre number k }
+    ensures { (g : ℕ → Float) → ((k : ℕ) (x : Float) → k < period → F.post number k x → x ≡ g k) → ((k : ℕ) → g (k + period) ≡ g k) → Filled nan g (length out.old) out.new }
 {
-    let mut i = period;
-    while i < out.len() {
+    for i in 0..period.min(out.len()) {
+        out[i] = number(i);
+    }
+    for i in period..out.len() {
         out[i] = out[i - period];
-        i += 1;
     }
 }
 
-// The cells of an active row from an active column on.
-fn first_cells(
+// The k-th cell of an active row from an active column on.
+fn cell_from(
     file: &[u8],
     order: Order,
     tags: Tags,
     row: ActiveRow,
     column: ActiveColumn,
-    out: &mut [f64],
-)
-    requires { TagsWithin file.now order tags × (1 ≤ tags.frame.samples) × (column.0 ≤ 16384) × (length out.old ≤ 512) }
-    ensures { Filled nan (λ (k : ℕ). of_parts (cell_along (run file.now (levels_reading order tags)) tags.frame.samples row.0 column.0 k)) (length out.old) out.new }
+    k: usize,
+) -> f64
+    requires { TagsWithin file.now order tags × (1 ≤ tags.frame.samples) × (column.0 ≤ 16384) × (k < 512) }
+    ensures { result ≡ of_parts (cell_along (run file.now (levels_reading order tags)) tags.frame.samples row.0 column.0 k) }
 {
     let samples = tags.frame.samples;
-    let l = column.0;
-    let mut i = 0;
-    while i < out.len() {
-        let c = ActiveColumn(l + i / samples);
-        let cell = sample::cell_at(file, order, tags, row, c, i % samples);
-        out[i] = reciprocal::number_of(cell);
-        i += 1;
-    }
+    let c = ActiveColumn(column.0 + k / samples);
+    reciprocal::number_of(sample::cell_at(file, order, tags, row, c, k % samples))
 }
 
-// The same, read once for each repeat.
+// The cells of an active row from an active column on, read once for each repeat.
 fn cells_row(
     file: &[u8],
     order: Order,
@@ -84,33 +81,29 @@ fn cells_row(
     ensures { Filled nan (λ (k : ℕ). of_parts (cell_along (run file.now (levels_reading order tags)) tags.frame.samples row.0 column.0 k)) (length out.old) out.new }
 {
     let period = tags.levels.repeat.columns * tags.frame.samples;
-    let n = number::smaller(period, out.len());
-    first_cells(file, order, tags, row, column, &mut out[0..n]);
-    repeat(period, out);
+    repeated(
+        period,
+        |k| cell_from(file, order, tags, row, column, k),
+        out,
+    );
 }
 
-// The reciprocals of the planes.
-fn first_inverses(file: &[u8], order: Order, raw: Raw, out: &mut [f64])
-    requires { RawWithin file.now order raw × (length out.old ≤ raw.tags.frame.samples) }
-    ensures { Filled nan (λ (k : ℕ). inverse_of (span_along (run file.now (levels_reading order raw.tags)) raw.tags.frame.samples k)) (length out.old) out.new }
+// The reciprocal of a plane's S.
+fn inverse_at(spans: Spans, plane: usize) -> f64
+    requires { nat_abs (span_at spans plane) < 0x1_0000_0000 }
+    ensures { result ≡ inverse_of (span_at spans plane) }
 {
-    let spans = raw.spans;
-    let mut i = 0;
-    while i < out.len() {
-        out[i] = reciprocal::inverse(sample::span_at(spans, i));
-        i += 1;
-    }
+    reciprocal::inverse(sample::span_at(spans, plane))
 }
 
-// The same, over and over.
+// The reciprocals of the planes, over and over.
 fn inverses_row(file: &[u8], order: Order, raw: Raw, out: &mut [f64])
     requires { RawWithin file.now order raw }
     ensures { Filled nan (λ (k : ℕ). inverse_of (span_along (run file.now (levels_reading order raw.tags)) raw.tags.frame.samples k)) (length out.old) out.new }
 {
     let samples = raw.tags.frame.samples;
-    let n = number::smaller(samples, out.len());
-    first_inverses(file, order, raw, &mut out[0..n]);
-    repeat(samples, out);
+    let spans = raw.spans;
+    repeated(samples, |k| inverse_at(spans, k), out);
 }
 
 // The cells of each row of the repeat.
@@ -126,13 +119,10 @@ fn fill_cells(
     ensures { (r k : ℕ) → r < tags.levels.repeat.rows → k < q → get_or out.new (r * q + k) nan ≡ of_parts (cell_along (run file.now (levels_reading order tags)) tags.frame.samples r column.0 k) }
 {
     let rows = tags.levels.repeat.rows;
-    let mut r = 0;
-    let mut a = 0;
-    while r < rows {
+    for r in 0..rows {
+        let a = r * q;
         let e = a + q;
         cells_row(file, order, tags, ActiveRow(r), column, &mut out[a..e]);
-        a = e;
-        r += 1;
     }
 }
 
@@ -163,9 +153,7 @@ pub fn fill_deltas(file: &[u8], order: Order, tags: Tags, column: ActiveColumn, 
     let deltas = tags.levels.column_deltas;
     let samples = tags.frame.samples;
     let l = column.0;
-    let mut i = 0;
-    while i < out.len() {
-        out[i] = sample::delta_at(file, order, deltas, l + i / samples) as i32;
-        i += 1;
+    for (i, delta) in out.iter_mut().enumerate() {
+        *delta = sample::delta_at(file, order, deltas, l + i / samples) as i32;
     }
 }

@@ -1,5 +1,5 @@
 // Samples that stand one behind the other, each with its black and its plane's reciprocal.
-ghost use Rattle.std.specs.Prelude.{◌≡◌, ℕ, ◌+◌, ◌*◌, ◌≤◌, ℤ, length, get_or};
+ghost use Rattle.std.specs.Prelude.{◌≡◌, ℕ, ◌+◌, ◌*◌, ◌≤◌, ◌<◌, ℤ, length};
 ghost use Rattle.std.specs.Float.{nan};
 ghost use Rattle.reading.specs.Bytes.{part};
 ghost use Rattle.reading.specs.Number.{number_of};
@@ -21,6 +21,23 @@ pub struct Line {
     pub down: f64,
 }
 
+// The scaled values of samples whose numbers a function gives.
+fn scaled_with<F: Fn(usize) -> u16>(
+    number: F,
+    down: f64,
+    blacks: &[f64],
+    inverses: &[f64],
+    out: &mut [f64],
+)
+    requires callable { (k : ℕ) → k < length out.old → F.pre number k }
+    requires out_in_bounds { (length out.old ≤ length blacks.now) × (length out.old ≤ length inverses.now) }
+    ensures { (n : ℕ → ℕ) → ((k v : ℕ) → k < length out.old → F.post number k v → v ≡ n k) → (black span : ℕ → ℤ) → Levelled black span blacks.now inverses.now down (length out.old) → Filled nan (λ (k : ℕ). scaled_of (level_of (difference_of (n k) (black k)) (span k))) (length out.old) out.new }
+{
+    for (i, value) in out.iter_mut().enumerate() {
+        *value = reciprocal::scaled_by(number(i), blacks[i] + down, inverses[i]);
+    }
+}
+
 // SHORTs without a table.
 fn scaled_shorts(line: Line, file: &[u8], blacks: &[f64], inverses: &[f64], out: &mut [f64])
     requires line_in { LineIn file.now line (length out.old) × (line.bytes ≡ 2) × (line.count ≡ 0) }
@@ -29,13 +46,8 @@ fn scaled_shorts(line: Line, file: &[u8], blacks: &[f64], inverses: &[f64], out:
 {
     let order = line.order;
     let place = line.place;
-    let down = line.down;
-    let mut i = 0;
-    while i < out.len() {
-        let v = number::short(file, order, place + 2 * i);
-        out[i] = reciprocal::scaled_by(v, blacks[i] + down, inverses[i]);
-        i += 1;
-    }
+    let number = |i| number::short(file, order, place + 2 * i);
+    scaled_with(number, line.down, blacks, inverses, out);
 }
 
 // The i-th sample from a place on. The width is a literal in each arm, so that the compiler can take several at a time.
@@ -60,23 +72,9 @@ fn fill_numbers(line: Line, file: &[u8], out: &mut [u16])
     let place = line.place;
     let table = line.table;
     let count = line.count;
-    let mut i = 0;
-    while i < out.len() {
+    for (i, number) in out.iter_mut().enumerate() {
         let stored = stored_at(file, order, bytes, place, i);
-        out[i] = table::through(file, order, table, count, stored);
-        i += 1;
-    }
-}
-
-// The scaled values of samples whose numbers are at hand.
-fn scaled_numbers(numbers: &[u16], down: f64, blacks: &[f64], inverses: &[f64], out: &mut [f64])
-    requires { (length out.old ≤ length numbers.now) × (length out.old ≤ length blacks.now) × (length out.old ≤ length inverses.now) }
-    ensures { (black span : ℕ → ℤ) → Levelled black span blacks.now inverses.now down (length out.old) → Filled nan (λ (k : ℕ). scaled_of (level_of (difference_of (get_or numbers.now k 0) (black k)) (span k))) (length out.old) out.new }
-{
-    let mut i = 0;
-    while i < out.len() {
-        out[i] = reciprocal::scaled_by(numbers[i], blacks[i] + down, inverses[i]);
-        i += 1;
+        *number = table::through(file, order, table, count, stored);
     }
 }
 
@@ -93,10 +91,9 @@ fn scaled_with_room(
     requires out_in_bounds { (length out.old ≤ length blacks.now) × (length out.old ≤ length inverses.now) }
     ensures { (black span : ℕ → ℤ) → Levelled black span blacks.now inverses.now line.down (length out.old) → Filled nan (line_value file.now line black span) (length out.old) out.new }
 {
-    let down = line.down;
     let n = out.len();
     fill_numbers(line, file, &mut room[0..n]);
-    scaled_numbers(room, down, blacks, inverses, out);
+    scaled_with(|i| room[i], line.down, blacks, inverses, out);
 }
 
 // The same, with room of its own.

@@ -17,7 +17,6 @@ use levels::active::{ActiveColumn, ActiveRow};
 use levels::reciprocal;
 use raw::front::Raw;
 use raw::sample;
-use reading::number;
 use reading::number::Order;
 
 // Cells with the columns' deltas from `at` on.
@@ -25,10 +24,8 @@ fn add_deltas(cells: &[f64], deltas: &[i32], at: usize, out: &mut [f64])
     requires { (length out.old ≤ length cells.now) × (at + length out.old ≤ length deltas.now) × Small deltas.now }
     ensures { Filled nan (λ (k : ℕ). add binary64 (get_or cells.now k nan) (of_parts (get_or deltas.now (at + k) (pos 0)))) (length out.old) out.new }
 {
-    let mut i = 0;
-    while i < out.len() {
-        out[i] = cells[i] + reciprocal::number_of(deltas[at + i] as i64);
-        i += 1;
+    for (i, sum) in out.iter_mut().enumerate() {
+        *sum = cells[i] + reciprocal::number_of(deltas[at + i] as i64);
     }
 }
 
@@ -71,23 +68,13 @@ fn scaled_pieces(
     requires small { Small deltas.now × (0 < length deltas.now → length out.old ≤ length deltas.now) × (0 < length deltas.now → length cells.now ≤ length sums.old) }
     ensures { (cell span : ℕ → ℤ) (down : ℤ) → Celled cell span down cells.now inverses.now line.down (length cells.now) → Repeating cell span (length cells.now) (length out.old) → Filled nan (line_value file.now line (λ (k : ℕ). cell k +ℤ get_or deltas.now k (pos 0) +ℤ down) span) (length out.old) out.new }
 {
-    let order = line.order;
-    let bytes = line.bytes;
-    let place = line.place;
-    let table = line.table;
-    let count = line.count;
-    let down = line.down;
     let q = cells.len();
-    let mut i = 0;
-    while i < out.len() {
-        let e = i + number::smaller(out.len() - i, q);
+    for n in 0..out.len().div_ceil(q) {
+        let i = n * q;
+        let e = (i + q).min(out.len());
         let piece = Line {
-            order,
-            bytes,
-            place: place + bytes * i,
-            table,
-            count,
-            down,
+            place: line.place + line.bytes * i,
+            ..line
         };
         scaled_piece(
             piece,
@@ -99,7 +86,6 @@ fn scaled_pieces(
             sums,
             &mut out[i..e],
         );
-        i = e;
     }
 }
 

@@ -4,7 +4,7 @@ use mathlib.Core.Path.{◌≡◌, refl, sym, ap, ◌∙◌, subst}
 use mathlib.Core.Logic.{⊎_elim}
 use mathlib.Core.List.{List, []}
 use Prim.Native.Nat.{ℕ, ◌+◌, ◌-◌, ◌*◌, ◌/◌, ◌%◌, ◌≤◌, ◌<◌, min}
-use native.Mathlib.Nat.{zero-add, add-zero, mul_assoc, mul_comm, zero-mod, mod-eq_of_lt, mod-add-mod, add-mod_right, mod-lt, mod-one}
+use native.Mathlib.Nat.{zero-add, add-zero, mul_assoc, mul_comm, zero-mod, mod-eq_of_lt, mod-add-mod, mod-lt, mod-one}
 use native.Mathlib.Nat.{add-mod-mod, add-mul-mod_self_right, div-one, div-add-mod'}
 use native.Mathlib.Omega.{arith}
 use lib.IntN.{ℤ, pos, ◌+ℤ◌, +ℤ_idr}
@@ -79,10 +79,6 @@ module _ (n at : ℕ) (whole : at % n ≡ 0) where
   -- the c-th place behind is of the c-th column
   pub column_of : (c : ℕ) → c < n → c ≡ (at + c) % n
   column_of c h = sym (sym (mod-add-mod at n c) ∙ ap (λ (z : ℕ). (z + c) % n) whole ∙ ap (λ (z : ℕ). z % n) (zero-add c) ∙ mod-eq_of_lt h)
-
-  -- and so again behind all of them
-  pub columns_behind : (at + n) % n ≡ 0
-  columns_behind = add-mod_right at n ∙ whole
 
 -- ---- four columns at a time, where the columns come again after four
 module _ (n : ℕ) (fours : 4 % n ≡ 0) where

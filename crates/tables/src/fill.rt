@@ -9,30 +9,28 @@ ghost use Rattle.raw.specs.Stored.{levels_reading};
 ghost use Rattle.reading.specs.Reading.{run};
 ghost use Rattle.tables.specs.Tables.{CellTable};
 
+use directory::tag::Values;
 use levels::active::{ActiveColumn, ActiveRow};
 use levels::{reciprocal, table};
 use raw::front::Raw;
 use raw::sample;
 use reading::number::Order;
 
-// The scaled values of all bytes, from a black and the reciprocal of S, with the place and count of the linearization table.
+// The scaled values of all bytes, from a black and the reciprocal of S, through the linearization table.
 fn fill_values(
     file: &[u8],
     order: Order,
-    place: usize,
-    count: usize,
+    entries: Values,
     black: f64,
     inverse: f64,
     values: &mut [f64],
 )
-    requires { (place + 2 * count ≤ length file.now) × (length values.old ≡ 256) }
-    ensures { (b span : ℤ) → BlackIs b black → InverseIs span inverse → (s : ℕ) → s < 256 → get_or values.new s nan ≡ scaled_of (level_of (difference_of (through_of (table_of order file.now place count) s) b) span) }
+    requires { (entries.place + 2 * entries.count ≤ length file.now) × (length values.old ≡ 256) }
+    ensures { (b span : ℤ) → BlackIs b black → InverseIs span inverse → (s : ℕ) → s < 256 → get_or values.new s nan ≡ scaled_of (level_of (difference_of (through_of (table_of order file.now entries.place entries.count) s) b) span) }
 {
-    let mut s = 0;
-    while s < 256 {
-        let v = table::through(file, order, place, count, s as u16);
+    for s in 0..256 {
+        let v = table::through(file, order, entries.place, entries.count, s as u16);
         values[s] = reciprocal::scaled_by(v, black, inverse);
-        s += 1;
     }
 }
 
@@ -50,19 +48,10 @@ fn fill_table(
 {
     let tags = raw.tags;
     let spans = raw.spans;
-    let entries = tags.levels.table;
     let cell = sample::cell_at(file, order, tags, row, column, 0);
     let black = reciprocal::number_of(cell);
     let inverse = reciprocal::inverse(sample::span_at(spans, 0));
-    fill_values(
-        file,
-        order,
-        entries.place,
-        entries.count,
-        black,
-        inverse,
-        values,
-    );
+    fill_values(file, order, tags.levels.table, black, inverse, values);
 }
 
 // The tables of so many cells from an active row and an active column on, row by row, `columns` to a row.
@@ -81,13 +70,11 @@ pub fn fill_tables(
 {
     let r = row.0;
     let c = column.0;
-    let mut i = 0;
-    while i < count {
+    for i in 0..count {
         let mut table: [f64; 256] = [0.0; 256];
         let down = ActiveRow(r + i / columns);
         let across = ActiveColumn(c + i % columns);
         fill_table(file, order, raw, down, across, &mut table);
         tables[i] = table;
-        i += 1;
     }
 }

@@ -14,14 +14,8 @@ pub mod row;
 pub fn has_tables(tags: Tags) -> bool
     ensures { result ≡ tabled tags }
 {
-    if tags.layout.bytes != 1 {
-        return false;
-    }
-    if tags.frame.samples != 1 {
-        return false;
-    }
-    if tags.levels.column_deltas.count != 0 {
-        return false;
-    }
-    tags.levels.row_deltas.count == 0
+    tags.layout.bytes == 1
+        && tags.frame.samples == 1
+        && tags.levels.column_deltas.count == 0
+        && tags.levels.row_deltas.count == 0
 }

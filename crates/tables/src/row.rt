@@ -73,14 +73,12 @@ fn look_up_fours(
     }
     let last = out.len() / 4 - 1;
     let mut word = number::long(bytes, Order::Little, 0);
-    let mut j = 0;
-    while j < last {
+    for j in 0..last {
         let next = number::long(bytes, Order::Little, 4 * j + 4);
         look_up_four(word, first, second, third, fourth, 4 * j, out);
         word = next;
-        j += 1;
     }
-    4 * j
+    4 * last
 }
 
 // So many samples from one on, each in the table of its own column; the tables stand from a first one on.
@@ -95,10 +93,8 @@ fn look_up_group(
     requires { (length out.old ≤ length bytes.now) × (first + count ≤ length tables.now) × (at + count ≤ length out.old) }
     ensures { (x : ℕ → Float) → ((c : ℕ) → c < count → found (get_or tables.now (first + c) []) bytes.now (at + c) ≡ x (at + c)) → Filled nan x at out.old → Filled nan x (at + count) out.new }
 {
-    let mut c = 0;
-    while c < count {
+    for c in 0..count {
         out[at + c] = look_up(&tables[first + c], bytes, at + c);
-        c += 1;
     }
 }
 
@@ -114,11 +110,10 @@ fn look_up_groups(
     requires { (length out.old ≤ length bytes.now) × (1 ≤ columns) × (first + columns ≤ length tables.now) × (from ≤ length out.old) × (from % columns ≡ 0) }
     ensures { Filled nan (found_along tables.now first columns bytes.now) from out.old → Filled nan (found_along tables.now first columns bytes.now) (length out.old) out.new }
 {
-    let mut at = from;
-    while at < out.len() {
-        let count = number::smaller(columns, out.len() - at);
+    for g in 0..(out.len() - from).div_ceil(columns) {
+        let at = from + g * columns;
+        let count = columns.min(out.len() - at);
         look_up_group(bytes, tables, first, count, at, out);
-        at += count;
     }
 }
 
@@ -157,7 +152,7 @@ pub fn table_row(
     requires tags_value { (tabled raw.tags ≡ true) × (1 ≤ length out.old) × RowTables (run file.now (levels_reading order raw.tags)) row.0 column.0 (length out.old) tables.now first }
     ensures { out.new ≡ scaled_part file.now order raw.tags row.0 column.0 out.old }
 {
-    let columns = number::smaller(raw.tags.levels.repeat.columns, out.len());
+    let columns = raw.tags.levels.repeat.columns.min(out.len());
     let line = scaled::line_of(file, order, raw, row, column);
     let place = line.place;
     let end = place + out.len();

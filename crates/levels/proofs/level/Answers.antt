@@ -29,14 +29,6 @@ whole k =
     subst (λ (x : Float). T (in_unsigned binary64 16 x) × (to_unsigned 16 x ≡ level_of a.d a.s)) (sym (found k))
     (unsigned_back binary64 16 (level_of a.d a.s) (in_float_law (pos (level_of a.d a.s)) (omega arith)) (omega arith))
 
-pub number_of-requires : goal.number_of-requires
-number_of-requires c =
-    rw (to_z-of_z c.ranges.d) (omega (arith, c.requires.0))
-
-pub inverse-requires : goal.inverse-requires
-inverse-requires c =
-    rw (to_z-of_z c.ranges.s) (omega (arith, c.requires.1.small))
-
 pub float_to_int-result : goal.float_to_int-result
 float_to_int-result c =
     (whole (goal.at.float_to_int-result c).After-level).0

@@ -9,7 +9,8 @@ use Rattle.rows.specs.Facts.Part.{AllInUnit}
 use Rattle.opcodes.specs.declared.grid.Size.{Size}
 use Rattle.rawtags.specs.declared.crop.Crop.{Crop}
 use Rattle.develop.specs.declared.View.{View}
-use Rattle.develop.specs.declared.Answer.{Answer}
+use Rattle.std.specs.Prelude.{Result}
+use Rattle.directory.specs.declared.refusal.Refusal.{Refusal}
 use Rattle.develop.specs.Calls.{window_with, window_call}
 use Rattle.listing.specs.Facts.Body.{lines_text, LinesIn, Ready, BlockIn, rows_from}
 use Rattle.listing.specs.Text.{crop_size}
@@ -36,7 +37,7 @@ module _ (f : List ℕ) (v : View) (text : List ℕ) (values : List Float) (top 
   in_place : take (height * width v) (xs ++ drop (height * width v) values) ≡ xs
   in_place = take_at xs (drop (height * width v) values) (height * width v) (k ∙ lent)
 
-  module _ (a : Answer)
+  module _ (a : Result (Unit {0}) Refusal)
       (e : window_with a xs ≡ window_call f ((crop v).top + top) (crop v).left height (crop v).columns (take (height * width v) values)) where
     -- what the window's promise says of them
     blocked : AllInUnit xs × (lines_text (width v) height xs ++ rows_from f (top + height) ≡ rows_from f top)

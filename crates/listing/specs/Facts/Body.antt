@@ -1,12 +1,12 @@
 -- What the listing's functions make of a text, and what they know of the file.
 use Rattle.std.specs.Prelude.{ℕ, zero, suc, ◌+◌, ◌*◌, ◌≤◌, ◌<◌, ◌≡◌, List, [], ◌++◌, Float, length, take, drop, Result, Ok, Err}
-use Rattle.directory.specs.Out.{Out.is}
+use Rattle.directory.specs.Refusal.{number_of, detail_of}
+use Rattle.directory.specs.Out.{Out.refused, Out.is}
 use Rattle.opcodes.specs.declared.grid.Size.{Size}
 use Rattle.rows.specs.Facts.Part.{AllInUnit}
 use Rattle.develop.specs.Facts.View.{Viewed}
 use Rattle.develop.specs.declared.View.{View}
-use Rattle.listing.specs.Text.{values_text, refused_text, listed_of, head_text, body_text, listing_of}
-use Rattle.listing.specs.declared.First.{First}
+use Rattle.listing.specs.Text.{values_text, listed_of, body_text}
 use Rattle.directory.specs.declared.refusal.Refusal.{Refusal}
 
 -- a word stands behind the first `at` bytes of a text, and ends at `end`
@@ -39,18 +39,7 @@ BlockIn z top height = (1 ≤ height) × (top + height ≤ z.rows) × (height * 
 abbrev pub rows_from : List ℕ → ℕ → List ℕ
 rows_from f top = body_text f top (listed_of f)
 
--- a file as it was opened: no row comes behind a refusal
-abbrev pub OpenedIs : List ℕ → Result View Refusal → Type 0
-OpenedIs f (Err e) = rows_from f 0 ≡ []
-OpenedIs f (Ok v) = Listed f v
-
--- the whole text of a refused file
-abbrev pub RefusedIs : ℕ → ℕ → First → List ℕ → Type 0
-RefusedIs n d h text = (h.length ≤ length text) × (take h.length text ≡ refused_text n d) × (h.opening ≡ opening.Refused n d)
-
--- the first line
-pub record Headed (f : List ℕ) (h : First) (text : List ℕ) : Type 0 where
-  pub inside : h.length ≤ length text
-  pub line : take h.length text ≡ head_text (listed_of f)
-  pub short : length (listing_of f) < 18446744073709551616
-  pub file : OpenedIs f h.opening
+-- the file as the program opened it
+abbrev pub ListedIs : List ℕ → Result View Refusal → Type 0
+ListedIs f (Err r) = refused (number_of r) (detail_of r) ≡ listed_of f
+ListedIs f (Ok v) = Listed f v

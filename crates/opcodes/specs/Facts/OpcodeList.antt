@@ -1,11 +1,22 @@
 -- What holds of an accepted value.
-use Rattle.std.specs.Prelude.{◌≡◌, ℕ, ◌+◌, List, Result, Ok, Err}
+use Rattle.std.specs.Prelude.{ℕ, ◌+◌, List, ◌==◌}
+use Rattle.reading.specs.Reading.{pick}
 use Rattle.directory.specs.Out.{Out, Out.refused, Out.is}
 use Rattle.opcodes.specs.Opcode.{Opcode, skipped, kept}
 use Rattle.opcodes.specs.declared.list.Counts.{Counts}
+use Rattle.opcodes.specs.declared.list.Kind.{Kind}
+use Rattle.opcodes.specs.declared.list.Kind.TheVariants as kind
 use Rattle.opcodes.specs.OpcodeList.{kept_in, skipped_in}
-use Rattle.directory.specs.Refusal.{number_of, detail_of}
-use Rattle.directory.specs.declared.refusal.Refusal.{Refusal}
+
+-- the id of a kind
+abbrev pub id_of : Kind → ℕ
+id_of kind.MapTable = 7
+id_of kind.MapPolynomial = 8
+id_of kind.GainMap = 9
+id_of kind.DeltaPerRow = 10
+id_of kind.DeltaPerColumn = 11
+id_of kind.ScalePerRow = 12
+id_of kind.ScalePerColumn = 13
 
 -- the counts of an accepted list, on top of counts so far
 abbrev pub none : Counts
@@ -21,7 +32,6 @@ counted_one c (refused n d) = refused n d
 counted_one c (is skipped) = is (record { kept = c.kept; skipped = c.skipped + 1 })
 counted_one c (is (kept g k)) = is (record { kept = c.kept + 1; skipped = c.skipped })
 
--- the test of the i-th opcode's own bytes, by the number of its refusal or 0
-abbrev pub TestedBy : ℕ → ℕ → Result (Unit {0}) Refusal → Type 0
-TestedBy n i (Ok u) = n ≡ 0
-TestedBy n i (Err r) = (number_of r ≡ n) × (detail_of r ≡ i)
+-- what the number of a fault, or 0, says of the i-th opcode's own bytes
+abbrev pub tested : ℕ → ℕ → Out ℕ
+tested n i = pick (n == 0) (is 0) (refused n i)

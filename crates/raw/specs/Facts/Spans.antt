@@ -1,14 +1,13 @@
 -- What holds of an accepted value.
-use Rattle.std.specs.Prelude.{ℕ, ◌<◌, eqb, ℤ, Result, Ok, Err}
-use Rattle.reading.specs.Reading.{pick}
+use Rattle.std.specs.Prelude.{ℕ, ◌<◌, min, ℤ, pos, get_or, Result, Ok, Err}
 use Rattle.directory.specs.Out.{Out, Out.is}
 use Rattle.levels.specs.Facts.Reciprocal.{SpanIn}
 use Rattle.raw.specs.declared.spans.Spans.{Spans}
 use Rattle.directory.specs.declared.refusal.Refusal.{Refusal}
 
--- S of a plane
+-- S of a plane; behind the third, of the third
 unfoldable pub span_at : Spans → ℕ → ℤ
-span_at s p = pick (eqb p 0) s.first (pick (eqb p 1) s.second s.third)
+span_at s p = get_or s.planes (min p 2) (pos 0)
 
 -- what S is on each of n planes
 abbrev pub SpansWithin : ℕ → Spans → Type 0

@@ -1,6 +1,5 @@
 -- What holds of an accepted value.
 use Rattle.std.specs.Prelude.{ℕ, ◌+◌, ◌≤◌, Result, Ok, Err}
-use Rattle.directory.specs.Out.{Out}
 use Rattle.rawtags.specs.declared.crop.Crop.{Crop}
 use Rattle.directory.specs.declared.refusal.Refusal.{Refusal}
 

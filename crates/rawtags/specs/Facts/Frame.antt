@@ -1,6 +1,5 @@
 -- What holds of an accepted value.
-use Rattle.std.specs.Prelude.{◌≡◌, ◌⊎◌, ◌≤◌, Result, Ok, Err}
-use Rattle.directory.specs.Out.{Out}
+use Rattle.std.specs.Prelude.{◌≡◌, ◌⊎◌, ◌≤◌, ℕ, Result, Ok, Err}
 use Rattle.rawtags.specs.declared.frame.Dimensions.{Dimensions}
 use Rattle.directory.specs.declared.refusal.Refusal.{Refusal}
 

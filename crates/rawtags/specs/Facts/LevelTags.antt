@@ -2,7 +2,6 @@
 use Rattle.directory.specs.Names.{black_level_delta_h, black_level_delta_v}
 use Rattle.std.specs.Prelude.{List, ℕ, length, Result, Ok, Err}
 use Rattle.reading.specs.declared.number.Order.{Order}
-use Rattle.directory.specs.Out.{Out}
 use Rattle.directory.specs.Facts.Tag.{PlacedValues}
 use Rattle.rawtags.specs.Facts.Repeat.{RepeatWithin}
 use Rattle.rawtags.specs.Black.{black_rule, delta_rule}

@@ -1,6 +1,5 @@
 -- What holds of an accepted value.
 use Rattle.std.specs.Prelude.{◌<◌}
-use Rattle.directory.specs.Out.{Out}
 use Rattle.rawtags.specs.declared.pattern.Pattern.{Pattern}
 
 -- places of a block

@@ -1,7 +1,6 @@
 -- What holds of an accepted value.
 use Rattle.std.specs.Prelude.{List, ℕ, length, Result, Ok, Err}
 use Rattle.reading.specs.declared.number.Order.{Order}
-use Rattle.directory.specs.Out.{Out}
 use Rattle.directory.specs.Facts.Tag.{PlacedValues}
 use Rattle.rawtags.specs.Facts.Frame.{DimensionsWithin}
 use Rattle.rawtags.specs.Facts.Layout.{LayoutWithin}

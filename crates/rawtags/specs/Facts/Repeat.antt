@@ -1,6 +1,5 @@
 -- What holds of an accepted value.
 use Rattle.std.specs.Prelude.{◌≤◌, Result, Ok, Err}
-use Rattle.directory.specs.Out.{Out}
 use Rattle.rawtags.specs.declared.repeat.Repeat.{Repeat}
 use Rattle.directory.specs.declared.refusal.Refusal.{Refusal}
 

@@ -10,20 +10,19 @@ use Rattle.opcodes.specs.declared.grid.Size.{Size}
 use Rattle.opcodes.specs.declared.grid.Grid.{Grid}
 use Rattle.opcodes.specs.declared.gain_map.Bracket.{Bracket}
 use Rattle.rows.specs.declared.gain_map.Columns.{Columns}
+use Rattle.rows.specs.Facts.Sweep.{PlacesIn}
 
 -- the active column at an index of the part
 abbrev pub column_at : Columns → ℕ → ℕ
-column_at s k = s.left + (s.skip + (k - s.first) / s.step) * s.pitch
+column_at s k = s.left + (s.skip + (k - s.places.first) / s.places.pitch) * s.pitch
 
 -- the columns lie in a part of so many numbers, and in the active area
 pub record ColumnsIn (s : Columns) (width len : ℕ) : Type 0 where
-  pub some : 0 < s.step
-  pub step : s.step < 0x100_0000_0000
-  pub end : s.end ≤ len
+  pub places : PlacesIn s.places len
   pub left : s.left < 0x1_0000_0000
   pub pitch : s.pitch < 0x1_0000_0000
   pub skip : s.skip * s.pitch < 0x2_0000_0000
-  pub inside : (k : ℕ) → every_of s.first s.end s.step k ≡ true → column_at s k < width
+  pub inside : (k : ℕ) → every_of s.places.first s.places.end s.places.pitch k ≡ true → column_at s k < width
 
 -- what x becomes in active column c of `width`, on map plane q, in a row whose bracket is `down`
 abbrev pub times_gain : List ℕ → Bracket → ℕ → ℕ → ℕ → Float → Float

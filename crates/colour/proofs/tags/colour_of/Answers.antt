@@ -1,103 +1,48 @@
-use mathlib.Core.Path.{sym, ap, subst, ◌∙◌}
-use mathlib.Core.Bool.{true}
-use Rattle.directory.specs.Out.{Out.is}
-use Rattle.directory.specs.Facts.Out.{out}
-use Rattle.directory.proofs.Outs.{bind_refused, bind_is}
+use mathlib.Core.Path.{sym, ◌∙◌}
 use Rattle.reading.proofs.Reading.{run_answer}
-use Rattle.colour.specs.Facts.Value.{TripleIn}
+use Rattle.directory.proofs.Outs.{bind_refused, bind_is}
+use Rattle.std.proofs.lemmas.Result.{err_from_is_err_and}
+use mathlib.Core.Path.{ap, subst}
+use Rattle.directory.specs.Out.{Out.is}
+use Rattle.colour.specs.Facts.Tags.{ColourWithin}
 use Rattle.colour.specs.Tags.{colour_reading}
-use Rattle.colour.specs.Facts.Tags.{MatrixIn, ColourWithin}
 use Rattle.colour.proofs.TagFacts.{colour_in}
 use Rattle.colour.proofs.tags.colour_of.Goals as goal
 
-pub returns-in-Refused : goal.returns-in-Refused
+pub returns-in_err-not_carried : goal.returns-in_err-not_carried
 unfolding colour_reading
-returns-in-Refused c =
-    let not-Carried = c.not_carried in
-    (bind_refused _ _ _ _ _ (ap out (sym c.in-Refused.is) ∙ not-Carried.ensures), tt)
+returns-in_err-not_carried c =
+    let p = err_from_is_err_and c.from_residual.result c.from_residual.ensures.1 in
+    rw (p.1, p.2) (bind_refused _ _ _ _ _ c.in_err-not_carried.ensures, tt)
 
-pub returns-in-Refused-not_carried : goal.returns-in-Refused-not_carried
+pub returns-in_err-not_carried-2 : goal.returns-in_err-not_carried-2
 unfolding colour_reading
-returns-in-Refused-not_carried c =
-    let not-Carried = c.not_carried in
-    let told = c.in-Is in
-    let not-carried2 = c.not_carried-2 in (
-      bind_refused _ _ _ _ _ (ap out (sym c.in-Refused-not_carried.is) ∙ not-carried2.ensures)
-          ∙ sym (bind_is _ _ _ _ (ap out (sym told.is) ∙ not-Carried.ensures)),
-      tt,
-    )
+returns-in_err-not_carried-2 c =
+    let p = err_from_is_err_and c.from_residual-in_err-not_carried-2.result c.from_residual-in_err-not_carried-2.ensures.1 in
+    rw (p.1, p.2) (bind_refused _ _ _ _ _ c.in_err-not_carried-2.ensures ∙ sym (bind_is _ _ _ _ c.in_ok-not_carried.ensures), tt)
 
-pub returns-in-Refused-not_carried-2 : goal.returns-in-Refused-not_carried-2
+pub returns-in_err-not_carried-3 : goal.returns-in_err-not_carried-3
 unfolding colour_reading
-returns-in-Refused-not_carried-2 c =
-    let not-Carried = c.not_carried in
-    let told = c.in-Is in
-    let not-carried2 = c.not_carried-2 in
-    let enum-told2 = c.in-Is-not_carried in
-    let not-carried3 = c.not_carried-3 in (
-      bind_refused _ _ _ _ _ (ap out (sym c.in-Refused-not_carried-2.is) ∙ not-carried3.ensures)
-          ∙ sym (bind_is _ _ _ _ (ap out (sym told.is) ∙ not-Carried.ensures)
-          ∙ bind_is _ _ _ _ (ap out (sym enum-told2.is) ∙ not-carried2.ensures)),
-      tt,
-    )
+returns-in_err-not_carried-3 c =
+    let p = err_from_is_err_and c.from_residual-in_err-not_carried-3.result c.from_residual-in_err-not_carried-3.ensures.1 in
+    rw (p.1, p.2) (bind_refused _ _ _ _ _ c.in_err-not_carried-3.ensures ∙ sym (bind_is _ _ _ _ c.in_ok-not_carried.ensures ∙ bind_is _ _ _ _ c.in_ok-not_carried-2.ensures), tt)
 
-pub returns-in-Refused-matrix_of : goal.returns-in-Refused-matrix_of
+pub returns-in_err-matrix : goal.returns-in_err-matrix
 unfolding colour_reading
-returns-in-Refused-matrix_of c =
-    let not-Carried = c.not_carried in
-    let told = c.in-Is in
-    let not-carried2 = c.not_carried-2 in
-    let enum-told2 = c.in-Is-not_carried in
-    let not-carried3 = c.not_carried-3 in
-    let enum-told3 = c.in-Is-not_carried-2 in
-    let matrix-of = c.matrix_of in (
-      bind_refused _ _ _ _ _ (ap out (sym c.in-Refused-matrix_of.is) ∙ matrix-of.ensures.0)
-          ∙ sym (bind_is _ _ _ _ (ap out (sym told.is) ∙ not-Carried.ensures)
-          ∙ bind_is _ _ _ _ (ap out (sym enum-told2.is) ∙ not-carried2.ensures)
-          ∙ bind_is _ _ _ _ (ap out (sym enum-told3.is) ∙ not-carried3.ensures)),
-      tt,
-    )
+returns-in_err-matrix c =
+    let p = err_from_is_err_and c.from_residual-in_err-matrix.result c.from_residual-in_err-matrix.ensures.1 in
+    rw (p.1, p.2) (bind_refused _ _ _ _ _ c.in_err-matrix.ensures.0 ∙ sym (bind_is _ _ _ _ c.in_ok-not_carried.ensures ∙ bind_is _ _ _ _ c.in_ok-not_carried-2.ensures ∙ bind_is _ _ _ _ c.in_ok-not_carried-3.ensures), tt)
 
-pub returns-in-Refused-neutral_of : goal.returns-in-Refused-neutral_of
+pub returns-in_err-neutral : goal.returns-in_err-neutral
 unfolding colour_reading
-returns-in-Refused-neutral_of c =
-    let not-Carried = c.not_carried in
-    let told = c.in-Is in
-    let not-carried2 = c.not_carried-2 in
-    let enum-told2 = c.in-Is-not_carried in
-    let not-carried3 = c.not_carried-3 in
-    let enum-told3 = c.in-Is-not_carried-2 in
-    let matrix-of = c.matrix_of in
-    let m = c.in-Is-matrix_of in
-    let neutral-of = c.neutral_of in (
-      bind_refused _ _ _ _ _ (ap out (sym c.in-Refused-neutral_of.is) ∙ neutral-of.ensures.0)
-          ∙ sym (bind_is _ _ _ _ (ap out (sym told.is) ∙ not-Carried.ensures)
-          ∙ bind_is _ _ _ _ (ap out (sym enum-told2.is) ∙ not-carried2.ensures)
-          ∙ bind_is _ _ _ _ (ap out (sym enum-told3.is) ∙ not-carried3.ensures)
-          ∙ bind_is _ _ _ _ (ap out (sym m.is) ∙ matrix-of.ensures.0)),
-      tt,
-    )
+returns-in_err-neutral c =
+    let p = err_from_is_err_and c.from_residual-in_err-neutral.result c.from_residual-in_err-neutral.ensures.1 in
+    rw (p.1, p.2) (bind_refused _ _ _ _ _ c.in_err-neutral.ensures.0 ∙ sym (bind_is _ _ _ _ c.in_ok-not_carried.ensures ∙ bind_is _ _ _ _ c.in_ok-not_carried-2.ensures ∙ bind_is _ _ _ _ c.in_ok-not_carried-3.ensures ∙ bind_is _ _ _ _ c.in_ok-matrix.ensures.0), tt)
 
 pub returns : goal.returns
 unfolding colour_reading
 returns c =
-    let not-Carried = c.not_carried in
-    let told = c.in-Is in
-    let not-carried2 = c.not_carried-2 in
-    let enum-told2 = c.in-Is-not_carried in
-    let not-carried3 = c.not_carried-3 in
-    let enum-told3 = c.in-Is-not_carried-2 in
-    let matrix-of = c.matrix_of in
-    let m-call = c.in-Is-matrix_of in
-    let neutral-of = c.neutral_of in
-    let n-call = c.in-Is-neutral_of in
-    let j = c.colour_from.ensures in
-    let m = subst MatrixIn m-call.is matrix-of.ensures.1 in
-    let n = subst (TripleIn true) n-call.is neutral-of.ensures.1 in (
-      ap is j ∙ sym (bind_is _ _ _ _ (ap out (sym told.is) ∙ not-Carried.ensures)
-          ∙ bind_is _ _ _ _ (ap out (sym enum-told2.is) ∙ not-carried2.ensures)
-          ∙ bind_is _ _ _ _ (ap out (sym enum-told3.is) ∙ not-carried3.ensures)
-          ∙ bind_is _ _ _ _ (ap out (sym m-call.is) ∙ matrix-of.ensures.0)
-          ∙ bind_is _ _ _ _ (ap out (sym n-call.is) ∙ neutral-of.ensures.0) ∙ run_answer _ _),
-      subst ColourWithin (sym j) (colour_in m-call.m n-call.n m n),
+    let j = c.colour_from.ensures in (
+      ap is j ∙ sym (bind_is _ _ _ _ c.in_ok-not_carried.ensures ∙ bind_is _ _ _ _ c.in_ok-not_carried-2.ensures ∙ bind_is _ _ _ _ c.in_ok-not_carried-3.ensures ∙ bind_is _ _ _ _ c.in_ok-matrix.ensures.0 ∙ bind_is _ _ _ _ c.in_ok-neutral.ensures.0 ∙ run_answer _ _),
+      subst ColourWithin (sym j) (colour_in _ _ c.in_ok-matrix.ensures.1 c.in_ok-neutral.ensures.1),
     )

@@ -1,16 +1,8 @@
-use mathlib.Core.Path.{sym, ap, ◌∙◌, subst}
+use mathlib.Core.Path.{sym, subst, ap, ◌∙◌}
 use Rattle.directory.specs.Out.{Out.is}
 use Rattle.colour.specs.Facts.Value.{QuotientWithin}
 use Rattle.colour.proofs.Legality.{value_legal, value_illegal, quotient_in}
 use Rattle.colour.proofs.value.value_at.Goals as goal
-
-pub legal-requires : goal.legal-requires
-legal-requires c =
-    c.fraction_at-x.ensures.numerator_bound
-
-pub quotient-requires : goal.quotient-requires
-quotient-requires c =
-    c.fraction_at-x.ensures.numerator_bound
 
 pub returns-then-legal : goal.returns-then-legal
 returns-then-legal c =

@@ -10,28 +10,6 @@ use Rattle.directory.proofs.Shapes.{entry_within, entry_inside, entry_outside}
 use Rattle.directory.proofs.shape.placed_tag.Goals as goal
 use Rattle.directory.proofs.shape.placed_tag.Goals.{After-value-count, After-value-place}
 
-pub short-tag-requires : goal.short-tag-requires
-short-tag-requires c =
-    omega arith
-
-pub short-requires : goal.short-requires
-short-requires c =
-    omega arith
-
-pub size_of-size-requires : goal.size_of-size-requires
-size_of-size-requires c =
-    c.requires.2.types
-
-pub value-count-requires : goal.value-count-requires
-value-count-requires c =
-    let pre = c.requires in
-    (omega arith, pre.2.word)
-
-pub fits-requires : goal.fits-requires
-fits-requires c =
-    let pre = c.requires in
-    let w = wide_most _ pre.2.word in (omega arith, omega arith)
-
 -- the entry whose fields were read
 abbrev entry : After-value-count → Entry
 entry c =
@@ -55,16 +33,6 @@ returns-then-fits c =
     let b = fit (λ (m : ℕ). m * h.value-count.result) (entry h).kind _ _ _ h.size_of-size.ensures.0 c.fits.ensures
     c.if-fits.true in
     record { result_value = entry_within a.widths a.file.now _ _ _ (entry h) (head h) b; tag_in = omega arith }
-
-pub value-place-requires : goal.value-place-requires
-value-place-requires c =
-    let pre = c.requires in
-    (omega arith, pre.2.word)
-
-pub many_inside-requires : goal.many_inside-requires
-many_inside-requires c =
-    let pre = c.requires in
-    (omega arith, pre.1)
 
 pub returns-then-many_inside : goal.returns-then-many_inside
 returns-then-many_inside c =

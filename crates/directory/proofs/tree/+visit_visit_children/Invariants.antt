@@ -5,4 +5,4 @@ abbrev pub decreases-visit : goal.decreases-visit
 decreases-visit l = 32 * l.depth
 
 abbrev pub decreases-visit_children : goal.decreases-visit_children
-decreases-visit_children l = 32 * l.depth + 1 + l.count
+decreases-visit_children l = 32 * l.depth + 1 + l.children.count

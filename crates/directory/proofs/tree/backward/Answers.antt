@@ -7,22 +7,10 @@ use Rattle.directory.proofs.Tags.{exactly}
 use Rattle.directory.proofs.Trees.{backward_default, backward_given}
 use Rattle.directory.proofs.tree.backward.Goals as goal
 
-pub short-requires : goal.short-requires
-short-requires c = let q =
-    exactly dng_version kinds.Byte 4 c.requires.placed_values (omega arith) in omega (arith, q.0, q.1)
-
 pub returns-then-given-eq0 : goal.returns-then-given-eq0
 returns-then-given-eq0 c =
     let a = c.args in
     backward_default a.file.now _ _ _ c.if-given-eq0.true c.short.ensures
-
-pub long-requires : goal.long-requires
-long-requires c =
-    let a = c.args in
-    let q = c.requires.placed_values_2 in
-    let s : 0 < a.given.count = omega arith in
-    let z : a.given.size ≡ 1 = q.sized s in
-    omega (arith, rw z at q.inside, q.enough s)
 
 pub returns : goal.returns
 returns c =

@@ -19,10 +19,6 @@ returns-then-short-ne0 c = (
   tt,
 )
 
-pub root_from-requires : goal.root_from-requires
-root_from-requires c =
-    (c.requires, big_tiff_laid _ refl refl (omega arith), omega (arith, c.if-file-lt16.false))
-
 pub returns : goal.returns
 returns c = (
   c.root_from.ensures.0

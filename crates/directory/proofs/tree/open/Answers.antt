@@ -40,14 +40,6 @@ not_big_tiff_little : (c : After-starts_with-4) →
     same_bytes (take 4 a.file.now) (big_tiff_mark Little) ≡ false
 not_big_tiff_little c = sym c.starts_with-3.ensures ∙ c.if-starts_with-3.false
 
-pub starts_with-requires : goal.starts_with-requires
-starts_with-requires c =
-    (omega arith, refl)
-
-pub root_from-requires : goal.root_from-requires
-root_from-requires c = let k =
-    (goal.at.root_from-requires c).After-starts_with in (most k, classic_laid _ refl refl (omega arith), omega (arith, least k))
-
 pub returns-then-starts_with : goal.returns-then-starts_with
 returns-then-starts_with c =
     let k = (goal.at.returns-then-starts_with c).After-starts_with in (
@@ -55,15 +47,6 @@ returns-then-starts_with c =
           ∙ sym (tree_classic_little _ _ (least k) (most k) (sym k.starts_with.ensures ∙ c.if-starts_with.true)),
       c.root_from.ensures.1,
     )
-
-pub starts_with-requires-2 : goal.starts_with-requires-2
-starts_with-requires-2 c =
-    (omega arith, refl)
-
-pub root_from-requires-then-starts_with-2 : goal.root_from-requires-then-starts_with-2
-root_from-requires-then-starts_with-2 c =
-    let k = (goal.at.root_from-requires-then-starts_with-2 c).After-starts_with in
-    (most k, classic_laid _ refl refl (omega arith), omega (arith, least k))
 
 pub returns-then-starts_with-2 : goal.returns-then-starts_with-2
 returns-then-starts_with-2 c =
@@ -73,14 +56,6 @@ returns-then-starts_with-2 c =
           ∙ sym (tree_classic_big _ _ (least k) (most k) (not_little m) (sym m.starts_with-2.ensures ∙ c.if-starts_with-2.true)),
       c.root_from-then-starts_with-2.ensures.1,
     )
-
-pub starts_with-requires-3 : goal.starts_with-requires-3
-starts_with-requires-3 c =
-    (omega arith, refl)
-
-pub big_tiff_root-requires : goal.big_tiff_root-requires
-big_tiff_root-requires c = let k =
-    (goal.at.big_tiff_root-requires c).After-starts_with in most k
 
 pub returns-then-starts_with-3 : goal.returns-then-starts_with-3
 returns-then-starts_with-3 c =
@@ -92,14 +67,6 @@ returns-then-starts_with-3 c =
           (sym o.starts_with-3.ensures ∙ c.if-starts_with-3.true)),
       c.big_tiff_root.ensures.1,
     )
-
-pub starts_with-requires-4 : goal.starts_with-requires-4
-starts_with-requires-4 c =
-    (omega arith, refl)
-
-pub big_tiff_root-requires-then-starts_with-4 : goal.big_tiff_root-requires-then-starts_with-4
-big_tiff_root-requires-then-starts_with-4 c = let k =
-    (goal.at.big_tiff_root-requires-then-starts_with-4 c).After-starts_with in most k
 
 pub returns-then-starts_with-4 : goal.returns-then-starts_with-4
 returns-then-starts_with-4 c =

@@ -1,38 +1,27 @@
-use mathlib.Core.Path.{sym, ap, subst, ◌∙◌}
-use lib.ListN.{length}
+use mathlib.Core.Path.{sym, ap, ◌∙◌}
+use Rattle.std.specs.Prelude.{Option, Ok}
+use Rattle.std.proofs.lemmas.Result.{err_from_is_err_and}
 use Rattle.reading.proofs.Reading.{run_answer}
 use Rattle.directory.specs.Tree.{raw_one, parent, walk_reading}
-use Rattle.directory.specs.Facts.Tree.{look_out, LookIn}
+use Rattle.directory.specs.Facts.Tree.{look_out}
+use Rattle.directory.specs.declared.tree.Children.{Children}
 use Rattle.directory.proofs.Outs.{bind_refused, bind_is}
 use Rattle.directory.proofs.tree.walk_from.Goals as goal
-use Rattle.directory.proofs.tree.walk_from.Goals.{After-inspect, In-Into, Start}
 
-pub inspect-requires : goal.inspect-requires
-inspect-requires c =
-    c.requires.1
-
-pub visit_children-requires : goal.visit_children-requires
-visit_children-requires c =
-    record { file_len_bound = (c.requires.0, c.requires.1.laid); count_bound = subst (LookIn (length c.args.file.now)) c.in-Into.is c.inspect.ensures.1 }
-
-pub returns-in-Raw : goal.returns-in-Raw
+pub returns-in_err-inspect : goal.returns-in_err-inspect
 unfolding walk_reading
-returns-in-Raw c = (
-  sym (bind_is _ _ _ raw_one (ap look_out (sym c.in-Raw.is) ∙ c.inspect.ensures.0) ∙ run_answer _ _),
-  c.requires.1,
-)
+returns-in_err-inspect c =
+    let p = err_from_is_err_and c.from_residual.result c.from_residual.ensures.1 in
+    rw (p.1, p.2) (bind_refused _ _ _ _ _ c.in_err-inspect.ensures.0, tt)
 
-pub returns-in-Refused : goal.returns-in-Refused
+pub returns-in-None : goal.returns-in-None
 unfolding walk_reading
-returns-in-Refused c =
-    let inspect = c.inspect in
-    (bind_refused _ _ _ _ _ (ap look_out (sym c.in-Refused.is) ∙ inspect.ensures.0), tt)
+returns-in-None c =
+    let e = ap (λ (x : Option Children). look_out (Ok x)) (sym c.in-None.is) ∙ c.in_ok-inspect.ensures.0 in
+    (sym (bind_is _ _ _ raw_one e ∙ run_answer _ _), c.requires.1)
 
-pub returns-in-Into : goal.returns-in-Into
+pub returns-in-Some : goal.returns-in-Some
 unfolding walk_reading
-returns-in-Into c = (
-  c.visit_children.ensures.result_value
-      ∙ sym (bind_is _ _ _ (parent _ _ _)
-      (ap look_out (sym c.in-Into.is) ∙ c.inspect.ensures.0)),
-  c.visit_children.ensures.walk_in,
-)
+returns-in-Some c =
+    let e = ap (λ (x : Option Children). look_out (Ok x)) (sym c.in-Some.is) ∙ c.in_ok-inspect.ensures.0 in
+    (c.visit_children.ensures.result_value ∙ sym (bind_is _ _ _ (parent _ _ _) e), c.visit_children.ensures.walk_in)

@@ -4,14 +4,9 @@ use native.Mathlib.Omega.{arith}
 use lib.IntN.{ℤ, nat_abs}
 use lib.Ieee.{binary64, div, of_int, of_bits}
 use mir.Facts.{to_z-of_z}
-use Rattle.reading.proofs.Wholes.{casts}
 use Rattle.levels.proofs.Values.{parts, parts_divided}
 use Rattle.levels.proofs.reciprocal.number_of.Goals as goal
 use Rattle.levels.proofs.reciprocal.number_of.Goals.{Start}
-
-pub int_to_float-result : goal.int_to_float-result
-int_to_float-result c =
-    casts c.args.z c.requires
 
 pub returns : goal.returns
 unfolding of_bits

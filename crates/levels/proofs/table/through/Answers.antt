@@ -16,4 +16,4 @@ returns c =
     let a = c.args in
     let f : ℕ → ℕ = λ (p : ℕ). number_of a.order (take 2 (drop p a.s.now)) in
     let h : 0 < a.count = omega arith in
-    c.short.ensures ∙ ap (λ (k : ℕ). f (a.at + 2 * k)) c.smaller-k.ensures ∙ sym (through_some f 2 a.at a.count a.v h)
+    c.short.ensures ∙ ap (λ (k : ℕ). f (a.at + 2 * k)) c.min-k.ensures ∙ sym (through_some f 2 a.at a.count a.v h)

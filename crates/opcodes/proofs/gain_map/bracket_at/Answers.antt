@@ -12,14 +12,6 @@ returns-then-p c =
     let h = c.requires.0 in
     (λ g. along_first c.args.points c.args.p g (λ o. omega arith) c.if-p.true, omega arith)
 
-pub overflow_sub-last : goal.overflow_sub-last
-overflow_sub-last c =
-    omega (arith, c.requires.0)
-
-pub int_to_float-last : goal.int_to_float-last
-int_to_float-last c =
-    float_exact _ (omega (arith, c.requires.1))
-
 pub returns-then-last-p : goal.returns-then-last-p
 unfolding of_bits
 returns-then-last-p c =

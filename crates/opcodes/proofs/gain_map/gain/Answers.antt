@@ -14,22 +14,6 @@ room c =
     let h = c.requires in
     gain_room a.ps.now a.i a.k a.q _ _ c.field-columns.ensures.0 c.field-planes.ensures.0 h.0 h.1 h.2 h.3
 
-pub overflow_mul-i : goal.overflow_mul-i
-overflow_mul-i c =
-    omega (arith, (room (goal.at.overflow_mul-i c).After-field-planes).0, (room (goal.at.overflow_mul-i c).After-field-planes).1)
-
-pub overflow_add-i : goal.overflow_add-i
-overflow_add-i c =
-    omega (arith, (room (goal.at.overflow_add-i c).After-field-planes).0, (room (goal.at.overflow_add-i c).After-field-planes).1)
-
-pub overflow_mul-i-2 : goal.overflow_mul-i-2
-overflow_mul-i-2 c =
-    omega (arith, (room (goal.at.overflow_mul-i-2 c).After-field-planes).0, (room (goal.at.overflow_mul-i-2 c).After-field-planes).1)
-
-pub overflow_add-i-2 : goal.overflow_add-i-2
-overflow_add-i-2 c =
-    omega (arith, (room (goal.at.overflow_add-i-2 c).After-field-planes).0, (room (goal.at.overflow_add-i-2 c).After-field-planes).1)
-
 pub overflow_mul-i-3 : goal.overflow_mul-i-3
 overflow_mul-i-3 c =
     omega (arith, (room (goal.at.overflow_mul-i-3 c).After-field-planes).0, (room (goal.at.overflow_mul-i-3 c).After-field-planes).1)

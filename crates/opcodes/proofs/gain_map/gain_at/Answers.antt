@@ -1,43 +1,10 @@
-use Rattle.std.proofs.Common.{sym, ◌∙◌, subst, arith}
-use Rattle.opcodes.specs.Grid.{long_of}
+use Rattle.std.proofs.Common.{◌∙◌, subst}
 use Rattle.opcodes.specs.GainMap.{gain_map_of}
-use Rattle.opcodes.specs.Facts.Bracket.{AxisIn, BracketOf, BracketIn}
+use Rattle.opcodes.specs.Facts.Bracket.{BracketOf, BracketIn}
 use Rattle.opcodes.specs.declared.gain_map.Axis.{Axis}
-use Rattle.opcodes.proofs.BracketLaws.{point_below, corners_found, gain_in_law}
+use Rattle.opcodes.proofs.BracketLaws.{corners_found, gain_in_law}
 use Rattle.opcodes.proofs.gain_map.gain_at.Goals as goal
 use Rattle.opcodes.proofs.gain_map.gain_at.Goals.{After-located-across, After-located-down, After-plane_for}
-
-pub down_axis-requires : goal.down_axis-requires
-down_axis-requires c =
-    omega (arith, c.requires.0.inside)
-
-pub located-down-requires : goal.located-down-requires
-located-down-requires c =
-    let h = c.requires in
-    (subst AxisIn (sym c.down_axis.ensures) h.0.down, h.3, h.1)
-
-pub across_axis-requires : goal.across_axis-requires
-across_axis-requires c =
-    omega (arith, c.requires.0.inside)
-
-pub located-across-requires : goal.located-across-requires
-located-across-requires c =
-    let h = c.requires in
-    (subst AxisIn (sym c.across_axis.ensures) h.0.across, h.4, h.2)
-
-pub plane_for-requires : goal.plane_for-requires
-plane_for-requires c =
-    let pre = c.requires in
-    pre.0
-
-pub corners_at-corners-requires : goal.corners_at-corners-requires
-corners_at-corners-requires c =
-    let h = c.requires in
-    let across = subst (λ (a : Axis). BracketIn a.points c.located-across.result) c.across_axis.ensures
-    c.located-across.ensures.1 in
-    let k = point_below (long_of c.args.ps.now 36) c.located-across.result across in
-    let down = subst (λ (a : Axis). BracketIn a.points c.located-down.result) c.down_axis.ensures c.located-down.ensures.1 in
-    (h.0, down, c.plane_for.ensures.1, omega (arith, k, c.point.ensures))
 
 pub returns : goal.returns
 unfolding gain_map_of

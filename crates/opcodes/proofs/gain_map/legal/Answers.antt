@@ -1,21 +1,11 @@
-use Rattle.std.proofs.Common.{ℕ, leb, sym, ap, ◌∙◌}
-use Rattle.opcodes.proofs.GainMaps.{legal_planes, legal_first, legal_second}
+use Rattle.std.proofs.Common.{rules}
+use Rattle.opcodes.specs.GainMap.{gain_map_legal}
 use Rattle.opcodes.proofs.gain_map.legal.Goals as goal
 
 pub returns-then-axis_legal-2 : goal.returns-then-axis_legal-2
-returns-then-axis_legal-2 c =
-    let axis-legal = c.axis_legal in
-    let if1 = c.if-axis_legal in
-    let e = sym axis-legal.ensures ∙ if1.true in
-    let f = sym c.axis_legal-then-axis_legal.ensures ∙ c.if-axis_legal-2.true in
-    ap (λ (n : ℕ). leb 1 n) c.field.ensures.0 ∙ legal_planes _ e f
+unfolding gain_map_legal
+returns-then-axis_legal-2 c = search rules
 
 pub returns-else-axis_legal-2 : goal.returns-else-axis_legal-2
-returns-else-axis_legal-2 c =
-    let axis-legal = c.axis_legal in
-    let e = sym axis-legal.ensures ∙ c.if-axis_legal.true in
-    legal_second _ e (sym c.axis_legal-then-axis_legal.ensures ∙ c.if-axis_legal-2.false)
-
-pub returns-else-axis_legal : goal.returns-else-axis_legal
-returns-else-axis_legal c =
-    legal_first _ (sym c.axis_legal.ensures ∙ c.if-axis_legal.false)
+unfolding gain_map_legal
+returns-else-axis_legal-2 c = search rules

@@ -1,6 +1,4 @@
-use Rattle.std.proofs.Common.{subst, arith}
-use lib.Ieee.{Float}
-use Rattle.opcodes.specs.Facts.Bracket.{BracketAt}
+use Rattle.std.proofs.Common.{arith}
 use Rattle.opcodes.proofs.Places.{axis_number}
 use Rattle.opcodes.proofs.BracketLaws.{along_one}
 use Rattle.opcodes.proofs.gain_map.located.Goals as goal
@@ -10,10 +8,6 @@ pub returns-then-points-eq1 : goal.returns-then-points-eq1
 returns-then-points-eq1 c =
     (λ g. along_one _ _ g c.if-points-eq1.true, omega (arith, c.requires.0.some))
 
-pub place-requires : goal.place-requires
-place-requires c =
-    (c.requires.1, c.requires.2)
-
 pub bracket_at-requires : goal.bracket_at-requires
 bracket_at-requires c =
     let h = c.requires in
@@ -22,9 +16,3 @@ bracket_at-requires c =
       h.0.most,
       axis_number c.args.axis c.args.size c.args.n _ h.0 more h.1 h.2 c.place.ensures,
     )
-
-pub returns : goal.returns
-returns c =
-    let a = c.args in
-    let e = c.place.ensures in
-    (subst (λ (p : Float). BracketAt a.axis.points p c.bracket_at.result) e c.bracket_at.ensures.0, c.bracket_at.ensures.1)

@@ -1,59 +1,20 @@
-use Rattle.std.proofs.Common.{ℕ, sym, ap, ◌∙◌, eq-eqb, ne_eqb}
-use Rattle.opcodes.specs.OpcodeList.{lines_form}
-use Rattle.opcodes.proofs.OpcodeLists.{form_table, form_polynomial, form_rows, form_columns}
+use Rattle.std.proofs.Common.{rules}
+use Rattle.reading.specs.Reading.{pick}
+use Rattle.opcodes.specs.OpcodeList.{form_of}
 use Rattle.opcodes.proofs.list.form_for.Goals as goal
 
-pub table_form-requires : goal.table_form-requires
-table_form-requires c =
-    c.requires.n_bound
+pub returns-in-MapTable : goal.returns-in-MapTable
+unfolding form_of pick
+returns-in-MapTable c = search rules
 
-pub returns-then-id-eq7 : goal.returns-then-id-eq7
-returns-then-id-eq7 c =
-    let a = c.args in
-    c.table_form.ensures ∙ form_table a.grid a.id a.n (eq-eqb _ _ c.if-id-eq7.true)
+pub returns-in-MapPolynomial : goal.returns-in-MapPolynomial
+unfolding form_of pick
+returns-in-MapPolynomial c = search rules
 
-pub polynomial_form-requires : goal.polynomial_form-requires
-polynomial_form-requires c =
-    c.requires.n_bound
+pub returns-in-DeltaPerRow : goal.returns-in-DeltaPerRow
+unfolding form_of pick
+returns-in-DeltaPerRow c = search rules
 
-pub returns-then-id-eq8 : goal.returns-then-id-eq8
-returns-then-id-eq8 c =
-    let a = c.args in
-    c.polynomial_form.ensures ∙ form_polynomial a.grid a.id a.n (ne_eqb _ _ c.if-id-eq7.false)
-    (eq-eqb _ _ c.if-id-eq8.true)
-
-pub lines-requires : goal.lines-requires
-lines-requires c =
-    c.requires.top_le_bottom
-
-pub lines_form-requires : goal.lines_form-requires
-lines_form-requires c =
-    c.requires.n_bound
-
-pub lines-requires-else-by_row : goal.lines-requires-else-by_row
-lines-requires-else-by_row c =
-    c.requires.left_le_right
-
-pub lines_form-requires-else-by_row : goal.lines_form-requires-else-by_row
-lines_form-requires-else-by_row c =
-    c.requires.n_bound
-
-pub returns-then-by_row : goal.returns-then-by_row
-returns-then-by_row c =
-    let a = c.args in
-    let if1 = c.if-id-eq7 in
-    let if2 = c.if-id-eq8 in
-    let by_Row = c.by_row in
-    c.lines_form.ensures ∙ ap (λ (k : ℕ). lines_form k a.n) c.lines.ensures
-    ∙ form_rows a.grid a.id a.n (ne_eqb _ _ if1.false) (ne_eqb _ _ if2.false)
-    (sym by_Row.ensures ∙ c.if-by_row.true)
-
-pub returns-else-by_row : goal.returns-else-by_row
-returns-else-by_row c =
-    let a = c.args in
-    let if1 = c.if-id-eq7 in
-    let if2 = c.if-id-eq8 in
-    let by_Row = c.by_row in
-    c.lines_form-else-by_row.ensures ∙ ap (λ (k : ℕ). lines_form k a.n) c.lines-else-by_row.ensures
-    ∙ form_columns a.grid a.id a.n (ne_eqb _ _ if1.false) (ne_eqb _ _ if2.false)
-    (sym by_Row.ensures ∙ c.if-by_row.false)
+pub returns-in_default : goal.returns-in_default
+unfolding form_of pick
+returns-in_default c = search rules

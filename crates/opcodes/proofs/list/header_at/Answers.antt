@@ -9,15 +9,12 @@ same : {a b d e a' b' d' e' : ℕ} → a ≡ a' → b ≡ b' → d ≡ d' → e 
     ◌≡◌ {A = Header} (record { id = a; version = b; flags = d; length = e }) (record { id = a'; version = b'; flags = d'; length = e' })
 same p q r s = cc
 
-pub returns : goal.returns
+pub returns-clause-value : goal.returns-clause-value
 unfolding header_of
-returns c =
-    let args = c.args in
-    let field = c.field in
-    let f = args.file.now in
-    let a = args.at in record {
-      value = same (field.ensures.0 ∙ ap (long_of f) (sym (add-zero a)) ∙ long_part f a 16 0 (omega arith))
-          (c.field-2.ensures.0 ∙ long_part f a 16 4 (omega arith))
-          (c.field-3.ensures.0 ∙ long_part f a 16 8 (omega arith)) (c.field-4.ensures.0 ∙ long_part f a 16 12 (omega arith));
-      length_bound = c.field-4.ensures.1;
-    }
+returns-clause-value c =
+    let f = c.args.file.now in
+    let a = c.args.at in
+    same (c.field.ensures.0 ∙ ap (long_of f) (sym (add-zero a)) ∙ long_part f a 16 0 (omega arith))
+    (c.field-2.ensures.0 ∙ long_part f a 16 4 (omega arith))
+    (c.field-3.ensures.0 ∙ long_part f a 16 8 (omega arith))
+    (c.field-4.ensures.0 ∙ long_part f a 16 12 (omega arith))

@@ -1,51 +1,34 @@
-use Rattle.std.proofs.Common.{◌<◌, sym, refl, ◌∙◌, arith}
-use Rattle.opcodes.proofs.OpcodeLists.{refused_none, refused_here, refused_there, one_less}
+use Rattle.std.proofs.Common.{◌<◌, sym, ◌∙◌, mul-suc, mul-zero, arith}
+use native.Mathlib.Nat.{sub-zero}
+use Rattle.opcodes.proofs.OpcodeLists.{refused_over, refused_here, refused_there}
 use Rattle.levels.proofs.Runs.{within}
 use Rattle.opcodes.proofs.list.refused_in.Goals as goal
 
-pub loop-left-init : goal.loop-left-init
-loop-left-init c =
-    (refl, c.requires.0, omega arith)
+pub loop-init : goal.loop-init
+loop-init c = (omega (arith, mul-zero c.args.width), rw sub-zero)
 
 pub refused_at-requires : goal.refused_at-requires
 refused_at-requires c =
     let a = c.args in
-    let pre = c.requires in
-    let loop = c.loop-left in
-    let some : 0 < loop.left = c.loop-left-test.true in
-    let w = within a.width loop.left 0 some in
-    (omega (arith, loop.invariant.1, w), pre.1 (omega (arith, loop.invariant.2)))
+    let t = c.loop-test.true in
+    let some : 0 < a.n = omega (arith, t) in
+    (omega (arith, c.requires.0, c.loop.invariant.0, within a.width a.n c.loop.counter t), c.requires.1 some)
 
 pub returns-then-refused_at : goal.returns-then-refused_at
 returns-then-refused_at c =
-    let loop = c.loop-left in
-    sym (loop.invariant.0 ∙ refused_here _ _ _ _ c.loop-left-test.true (sym c.refused_at.ensures ∙ c.if-refused_at.true))
+    let l = c.loop in
+    sym (refused_here _ _ l.p c.args.n l.counter c.loop-test.true (sym c.refused_at.ensures ∙ c.if-refused_at.true)) ∙ l.invariant.1
 
 pub overflow_add-p : goal.overflow_add-p
 overflow_add-p c =
     let a = c.args in
-    let loop = c.loop-left in
-    let w = within a.width loop.left 0 c.loop-left-test.true in
-    omega (arith, loop.invariant.1, w)
+    omega (arith, c.requires.0, c.loop.invariant.0, within a.width a.n c.loop.counter c.loop-test.true)
 
-pub overflow_sub-left : goal.overflow_sub-left
-overflow_sub-left c =
-    c.loop-left-test.true
-
-pub loop-left-smaller : goal.loop-left-smaller
-loop-left-smaller c =
-    omega (arith, c.loop-left-test.true)
-
-pub loop-left-preserved : goal.loop-left-preserved
-loop-left-preserved c =
-    let a = c.args in
-    let loop = c.loop-left in
-    let some : 0 < loop.left = c.loop-left-test.true in (
-      loop.invariant.0 ∙ refused_there _ _ _ _ some (sym c.refused_at.ensures ∙ c.if-refused_at.false),
-      omega (arith, loop.invariant.1, one_less a.width loop.left some),
-      omega (arith, loop.invariant.2),
-    )
+pub loop-preserved : goal.loop-preserved
+loop-preserved c =
+    let l = c.loop in
+    let n = refused_there _ _ l.p c.args.n l.counter c.loop-test.true (sym c.refused_at.ensures ∙ c.if-refused_at.false) in
+    (omega (arith, mul-suc c.args.width l.counter, l.invariant.0), sym n ∙ l.invariant.1)
 
 pub returns : goal.returns
-returns c =
-    sym (c.loop-left.invariant.0 ∙ refused_none _ _ _ _ (omega (arith, c.loop-left-test.false)))
+returns c = sym (refused_over _ _ c.loop.p c.args.n c.loop.counter c.loop-test.false) ∙ c.loop.invariant.1

@@ -6,9 +6,6 @@ use Rattle.opcodes.proofs.list.test_opcodes.Given as goal
 
 abbrev pub invariant-loop-i : goal.invariant-loop-i
 invariant-loop-i l =
-    (counted_on none (run l.file (list_from l.size l.count 0 l.at l.bytes))
-    ≡ counted_on l.counts (run l.file (list_from l.size (l.count - l.i) l.i l.p l.rest)))
-    × (l.p + l.rest ≤ length l.file) × (l.i ≤ l.count) × (l.counts.kept ≤ l.i) × (l.counts.skipped ≤ l.i)
-
-abbrev pub decreases-loop-i : goal.decreases-loop-i
-decreases-loop-i l = l.count - l.i
+    (counted_on l.counts (run l.file (list_from l.size (l.count - l.i) l.i l.p l.rest))
+    ≡ counted_on none (run l.file (list_from l.size l.count 0 l.at l.bytes)))
+    × (l.p + l.rest ≤ length l.file) × (l.counts.kept ≤ l.i) × (l.counts.skipped ≤ l.i)

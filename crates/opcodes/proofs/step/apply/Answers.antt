@@ -1,20 +1,7 @@
-use Rattle.std.proofs.Common.{ap, ◌∙◌, subst, arith}
+use Rattle.std.proofs.Common.{ap, ◌∙◌}
 use Rattle.levels.specs.Clip.{clip_of}
 use Rattle.opcodes.specs.Step.{horner_of, result_of, applied_of}
-use Rattle.opcodes.specs.Facts.Step.{TableIn, StepIn}
 use Rattle.opcodes.proofs.step.apply.Goals as goal
-
-pub field-requires : goal.field-requires
-field-requires c =
-    let a = c.args in
-    let pre = c.requires in
-    let t : TableIn a.file.now _ = subst (StepIn a.file.now) c.in-Table.is pre in omega (arith, t.inside)
-
-pub mapped-requires : goal.mapped-requires
-mapped-requires c =
-    let a = c.args in
-    let pre = c.requires in
-    (subst (StepIn a.file.now) c.in-Table.is pre, c.field.ensures.0)
 
 pub returns-in-Add : goal.returns-in-Add
 unfolding applied_of result_of horner_of

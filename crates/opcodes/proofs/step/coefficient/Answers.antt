@@ -1,21 +1,9 @@
-use Rattle.std.proofs.Common.{sym, ap, ◌∙◌, arith}
+use Rattle.std.proofs.Common.{sym, ap, ◌∙◌}
 use lib.ListN.{get_or-eq_default}
 use lib.Ieee.{of_bits, neg}
 use Rattle.levels.proofs.Runs.{run_at, length_run}
 use Rattle.opcodes.specs.Step.{value_of, double_in, minus_zero, coefficients_of}
 use Rattle.opcodes.proofs.step.coefficient.Goals as goal
-
-pub overflow_mul-k : goal.overflow_mul-k
-overflow_mul-k c =
-    omega (arith, c.requires.0)
-
-pub overflow_add-at : goal.overflow_add-at
-overflow_add-at c =
-    omega (arith, c.requires.1, c.if-k-n.true)
-
-pub double_at-requires : goal.double_at-requires
-double_at-requires c =
-    omega (arith, c.requires.1, c.if-k-n.true)
 
 pub returns-then-k-n : goal.returns-then-k-n
 unfolding neg

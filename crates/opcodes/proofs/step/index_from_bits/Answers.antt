@@ -1,12 +1,8 @@
 use Rattle.std.proofs.Common.{sym, subst, arith}
 use Rattle.opcodes.specs.TableIndex.{WholePart}
-use Rattle.opcodes.proofs.IndexBits.{index_number, index_shifted, index_whole, exponent_most, exponent_least}
+use Rattle.opcodes.proofs.IndexBits.{index_shifted, index_whole, exponent_most, exponent_least}
 use Rattle.opcodes.proofs.step.index_from_bits.Goals as goal
 use Rattle.opcodes.proofs.step.index_from_bits.Goals.{Start}
-
-pub float_to_bits-bits : goal.float_to_bits-bits
-float_to_bits-bits c =
-    index_number c.args.v c.requires
 
 pub overflow_sub-result : goal.overflow_sub-result
 overflow_sub-result c =

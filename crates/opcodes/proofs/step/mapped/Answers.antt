@@ -1,4 +1,4 @@
-use Rattle.std.proofs.Common.{◌≡◌, ℕ, ◌+◌, min, List, ap, ◌∙◌, arith}
+use Rattle.std.proofs.Common.{◌≡◌, ℕ, ◌+◌, min, List, ap, ◌∙◌}
 use lib.Ieee.{Float}
 use Rattle.reading.specs.Bytes.{part}
 use Rattle.reading.specs.Number.{number_of}
@@ -15,15 +15,6 @@ through_is : (f : List ℕ) (at : ℕ) (x : Float) (n k : ℕ) → n ≡ long_of
     through_of (table_of Big f (at + 4) n) k ≡ through_of (table_at f at) (index_of x)
 through_is f at x n k e h t =
     rw (e, h) (through_capped (λ (p : ℕ). number_of Big (part f p 2)) 2 (at + 4) (long_of f at) (index_of x) t.some t.most)
-
-pub overflow_add-at : goal.overflow_add-at
-overflow_add-at c =
-    omega (arith, c.requires.0.inside)
-
-pub through-requires : goal.through-requires
-through-requires c =
-    let pre = c.requires in
-    omega (arith, pre.0.inside, pre.1)
 
 pub returns : goal.returns
 returns c =

@@ -10,18 +10,6 @@ use Rattle.opcodes.specs.Grid.{long_of}
 use Rattle.opcodes.proofs.step.unit_mapped.Goals as goal
 use Rattle.opcodes.proofs.step.unit_mapped.Goals.{Start}
 
-pub overflow_add-at : goal.overflow_add-at
-overflow_add-at c =
-    omega (arith, c.requires.0.inside)
-
-pub unit_index-requires : goal.unit_index-requires
-unit_index-requires c =
-    c.requires.2
-
-pub through-requires : goal.through-requires
-through-requires c = let p =
-    c.requires in omega (arith, p.0.inside, p.1)
-
 -- what is read, as the table has it
 read : (f : List ℕ) (at n k l : ℕ) (x : Float) → n ≡ long_of f at → k ≡ index_of x →
     l ≡ through_of (table_of Big f (at + 4) n) k → l ≤ 65535 →

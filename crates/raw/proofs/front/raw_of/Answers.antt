@@ -1,57 +1,32 @@
-use mathlib.Core.Path.{refl, sym, ap, subst, ◌∙◌}
-use Rattle.directory.specs.Facts.Out.{out}
-use Rattle.reading.specs.Reading.{Reading.answer}
-use Rattle.reading.proofs.Reading.{run_answer, run_then}
+use mathlib.Core.Path.{sym, ◌∙◌}
+use Rattle.reading.proofs.Reading.{run_answer, run_and_then}
 use Rattle.directory.proofs.Outs.{bind_refused, bind_is}
-use Rattle.rawtags.specs.Facts.Raw.{TagsIn}
+use Rattle.std.proofs.lemmas.Result.{err_from_is_err_and}
 use Rattle.raw.specs.Stored.{levels_reading}
-use Rattle.raw.specs.Spans.{spanned_of}
-use Rattle.raw.specs.Facts.Spans.{SpansIn}
 use Rattle.raw.specs.Front.{raw_reading}
 use Rattle.raw.proofs.front.raw_of.Goals as goal
 
-pub returns-in-Refused : goal.returns-in-Refused
+pub returns-in_err-tags : goal.returns-in_err-tags
 unfolding raw_reading
-returns-in-Refused c =
-    let tags-of = c.tags_of in
-    (bind_refused _ _ _ _ _ (ap out (sym c.in-Refused.is) ∙ tags-of.ensures.0), tt)
+returns-in_err-tags c =
+    let p = err_from_is_err_and c.from_residual.result c.from_residual.ensures.1 in
+    rw (p.1, p.2) (bind_refused _ _ _ _ _ c.in_err-tags.ensures.0, tt)
 
-pub spans_of-requires : goal.spans_of-requires
-spans_of-requires c =
-    let a = c.args in
-    let tags-of = c.tags_of in
-    subst (TagsIn a.file.now a.ifd.order) c.in-Is.is tags-of.ensures.1
-
-pub returns-in-Refused-spans_of : goal.returns-in-Refused-spans_of
+pub returns-in_err-spans : goal.returns-in_err-spans
 unfolding raw_reading
-returns-in-Refused-spans_of c =
+returns-in_err-spans c =
     let a = c.args in
-    let tags-of = c.tags_of in
-    let spans-of = c.spans_of in (
-      bind_refused _ _ _ _ _ (ap out (sym c.in-Refused-spans_of.is) ∙ spans-of.ensures.0
-          ∙ sym (run_then a.file.now (levels_reading a.ifd.order c.in-Is.v) (λ l. answer (spanned_of l)) _ refl
-          ∙ run_answer _ _)) ∙ sym (bind_is _ _ _ _ (ap out (sym c.in-Is.is) ∙ tags-of.ensures.0)),
-      tt,
-    )
+    let p = err_from_is_err_and c.from_residual-in_err-spans.result c.from_residual-in_err-spans.ensures.1 in
+    let read = run_and_then a.file.now (levels_reading a.ifd.order c.in_ok-tags.tags) _ ∙ run_answer _ _ in
+    rw (p.1, p.2) (bind_refused _ _ _ _ _ (c.in_err-spans.ensures.0 ∙ sym read) ∙ sym (bind_is _ _ _ _ c.in_ok-tags.ensures.0), tt)
 
-pub returns-in-Is-spans_of : goal.returns-in-Is-spans_of
+pub returns : goal.returns
 unfolding raw_reading
-returns-in-Is-spans_of c =
+returns c =
     let a = c.args in
-    let tags-of = c.tags_of in
-    let spans-of = c.spans_of in (
-      sym (bind_is _ _ _ _ (ap out (sym c.in-Is.is) ∙ tags-of.ensures.0)
-          ∙ bind_is _ _ _ _ (ap out (sym c.in-Is-spans_of.is) ∙ spans-of.ensures.0
-          ∙ sym (run_then a.file.now (levels_reading a.ifd.order c.in-Is.v) (λ l. answer (spanned_of l)) _ refl ∙ run_answer _ _))
-          ∙ run_answer _ _),
-      record {
-        tags = subst (TagsIn a.file.now
-            a.ifd.order)
-            c.in-Is.is tags-of.ensures.1;
-        spans =
-            subst (SpansIn c.in-Is.v.frame.samples) c.in-Is-spans_of.is
-            spans-of.ensures.1;
-        spanned = ap out (sym c.in-Is-spans_of.is)
-            ∙ spans-of.ensures.0;
-      },
+    let tags = c.in_ok-tags.ensures in
+    let spans = c.in_ok-spans.ensures in
+    let read = run_and_then a.file.now (levels_reading a.ifd.order c.in_ok-tags.tags) _ ∙ run_answer _ _ in (
+      sym (bind_is _ _ _ _ tags.0 ∙ bind_is _ _ _ _ (spans.0 ∙ sym read) ∙ run_answer _ _),
+      record { tags = tags.1; spans = spans.1; spanned = spans.0 },
     )

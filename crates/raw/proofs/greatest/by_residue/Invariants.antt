@@ -12,6 +12,3 @@ use Rattle.raw.proofs.greatest.by_residue.Given as goal
 abbrev pub invariant-loop-i : goal.invariant-loop-i
 invariant-loop-i l =
     Filled (greatest_delta (run l.file (blacks_reading l.order kind.SignedRational l.deltas)) l.n l.step) l.i (replicate 8 (pos 0)) l.found
-
-abbrev pub decreases-loop-i : goal.decreases-loop-i
-decreases-loop-i l = l.last - l.i

@@ -12,6 +12,3 @@ invariant-loop-k l =
     Folded (λ (k : ℕ). residue_black (run l.file (levels_reading l.order l.tags)) l.deltas.columns l.deltas.rows l.plane (k / l.across) (k % l.across))
     (l.down * l.across) l.k l.best
     × (nat_abs l.best ≤ 50330880)
-
-abbrev pub decreases-loop-k : goal.decreases-loop-k
-decreases-loop-k l = l.pairs - l.k

@@ -16,6 +16,3 @@ invariant-loop-k l =
     (times_of l.n l.step l.first) l.k
     l.best
     × (nat_abs l.best ≤ most_black)
-
-abbrev pub decreases-loop-k : goal.decreases-loop-k
-decreases-loop-k l = l.times - l.k

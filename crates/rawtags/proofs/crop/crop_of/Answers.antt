@@ -1,28 +1,15 @@
-use mathlib.Core.Path.{sym, ap, ◌∙◌}
-use Rattle.directory.specs.Facts.Out.{out}
-use Rattle.reading.proofs.Reading.{run_answer}
-use Rattle.directory.proofs.Outs.{bind_refused, bind_is}
+use mathlib.Core.Path.{◌∙◌}
+use Rattle.std.proofs.Common.{rules}
 use Rattle.rawtags.specs.Crop.{crop_reading}
+use Rattle.rawtags.proofs.Chain.{on, off, end, exit}
 use Rattle.rawtags.proofs.crop.crop_of.Goals as goal
 
-pub returns-in-Refused : goal.returns-in-Refused
+pub returns-in_err-size : goal.returns-in_err-size
 unfolding crop_reading
-returns-in-Refused c =
-    (bind_refused _ _ _ _ _ (ap out (sym c.in-Refused.is) ∙ c.lengths_of.ensures), tt)
-
-pub returns-in-Refused-lengths_of : goal.returns-in-Refused-lengths_of
-unfolding crop_reading
-returns-in-Refused-lengths_of c = (
-  bind_refused _ _ _ _ _ (ap out (sym c.in-Refused-lengths_of.is) ∙ c.lengths_of-2.ensures)
-      ∙ sym (bind_is _ _ _ _ (ap out (sym c.in-Is.is) ∙ c.lengths_of.ensures)),
-  tt,
-)
+returns-in_err-size c =
+    (exit _ _ _ _ c.from_residual-in_err-size.ensures.1 (on _ _ _ c.in_ok-origin.ensures (off _ _ _ c.in_err-size.ensures)), search rules)
 
 pub returns : goal.returns
 unfolding crop_reading
-returns c = (
-  c.tested_crop.ensures.0
-      ∙ sym (bind_is _ _ _ _ (ap out (sym c.in-Is.is) ∙ c.lengths_of.ensures)
-      ∙ bind_is _ _ _ _ (ap out (sym c.in-Is-lengths_of.is) ∙ c.lengths_of-2.ensures) ∙ run_answer _ _),
-  c.tested_crop.ensures.1,
-)
+returns c =
+    (on _ _ _ c.in_ok-origin.ensures (on _ _ _ c.in_ok-size.ensures (c.tested_crop.ensures.0 ∙ end _ _)), c.tested_crop.ensures.1)

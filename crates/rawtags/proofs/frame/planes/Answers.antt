@@ -1,43 +1,35 @@
 use Rattle.std.specs.Prelude.{Result, Ok, Err}
-use mathlib.Core.Path.{◌≡◌, sym, ap, ◌∙◌}
+use mathlib.Core.Path.{◌≡◌, subst}
+use mathlib.Core.Logic.{◌⊎◌, ⊎_elim}
 use Prim.Native.Nat.{ℕ}
 use native.Mathlib.Omega.{arith}
-use Rattle.directory.specs.Facts.Out.{out}
-use Rattle.directory.proofs.Outs.{bind_refused, bind_is}
-use Rattle.reading.proofs.Reading.{running, pick_no}
 use borrow.Author.Tests.{eq-eqb, ne_eqb}
+use Rattle.reading.proofs.Reading.{running, pick_no}
 use Rattle.directory.specs.Tag.{range}
 use Rattle.directory.specs.Facts.Tag.{NumberIn}
+use Rattle.directory.specs.declared.refusal.Refusal.{Refusal}
 use Rattle.rawtags.specs.Frame.{samples_of, planes_reading}
 use Rattle.rawtags.specs.Facts.Frame.{PlanesIn}
-use Rattle.rawtags.proofs.AcceptedFrame.{samples_in}
+use Rattle.rawtags.proofs.Chain.{on}
 use Rattle.rawtags.proofs.frame.planes.Goals as goal
-use Rattle.directory.specs.declared.refusal.Refusal.{Refusal}
 
-one_or_three : (p s : ℕ) → s ≡ samples_of p → (s ≡ 0 → ⊥) → (n : Result ℕ Refusal) → NumberIn (range 0 s s) n → PlanesIn n
-one_or_three p s e z (Err n) i = tt
-one_or_three p s e z (Ok v) i = samples_in p v (omega (arith, e, i.from, i.to)) (λ q. z (omega (arith, e, q, i.from, i.to)))
+one_or_three : (s : ℕ) → (s ≡ 1) ⊎ (s ≡ 3) → (n : Result ℕ Refusal) → NumberIn (range 0 s s) n → PlanesIn n
+one_or_three s z (Err n) i = tt
+one_or_three s z (Ok v) i =
+    let e : s ≡ v = omega (arith, i.from, i.to) in
+    subst (λ (n : ℕ). (n ≡ 1) ⊎ (n ≡ 3)) e z
 
-pub returns-in-Refused : goal.returns-in-Refused
+pub returns-in_default : goal.returns-in_default
 unfolding planes_reading
-returns-in-Refused c =
-    let one = c.one in
-    (bind_refused _ _ _ _ _ (ap out (sym c.in-Refused.is) ∙ one.ensures.0), tt)
-
-pub returns-then-samples-eq0 : goal.returns-then-samples-eq0
-unfolding planes_reading
-returns-then-samples-eq0 c =
-    let one = c.one in
-    let e = bind_is _ _ _ _ (ap out (sym c.in-Is.is) ∙ one.ensures.0) in
-    (sym (e ∙ simp (eq-eqb _ _ (sym c.samples_of-samples.ensures ∙ c.if-samples-eq0.true), running)), tt)
+returns-in_default c =
+    let p = rw (c.required-photometric.ensures, c.new.ensures) at c.in_ok-p.ensures.0 in
+    (on _ _ _ p (simp (eq-eqb _ _ c.in_default.ensures, running)), tt)
 
 pub returns : goal.returns
 unfolding planes_reading
 returns c =
-    let one = c.one in
-    let s = c.samples_of-samples in
-    let z : samples_of c.in-Is.v ≡ 0 → ⊥ = λ h. c.if-samples-eq0.false (s.ensures ∙ h) in
-    let e = bind_is _ _ _ _ (ap out (sym c.in-Is.is) ∙ one.ensures.0) in (
-      sym (e ∙ simp (ne_eqb _ _ z, pick_no, ← s.ensures) (sym c.one-2.ensures.0)),
-      one_or_three c.in-Is.v s.result s.ensures c.if-samples-eq0.false c.one-2.result c.one-2.ensures.1,
-    )
+    let h = c.in-Some.ensures in
+    let p = rw (c.required-photometric.ensures, c.new.ensures) at c.in_ok-p.ensures.0 in
+    let s = rw (c.optional-per_pixel.ensures, c.new-2.ensures) at c.one-2.ensures in
+    let z : samples_of c.in_ok-p.p ≡ 0 → ⊥ = λ q. ⊎_elim (λ e. omega arith) (λ e. omega arith) h.1 in
+    (on _ _ _ p (rw (ne_eqb _ _ z, pick_no, ← h.0) s.0), one_or_three _ h.1 _ s.1)

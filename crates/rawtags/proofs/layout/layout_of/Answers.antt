@@ -1,126 +1,60 @@
-use mathlib.Core.Path.{sym, ap, subst, ◌∙◌}
-use Rattle.directory.specs.Facts.Out.{out}
-use Rattle.directory.proofs.Outs.{bind_refused, bind_is}
-use Rattle.reading.proofs.Reading.{run_answer}
-use Rattle.directory.specs.Tag.{range}
-use Rattle.directory.specs.Facts.Tag.{NumberIn}
+use Rattle.std.proofs.Common.{rules}
 use Rattle.rawtags.specs.Layout.{layout_reading}
+use Rattle.rawtags.proofs.Chain.{on, off, end, exit}
 use Rattle.rawtags.proofs.layout.layout_of.Goals as goal
 
-pub returns-in-Refused : goal.returns-in-Refused
+pub returns-in_err-only_one : goal.returns-in_err-only_one
 unfolding layout_reading
-returns-in-Refused c =
-    let depth = c.depth in
-    (bind_refused _ _ _ _ _ (ap out (sym c.in-Refused.is) ∙ depth.ensures.0), tt)
+returns-in_err-only_one c =
+    (exit _ _ _ _ c.from_residual-in_err-only_one.ensures.1 (on _ _ _ c.in_ok-bytes.ensures.0 (off _ _ _ c.in_err-only_one.ensures)), search rules)
 
-pub returns-in-Refused-only_one : goal.returns-in-Refused-only_one
+pub returns-in_err-only_one-2 : goal.returns-in_err-only_one-2
 unfolding layout_reading
-returns-in-Refused-only_one c =
-    let depth = c.depth in
-    let only_one = c.only_one in (
-      bind_refused _ _ _ _ _ (ap out (sym c.in-Refused-only_one.is) ∙ only_one.ensures)
-          ∙ sym (bind_is _ _ _ _ (ap out (sym c.in-Is.is) ∙ depth.ensures.0)),
-      tt,
-    )
+returns-in_err-only_one-2 c = (
+  exit _ _ _ _ c.from_residual-in_err-only_one-2.ensures.1 (on _ _ _ c.in_ok-bytes.ensures.0 (on _ _ _ c.in_ok-only_one.ensures
+      (off _ _ _ c.in_err-only_one-2.ensures))),
+  search rules,
+)
 
-pub returns-in-Refused-only_one-2 : goal.returns-in-Refused-only_one-2
+pub returns-in_err-format : goal.returns-in_err-format
 unfolding layout_reading
-returns-in-Refused-only_one-2 c =
-    let depth = c.depth in
-    let only_one = c.only_one in
-    let only-one2 = c.only_one-2 in (
-      bind_refused _ _ _ _ _ (ap out (sym c.in-Refused-only_one-2.is) ∙ only-one2.ensures)
-          ∙ sym (bind_is _ _ _ _ (ap out (sym c.in-Is.is) ∙ depth.ensures.0)
-          ∙ bind_is _ _ _ _ (ap out (sym c.in-Is-only_one.is) ∙ only_one.ensures)),
-      tt,
-    )
+returns-in_err-format c = (
+  exit _ _ _ _ c.from_residual-in_err-format.ensures.1 (on _ _ _ c.in_ok-bytes.ensures.0 (on _ _ _ c.in_ok-only_one.ensures
+      (on _ _ _ c.in_ok-only_one-2.ensures (off _ _ _ c.in_err-format.ensures)))),
+  search rules,
+)
 
-pub returns-in-Refused-format : goal.returns-in-Refused-format
+pub returns-in_err-only_one-3 : goal.returns-in_err-only_one-3
 unfolding layout_reading
-returns-in-Refused-format c =
-    let depth = c.depth in
-    let only_one = c.only_one in
-    let only-one2 = c.only_one-2 in
-    let format = c.format in (
-      bind_refused _ _ _ _ _ (ap out (sym c.in-Refused-format.is) ∙ format.ensures)
-          ∙ sym (bind_is _ _ _ _ (ap out (sym c.in-Is.is) ∙ depth.ensures.0)
-          ∙ bind_is _ _ _ _ (ap out (sym c.in-Is-only_one.is) ∙ only_one.ensures)
-          ∙ bind_is _ _ _ _ (ap out (sym c.in-Is-only_one-2.is) ∙ only-one2.ensures)),
-      tt,
-    )
+returns-in_err-only_one-3 c = (
+  exit _ _ _ _ c.from_residual-in_err-only_one-3.ensures.1 (on _ _ _ c.in_ok-bytes.ensures.0 (on _ _ _ c.in_ok-only_one.ensures
+      (on _ _ _ c.in_ok-only_one-2.ensures (on _ _ _ c.in_ok-format.ensures (off _ _ _ c.in_err-only_one-3.ensures))))),
+  search rules,
+)
 
-pub returns-in-Refused-only_one-3 : goal.returns-in-Refused-only_one-3
+pub returns-in_err-only_one-4 : goal.returns-in_err-only_one-4
 unfolding layout_reading
-returns-in-Refused-only_one-3 c =
-    let depth = c.depth in
-    let only_one = c.only_one in
-    let only-one2 = c.only_one-2 in
-    let format = c.format in
-    let only-one3 = c.only_one-3 in (
-      bind_refused _ _ _ _ _ (ap out (sym c.in-Refused-only_one-3.is) ∙ only-one3.ensures)
-          ∙ sym (bind_is _ _ _ _ (ap out (sym c.in-Is.is) ∙ depth.ensures.0)
-          ∙ bind_is _ _ _ _ (ap out (sym c.in-Is-only_one.is) ∙ only_one.ensures)
-          ∙ bind_is _ _ _ _ (ap out (sym c.in-Is-only_one-2.is) ∙ only-one2.ensures)
-          ∙ bind_is _ _ _ _ (ap out (sym c.in-Is-format.is) ∙ format.ensures)),
-      tt,
-    )
+returns-in_err-only_one-4 c = (
+  exit _ _ _ _ c.from_residual-in_err-only_one-4.ensures.1 (on _ _ _ c.in_ok-bytes.ensures.0 (on _ _ _ c.in_ok-only_one.ensures
+      (on _ _ _ c.in_ok-only_one-2.ensures (on _ _ _ c.in_ok-format.ensures (on _ _ _ c.in_ok-only_one-3.ensures
+      (off _ _ _ c.in_err-only_one-4.ensures)))))),
+  search rules,
+)
 
-pub returns-in-Refused-only_one-4 : goal.returns-in-Refused-only_one-4
+pub returns-in_err-rows : goal.returns-in_err-rows
 unfolding layout_reading
-returns-in-Refused-only_one-4 c =
-    let depth = c.depth in
-    let only_one = c.only_one in
-    let only-one2 = c.only_one-2 in
-    let format = c.format in
-    let only-one3 = c.only_one-3 in
-    let only-one4 = c.only_one-4 in (
-      bind_refused _ _ _ _ _ (ap out (sym c.in-Refused-only_one-4.is) ∙ only-one4.ensures)
-          ∙ sym (bind_is _ _ _ _ (ap out (sym c.in-Is.is) ∙ depth.ensures.0)
-          ∙ bind_is _ _ _ _ (ap out (sym c.in-Is-only_one.is) ∙ only_one.ensures)
-          ∙ bind_is _ _ _ _ (ap out (sym c.in-Is-only_one-2.is) ∙ only-one2.ensures)
-          ∙ bind_is _ _ _ _ (ap out (sym c.in-Is-format.is) ∙ format.ensures)
-          ∙ bind_is _ _ _ _ (ap out (sym c.in-Is-only_one-3.is) ∙ only-one3.ensures)),
-      tt,
-    )
-
-pub returns-in-Refused-strip_rows : goal.returns-in-Refused-strip_rows
-unfolding layout_reading
-returns-in-Refused-strip_rows c =
-    let depth = c.depth in
-    let only_one = c.only_one in
-    let only-one2 = c.only_one-2 in
-    let format = c.format in
-    let only-one3 = c.only_one-3 in
-    let only-one4 = c.only_one-4 in
-    let strip-rows = c.strip_rows in (
-      bind_refused _ _ _ _ _ (ap out (sym c.in-Refused-strip_rows.is) ∙ strip-rows.ensures.0)
-          ∙ sym (bind_is _ _ _ _ (ap out (sym c.in-Is.is) ∙ depth.ensures.0)
-          ∙ bind_is _ _ _ _ (ap out (sym c.in-Is-only_one.is) ∙ only_one.ensures)
-          ∙ bind_is _ _ _ _ (ap out (sym c.in-Is-only_one-2.is) ∙ only-one2.ensures)
-          ∙ bind_is _ _ _ _ (ap out (sym c.in-Is-format.is) ∙ format.ensures)
-          ∙ bind_is _ _ _ _ (ap out (sym c.in-Is-only_one-3.is) ∙ only-one3.ensures)
-          ∙ bind_is _ _ _ _ (ap out (sym c.in-Is-only_one-4.is) ∙ only-one4.ensures)),
-      tt,
-    )
+returns-in_err-rows c = (
+  exit _ _ _ _ c.from_residual-in_err-rows.ensures.1 (on _ _ _ c.in_ok-bytes.ensures.0 (on _ _ _ c.in_ok-only_one.ensures
+      (on _ _ _ c.in_ok-only_one-2.ensures (on _ _ _ c.in_ok-format.ensures (on _ _ _ c.in_ok-only_one-3.ensures
+      (on _ _ _ c.in_ok-only_one-4.ensures (off _ _ _ c.in_err-rows.ensures.0))))))),
+  search rules,
+)
 
 pub returns : goal.returns
 unfolding layout_reading
-returns c =
-    let depth = c.depth in
-    let only_one = c.only_one in
-    let only-one2 = c.only_one-2 in
-    let format = c.format in
-    let only-one3 = c.only_one-3 in
-    let only-one4 = c.only_one-4 in
-    let strip-rows = c.strip_rows in
-    let b = subst (NumberIn (range 1 1 2)) c.in-Is.is depth.ensures.1 in
-    let r = subst (NumberIn (range 1 1 0xFFFF_FFFF_FFFF_FFFF)) c.in-Is-strip_rows.is strip-rows.ensures.1 in (
-      sym (bind_is _ _ _ _ (ap out (sym c.in-Is.is) ∙ depth.ensures.0)
-          ∙ bind_is _ _ _ _ (ap out (sym c.in-Is-only_one.is) ∙ only_one.ensures)
-          ∙ bind_is _ _ _ _ (ap out (sym c.in-Is-only_one-2.is) ∙ only-one2.ensures)
-          ∙ bind_is _ _ _ _ (ap out (sym c.in-Is-format.is) ∙ format.ensures)
-          ∙ bind_is _ _ _ _ (ap out (sym c.in-Is-only_one-3.is) ∙ only-one3.ensures)
-          ∙ bind_is _ _ _ _ (ap out (sym c.in-Is-only_one-4.is) ∙ only-one4.ensures)
-          ∙ bind_is _ _ _ _ (ap out (sym c.in-Is-strip_rows.is) ∙ strip-rows.ensures.0) ∙ run_answer _ _),
-      record { some_bytes = b.legal; bytes = b.to; some_rows = r.legal; rows = r.to },
-    )
+returns c = (
+  on _ _ _ c.in_ok-bytes.ensures.0 (on _ _ _ c.in_ok-only_one.ensures (on _ _ _ c.in_ok-only_one-2.ensures
+      (on _ _ _ c.in_ok-format.ensures (on _ _ _ c.in_ok-only_one-3.ensures (on _ _ _ c.in_ok-only_one-4.ensures
+      (on _ _ _ c.in_ok-rows.ensures.0 (end _ _))))))),
+  search rules,
+)

@@ -1,33 +1,26 @@
-use mathlib.Core.Path.{sym, ap, ◌∙◌}
-use Rattle.directory.specs.Facts.Out.{out}
-use Rattle.rawtags.proofs.PatternLaws.{pattern_dim, pattern_colours, pattern_planes, pattern_layout, pattern_is}
+use Rattle.rawtags.specs.Pattern.{pattern_reading}
+use Rattle.rawtags.proofs.Chain.{on, off, end, exit}
 use Rattle.rawtags.proofs.pattern.pattern_of.Goals as goal
 
-pub returns-in-Refused : goal.returns-in-Refused
-returns-in-Refused c =
-    pattern_dim _ _ _ _ (ap out (sym c.in-Refused.is) ∙ c.repeat_dim_of.ensures)
+pub returns-in_err-pattern : goal.returns-in_err-pattern
+unfolding pattern_reading
+returns-in_err-pattern c =
+    exit _ _ _ _ c.from_residual-in_err-pattern.ensures.1 (on _ _ _ c.in_ok-repeat_dim_of.ensures (off _ _ _ c.in_err-pattern.ensures))
 
-pub returns-in-Refused-cfa_pattern_of : goal.returns-in-Refused-cfa_pattern_of
-returns-in-Refused-cfa_pattern_of c =
-    let dim = ap out (sym c.in-Is.is) ∙ c.repeat_dim_of.ensures in
-    pattern_colours _ _ _ dim _ _ (ap out (sym c.in-Refused-cfa_pattern_of.is) ∙ c.cfa_pattern_of.ensures)
+pub returns-in_err-plane_color_of : goal.returns-in_err-plane_color_of
+unfolding pattern_reading
+returns-in_err-plane_color_of c =
+    exit _ _ _ _ c.from_residual-in_err-plane_color_of.ensures.1 (on _ _ _ c.in_ok-repeat_dim_of.ensures (on _ _ _ c.in_ok-pattern.ensures
+    (off _ _ _ c.in_err-plane_color_of.ensures)))
 
-pub returns-in-Refused-plane_color_of : goal.returns-in-Refused-plane_color_of
-returns-in-Refused-plane_color_of c =
-    let dim = ap out (sym c.in-Is.is) ∙ c.repeat_dim_of.ensures in
-    let colours = ap out (sym c.in-Is-cfa_pattern_of.is) ∙ c.cfa_pattern_of.ensures in
-    pattern_planes _ _ _ dim _ colours _ _ (ap out (sym c.in-Refused-plane_color_of.is) ∙ c.plane_color_of.ensures)
-
-pub returns-in-Refused-cfa_layout_of : goal.returns-in-Refused-cfa_layout_of
-returns-in-Refused-cfa_layout_of c =
-    let dim = ap out (sym c.in-Is.is) ∙ c.repeat_dim_of.ensures in
-    let colours = ap out (sym c.in-Is-cfa_pattern_of.is) ∙ c.cfa_pattern_of.ensures in
-    let planes = ap out (sym c.in-Is-plane_color_of.is) ∙ c.plane_color_of.ensures in
-    pattern_layout _ _ _ dim _ colours _ planes _ _ (ap out (sym c.in-Refused-cfa_layout_of.is) ∙ c.cfa_layout_of.ensures)
+pub returns-in_err-cfa_layout_of : goal.returns-in_err-cfa_layout_of
+unfolding pattern_reading
+returns-in_err-cfa_layout_of c =
+    exit _ _ _ _ c.from_residual-in_err-cfa_layout_of.ensures.1 (on _ _ _ c.in_ok-repeat_dim_of.ensures (on _ _ _ c.in_ok-pattern.ensures
+    (on _ _ _ c.in_ok-plane_color_of.ensures (off _ _ _ c.in_err-cfa_layout_of.ensures))))
 
 pub returns : goal.returns
+unfolding pattern_reading
 returns c =
-    let dim = ap out (sym c.in-Is.is) ∙ c.repeat_dim_of.ensures in
-    let colours = ap out (sym c.in-Is-cfa_pattern_of.is) ∙ c.cfa_pattern_of.ensures in
-    let planes = ap out (sym c.in-Is-plane_color_of.is) ∙ c.plane_color_of.ensures in
-    pattern_is _ _ _ dim _ colours _ planes _ (ap out (sym c.in-Is-cfa_layout_of.is) ∙ c.cfa_layout_of.ensures)
+    on _ _ _ c.in_ok-repeat_dim_of.ensures (on _ _ _ c.in_ok-pattern.ensures (on _ _ _ c.in_ok-plane_color_of.ensures
+    (on _ _ _ c.in_ok-cfa_layout_of.ensures (end _ _))))

@@ -4,8 +4,6 @@ use Rattle.rawtags.proofs.white.white_of.Goals as goal
 
 pub returns : goal.returns
 unfolding white_reading
-returns c = (
-  c.all.ensures.0,
-  whites_in c.args.file.now c.args.ifd c.args.samples c.all.result c.all.ensures.0
-      c.all.ensures.1,
-)
+returns c =
+    let q = rw (c.optional-rule.ensures, c.new.ensures) at c.all.ensures in
+    (q.0, whites_in _ _ _ _ q.0 q.1)

@@ -41,25 +41,21 @@ end_at-end-requires c =
 pub loop-p-init : goal.loop-p-init
 loop-p-init c =
     let h = c.requires.sized_in in
-    (omega arith, omega arith, refl, planes_start _ _ _ _ _ _ _ h.1.column_pitch _)
-
-pub overflow_sub-p : goal.overflow_sub-p
-overflow_sub-p c =
-    omega (arith, c.loop-p.invariant.0)
+    planes_start _ _ _ _ _ _ _ h.1.column_pitch _
 
 pub plane_for-q-requires : goal.plane_for-q-requires
 plane_for-q-requires c =
     let pre = c.requires in
     pre.gain_map_in.0
 
-pub overflow_add-columns : goal.overflow_add-columns
-overflow_add-columns c =
+pub overflow_add-places : goal.overflow_add-places
+overflow_add-places c =
     let h = c.requires.sized_in in
     let f = c.first_at-first.ensures.1 in
-    omega (arith, f, c.loop-p.invariant.1, h.1.planes, h.0.few)
+    omega (arith, f, h.1.planes, h.0.few)
 
-pub overflow_mul-columns : goal.overflow_mul-columns
-overflow_mul-columns c =
+pub overflow_mul-places : goal.overflow_mul-places
+overflow_mul-places c =
     let h = c.requires.sized_in in
     omega (arith, small c.args.grid.column_pitch c.args.size.samples h.2 h.0.few)
 
@@ -77,9 +73,7 @@ sweep_gain-requires c =
     let w = small g.column_pitch a.size.samples h.2 h.0.few in record {
       columns_in = (
         record {
-          some = mul-pos h.1.column_pitch h.0.some;
-          step = omega (arith, w);
-          end = omega (arith, e, t, v.invariant.2);
+          places = record { some = mul-pos h.1.column_pitch h.0.some; few = omega (arith, w); inside = omega (arith, e, t) };
           left = omega (arith, h.1.some_columns, h.1.columns, h.0.columns);
           pitch = h.2;
           skip = k.1;
@@ -93,17 +87,6 @@ sweep_gain-requires c =
       );
       gain_map_in = (c.requires.gain_map_in.0, c.across_axis-across.ensures, c.requires.gain_map_in.1, c.plane_for-q.ensures.1);
     }
-
-pub overflow_add-p : goal.overflow_add-p
-overflow_add-p c =
-    let loop-test = c.loop-p-test in
-    let h = c.requires.sized_in in
-    omega (arith, c.loop-p.invariant.1, h.1.planes, h.0.few, loop-test.true)
-
-pub loop-p-smaller : goal.loop-p-smaller
-loop-p-smaller c =
-    let loop-test = c.loop-p-test in
-    omega (arith, loop-test.true)
 
 pub loop-p-preserved : goal.loop-p-preserved
 loop-p-preserved c =
@@ -120,25 +103,17 @@ loop-p-preserved c =
     let step = g.column_pitch * a.size.samples in
     let swept : ℕ → List Float = λ q. swept_of (f.result + v.p) e.result step
     (λ m x. let j = k.result + (m - (f.result + v.p)) / step in times_gain a.ps.now a.down q a.size.columns
-    (g.left + j * g.column_pitch) x) v.out in (
-      omega (arith, v.invariant.0),
-      omega (arith, t),
-      w.auto.out ∙ v.invariant.2,
-      planes_next (gain_line a.ps.now a.size g a.down) _ _ _ _ _ _ h.1.column_pitch v.p _ _ _ _ a.out.now v.out _
-          k.ensures.0 f.ensures.0 e.ensures v.invariant.0 (omega (arith, h.1.planes, t)) refl v.invariant.3
-          (w.ensures ∙ ap swept plane-for.ensures.0),
-    )
-
-pub shape_of-out : goal.shape_of-out
-shape_of-out c =
-    c.loop-p.invariant.2
+    (g.left + j * g.column_pitch) x) v.out in
+    planes_next (gain_line a.ps.now a.size g a.down) _ _ _ _ _ _ h.1.column_pitch v.p _ _ _ _ a.out.now v.out _
+    k.ensures.0 f.ensures.0 e.ensures (omega arith) (omega (arith, h.1.planes, t)) refl v.invariant
+    (w.ensures ∙ ap swept plane-for.ensures.0)
 
 pub returns : goal.returns
 returns c =
     let a = c.args in
     let g = a.grid in
     let v = c.loop-p in
-    let e : v.p ≡ g.plane + g.planes = omega (arith, v.invariant.1, c.loop-p-test.false) in
+    let e : v.p ≡ g.plane + g.planes = omega (arith, c.loop-p.auto.p-end (omega arith)) in
     let R = gain_line a.ps.now a.size g a.down in
     subst (λ (q : ℕ). v.out ≡ planes_of R g.left g.right g.column_pitch a.column.0 a.size.samples g.plane q a.out.now) e
-    v.invariant.3
+    v.invariant

@@ -1,13 +1,9 @@
 use mathlib.Core.Path.{◌≡◌}
-use Prim.Native.Nat.{◌-◌}
 use Rattle.opcodes.specs.Opcode.{Opcode, opcode_at}
 use Rattle.levels.specs.Clip.{clip_of}
 use Rattle.rows.proofs.Walks.{Progress}
 use Rattle.rows.proofs.list.opcodes_at.Given as goal
 
-abbrev pub invariant-loop-i : goal.invariant-loop-i
-invariant-loop-i l =
-    Progress (λ (o : Opcode). opcode_at o l.row.0 l.column.0 l.plane) l.file l.size l.count l.at l.bytes l.i l.p l.x l.y × (clip_of l.y ≡ l.y)
-
-abbrev pub decreases-loop-i : goal.decreases-loop-i
-decreases-loop-i l = l.count - l.i
+abbrev pub invariant-loop : goal.invariant-loop
+invariant-loop l =
+    Progress (λ (o : Opcode). opcode_at o l.row.0 l.column.0 l.plane) l.file l.size l.count l.at l.bytes l.counter l.p l.x l.y × (clip_of l.y ≡ l.y)

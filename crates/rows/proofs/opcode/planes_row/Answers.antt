@@ -48,7 +48,10 @@ sweep_row-requires c =
     let a = c.args in
     let d = c.dense.ensures c.if-dense.true in
     let e = end-at.ensures in record {
-      pitch_nonzero = (omega arith, omega arith, omega (arith, e, end_short a.grid.right a.column.0 a.n (length a.out.now)), c.requires.part_in.1);
+      places_in = (
+        record { some = omega arith; few = omega arith; inside = omega (arith, e, end_short a.grid.right a.column.0 a.n (length a.out.now)) },
+        c.requires.part_in.1,
+      );
       part_in = (part_few _ _ _ _ c.requires.part_in.0, c.requires.part_in.2);
       fact = (d.0, d.1);
     }
@@ -67,15 +70,15 @@ returns-then-dense c =
 -- ---- plane after plane
 pub loop-p-init : goal.loop-p-init
 loop-p-init c =
-    (omega arith, omega arith, refl, planes_start _ _ _ _ _ _ _ c.requires.column_pitch_nonzero.0 _, c.requires.part_in.2)
+    (planes_start _ _ _ _ _ _ _ c.requires.column_pitch_nonzero.0 _, c.requires.part_in.2)
 
-pub overflow_add-first : goal.overflow_add-first
-overflow_add-first c =
-    omega (arith, c.first_at-first.ensures.1, c.loop-p.invariant, c.requires.column_pitch_nonzero)
+pub overflow_add-places : goal.overflow_add-places
+overflow_add-places c =
+    omega (arith, c.first_at-first.ensures.1, c.requires.column_pitch_nonzero)
 
-pub overflow_mul-pitch : goal.overflow_mul-pitch
-overflow_mul-pitch c =
-    omega (arith, wide (goal.at.overflow_mul-pitch c).Start)
+pub overflow_mul-places : goal.overflow_mul-places
+overflow_mul-places c =
+    omega (arith, wide (goal.at.overflow_mul-places c).Start)
 
 pub sweep_opcode-requires : goal.sweep_opcode-requires
 sweep_opcode-requires c =
@@ -85,28 +88,20 @@ sweep_opcode-requires c =
     let e = c.end_at-end.ensures in
     let q : v.p < a.n = omega (arith, s.requires.column_pitch_nonzero, c.loop-p-test.true) in
     let w = end_short a.grid.right a.column.0 a.n (length a.out.now) in record {
-      pitch_nonzero = (
-        mul-pos s.requires.column_pitch_nonzero.0 s.requires.column_pitch_nonzero.6,
-        omega (arith, wide s),
-        omega (arith, e, w, v.invariant.2),
+      places_in = (
+        record {
+          some = mul-pos s.requires.column_pitch_nonzero.0 s.requires.column_pitch_nonzero.6;
+          few = omega (arith, wide s);
+          inside = omega (arith, e, w);
+        },
         s.requires.part_in.1,
       );
-      part_in = (part_few _ _ _ _ s.requires.part_in.0, v.invariant.4);
+      part_in = (part_few _ _ _ _ s.requires.part_in.0, v.invariant.1);
       float_in = λ h k t.
           s.requires.part_in.0.column h _
           (hits a.grid.left a.grid.right a.grid.column_pitch a.column.0 a.n v.p _ k s.requires.column_pitch_nonzero.0 q _ _ _
           c.skipped-skip.ensures.0 c.first_at-first.ensures.0 e t);
     }
-
-pub overflow_add-p : goal.overflow_add-p
-overflow_add-p c =
-    let loop-test = c.loop-p-test in
-    omega (arith, c.loop-p.invariant, c.requires.column_pitch_nonzero, loop-test.true)
-
-pub loop-p-smaller : goal.loop-p-smaller
-loop-p-smaller c =
-    let loop-test = c.loop-p-test in
-    omega (arith, loop-test.true)
 
 pub loop-p-preserved : goal.loop-p-preserved
 loop-p-preserved c =
@@ -114,26 +109,19 @@ loop-p-preserved c =
     let t = c.loop-p-test.true in
     let v = c.loop-p in
     let a = c.args in (
-      omega (arith, v.invariant.0),
-      omega (arith, t),
-      w.auto.out ∙ v.invariant.2,
       planes_next _ _ _ _ _ _ _ c.requires.column_pitch_nonzero.0 v.p _ _ _ _ a.out.now v.out _
           c.skipped-skip.ensures.0 c.first_at-first.ensures.0 c.end_at-end.ensures
-          v.invariant.0 (omega (arith, c.requires.column_pitch_nonzero, t)) refl v.invariant.3 w.ensures,
-      subst AllInUnit (sym w.ensures) (swept_units a.file.now _ _ _ _ v.out v.invariant.4),
+          (omega arith) (omega (arith, c.requires.column_pitch_nonzero, t)) refl v.invariant.0 w.ensures,
+      subst AllInUnit (sym w.ensures) (swept_units a.file.now _ _ _ _ v.out v.invariant.1),
     )
-
-pub shape_of-out : goal.shape_of-out
-shape_of-out c =
-    c.loop-p.invariant.2
 
 pub returns : goal.returns
 returns c =
     let loop = c.loop-p in
     let a = c.args in
-    let e : loop.p ≡ a.grid.plane + a.grid.planes = omega (arith, loop.invariant.1, c.loop-p-test.false) in
+    let e : loop.p ≡ a.grid.plane + a.grid.planes = omega (arith, c.loop-p.auto.p-end (omega arith)) in
     let f = a.file.now in
     let R : ℕ → ℕ → Float → Float = λ _ j x. applied_of (step_of f a.at a.id a.i j) f x in
     let v = loop in
     subst (λ (q : ℕ). v.out ≡ planes_of R a.grid.left a.grid.right a.grid.column_pitch a.column.0 a.n a.grid.plane
-    q a.out.now) e v.invariant.3
+    q a.out.now) e v.invariant.0

@@ -1,6 +1,5 @@
 use mathlib.Core.Path.{◌≡◌}
-use Prim.Native.Nat.{ℕ, ◌-◌, ◌≤◌}
-use lib.ListN.{length}
+use Prim.Native.Nat.{ℕ}
 use lib.Ieee.{Float}
 use Rattle.opcodes.specs.Step.{applied_of}
 use Rattle.opcodes.specs.Facts.StepAt.{step_of}
@@ -10,9 +9,5 @@ use Rattle.rows.proofs.opcode.planes_row.Given as goal
 
 abbrev pub invariant-loop-p : goal.invariant-loop-p
 invariant-loop-p l =
-    (l.plane ≤ l.p) × (l.p ≤ l.stop) × (length l.out ≡ length l.initial.out)
-    × (l.out ≡ planes_of (λ (_ j : ℕ) (x : Float). applied_of (step_of l.file l.at l.id l.i j) l.file x) l.left l.right l.pitch l.l l.n l.plane l.p
+    (l.out ≡ planes_of (λ (_ j : ℕ) (x : Float). applied_of (step_of l.file l.at l.id l.i j) l.file x) l.left l.right l.pitch l.l l.n l.plane l.p
     l.initial.out) × AllInUnit l.out
-
-abbrev pub decreases-loop-p : goal.decreases-loop-p
-decreases-loop-p l = l.stop - l.p

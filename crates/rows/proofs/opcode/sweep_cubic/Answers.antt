@@ -1,97 +1,24 @@
-use mathlib.Core.Path.{refl, ap}
+use mathlib.Core.Path.{ap}
+use mathlib.Core.List.{[], ◌∷◌}
 use Prim.Native.Nat.{ℕ, ◌+◌}
-use native.Mathlib.Omega.{arith}
+use borrow.Author.Rules.{rules}
+use lib.Ieee.{lt}
+use Rattle.levels.specs.Clip.{clip_of}
 use Rattle.opcodes.specs.Grid.{long_of}
+use Rattle.opcodes.specs.Step.{horner_of}
 use Rattle.rows.proofs.Parts.{swept_cubic}
 use Rattle.rows.proofs.opcode.sweep_cubic.Goals as goal
 
-pub overflow_add-at : goal.overflow_add-at
-overflow_add-at c =
-    omega (arith, c.requires.at_in_bounds.0, c.well_formed.0.1)
-
-pub field-n-requires : goal.field-n-requires
-field-n-requires c =
-    omega (arith, c.requires.at_in_bounds.0)
-
-pub overflow_add-n : goal.overflow_add-n
-overflow_add-n c =
-    omega (arith, c.field-n.ensures.1)
-
-pub overflow_add-at-2 : goal.overflow_add-at-2
-overflow_add-at-2 c =
-    omega (arith, c.requires.at_in_bounds.0, c.well_formed.0.1)
-
-pub coefficient-a0-requires : goal.coefficient-a0-requires
-coefficient-a0-requires c = let e =
-    c.field-n.ensures.0 in (omega arith, omega (arith, e, c.requires.at_in_bounds.0))
-
-pub overflow_add-at-3 : goal.overflow_add-at-3
-overflow_add-at-3 c =
-    let good = c.well_formed in
-    let pre = c.requires in
-    omega (arith, pre.at_in_bounds.0, good.0.1)
-
-pub coefficient-a1-requires : goal.coefficient-a1-requires
-coefficient-a1-requires c =
-    let pre = c.requires in
-    let e = c.field-n.ensures.0 in (omega arith, omega (arith, e, pre.at_in_bounds.0))
-
-pub overflow_add-at-4 : goal.overflow_add-at-4
-overflow_add-at-4 c =
-    let good = c.well_formed in
-    let pre = c.requires in
-    omega (arith, pre.at_in_bounds.0, good.0.1)
-
-pub coefficient-a2-requires : goal.coefficient-a2-requires
-coefficient-a2-requires c =
-    let pre = c.requires in
-    let e = c.field-n.ensures.0 in (omega arith, omega (arith, e, pre.at_in_bounds.0))
-
-pub overflow_add-at-5 : goal.overflow_add-at-5
-overflow_add-at-5 c =
-    let good = c.well_formed in
-    let pre = c.requires in
-    omega (arith, pre.at_in_bounds.0, good.0.1)
-
-pub coefficient-a3-requires : goal.coefficient-a3-requires
-coefficient-a3-requires c =
-    let pre = c.requires in
-    let field = c.field-n in
-    let e = field.ensures.0 in (omega arith, omega (arith, e, pre.at_in_bounds.0))
-
-pub cubic-requires : goal.cubic-requires
-cubic-requires c =
-    let pre = c.requires in
-    (omega arith, omega arith, pre.pitch_nonzero.2)
-
-pub cubic-requires-else-pitch-eq1 : goal.cubic-requires-else-pitch-eq1
-cubic-requires-else-pitch-eq1 c =
-    let pre = c.requires in
-    pre.pitch_nonzero
-
-pub returns-then-pitch-eq1 : goal.returns-then-pitch-eq1
-returns-then-pitch-eq1 c =
-    let a = c.args in
-    let pre = c.requires in
-    let field = c.field-n in
-    let coefficient = c.coefficient-a0 in
-    let coefficient2 = c.coefficient-a1 in
-    let coefficient3 = c.coefficient-a2 in
-    let coefficient4 = c.coefficient-a3 in
-    let if1 = c.if-pitch-eq1 in
-    swept_cubic a.file.now (a.at + 36) (long_of a.file.now (a.at + 32)) _ a.first a.end a.pitch 1 _ _ _ _ a.out.now
-    _ (ap (λ (k : ℕ). k + 1) field.ensures.0) pre.at_in_bounds.1 if1.true pre.at_in_bounds.2 coefficient.ensures coefficient2.ensures
-    coefficient3.ensures coefficient4.ensures c.cubic.ensures
-
-pub returns-else-pitch-eq1 : goal.returns-else-pitch-eq1
-returns-else-pitch-eq1 c =
-    let a = c.args in
-    let pre = c.requires in
-    let field = c.field-n in
-    let coefficient = c.coefficient-a0 in
-    let coefficient2 = c.coefficient-a1 in
-    let coefficient3 = c.coefficient-a2 in
-    let coefficient4 = c.coefficient-a3 in
-    swept_cubic a.file.now (a.at + 36) (long_of a.file.now (a.at + 32)) _ a.first a.end a.pitch a.pitch _ _ _ _
-    a.out.now _ (ap (λ (k : ℕ). k + 1) field.ensures.0) pre.at_in_bounds.1 (refl) pre.at_in_bounds.2 coefficient.ensures
-    coefficient2.ensures coefficient3.ensures coefficient4.ensures c.cubic-else-pitch-eq1.ensures
+pub returns : goal.returns
+unfolding clip_of lt horner_of
+returns c =
+    let f = c.args.file.now in
+    let p = c.args.places in
+    let pre = c.requires.at_in_bounds in
+    let a0 = c.coefficient-a0 in
+    let a1 = c.coefficient-a1 in
+    let a2 = c.coefficient-a2 in
+    let a3 = c.coefficient-a3 in
+    swept_cubic f (c.args.at + 36) (long_of f (c.args.at + 32)) _ p.first p.end p.pitch _ _ _ _ c.args.out.now _
+    (ap (λ (k : ℕ). k + 1) c.field-n.ensures.0) pre.1 pre.2 a0.ensures a1.ensures a2.ensures a3.ensures
+    (c.sweep_often.ensures (λ n x. clip_of (horner_of (a0.result ∷ a1.result ∷ a2.result ∷ a3.result ∷ []) x)) (λ n x y h. search rules))

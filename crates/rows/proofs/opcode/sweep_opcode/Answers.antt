@@ -2,81 +2,49 @@ use mathlib.Core.Path.{◌≡◌, refl, subst}
 use mathlib.Core.Bool.{true}
 use mathlib.Core.List.{List}
 use mathlib.Core.Logic.{inl, inr}
-use Prim.Native.Nat.{ℕ, ◌+◌, ◌-◌, ◌/◌}
-use native.Mathlib.Omega.{arith}
+use Prim.Native.Nat.{ℕ, ◌+◌, ◌-◌, ◌*◌, ◌/◌, ◌<◌}
+use borrow.Author.Rules.{rules}
+use lib.Ieee.{binary64, add, mul}
+use Rattle.levels.specs.Clip.{clip_of}
 use Rattle.opcodes.specs.Grid.{every_of}
-use Rattle.opcodes.specs.Facts.StepAt.{FloatIn}
+use Rattle.opcodes.specs.Facts.StepAt.{float_at, FloatIn}
 use Rattle.rows.proofs.Parts.{swept_row, swept_11, swept_13}
+use Rattle.rows.proofs.Sweeps.{nth_tell, nth_number}
 use Rattle.rows.proofs.opcode.sweep_opcode.Goals as goal
-use Rattle.rows.proofs.opcode.sweep_opcode.Goals.{Else-id-eq13, Else-pitch-eq1, Else-pitch-eq1-2, Start, Then-pitch-eq1, Then-pitch-eq1-2}
 
--- the loop's values, at a pitch
-abbrev Values : List ℕ → ℕ → ℕ → ℕ → ℕ → ℕ → Type 0
-Values f at j first end p = (k : ℕ) → every_of first end p k ≡ true → FloatIn f at (j + (k - first) / p)
+-- the n-th place's value
+value_at : (f : List ℕ) (at j first end pitch : ℕ) → 0 < pitch
+    → ((k : ℕ) → every_of first end pitch k ≡ true → FloatIn f at (j + (k - first) / pitch)) → (n : ℕ) → first + n * pitch < end → FloatIn f at (j + n)
+value_at f at j first end pitch p v n h =
+    subst (λ (m : ℕ). FloatIn f at (j + m)) (nth_number first end pitch n p) (v (first + n * pitch) (nth_tell first end pitch n h))
 
--- ---- DeltaPerColumn
-pub add_columns-requires : goal.add_columns-requires
-add_columns-requires c =
-    let a = c.args in
-    let v = c.requires.float_in (inl c.if-id-eq11.true) in record {
-      pitch_nonzero = (omega arith, omega arith, c.requires.pitch_nonzero.2);
-      by_index = subst (Values a.file.now a.at a.j a.first a.end) c.if-pitch-eq1.true v;
-    }
-
-pub returns-then-pitch-eq1 : goal.returns-then-pitch-eq1
-returns-then-pitch-eq1 c =
-    let a = c.args in
-    swept_11 a.file.now a.at a.id a.i a.j a.first a.end a.pitch 1 a.out.now _
-    c.if-id-eq11.true c.if-pitch-eq1.true c.add_columns.ensures
-
-pub add_columns-requires-then-id-eq11 : goal.add_columns-requires-then-id-eq11
-add_columns-requires-then-id-eq11 c =
-    record {
-      pitch_nonzero = (c.requires.pitch_nonzero.0, c.requires.pitch_nonzero.1, c.requires.pitch_nonzero.2);
-      by_index = c.requires.float_in (inl c.if-id-eq11.true);
-    }
+pub sweep_often-requires-clause-callable : goal.sweep_often-requires-clause-callable
+sweep_often-requires-clause-callable c n h =
+    let v = value_at c.args.file.now c.args.at c.args.j _ _ _ c.requires.places_in.0.some (c.requires.float_in (inl c.if-id-eq11.true)) n h in
+    search rules
 
 pub returns-then-id-eq11 : goal.returns-then-id-eq11
 returns-then-id-eq11 c =
     let a = c.args in
-    swept_11 a.file.now a.at a.id a.i a.j a.first a.end a.pitch _ a.out.now _
-    c.if-id-eq11.true refl c.add_columns-then-id-eq11.ensures
+    let p = a.places in
+    swept_11 a.file.now a.at a.id a.i a.j p.first p.end p.pitch a.out.now _ c.if-id-eq11.true
+    (c.sweep_often.ensures (λ n x. clip_of (add binary64 x (float_at a.file.now a.at (a.j + n)))) (λ n x y h. search rules))
 
--- ---- ScalePerColumn
-pub scale_columns-requires : goal.scale_columns-requires
-scale_columns-requires c =
-    let a = c.args in
-    let v = c.requires.float_in (inr c.if-id-eq13.true) in record {
-      pitch_nonzero = (omega arith, omega arith, c.requires.pitch_nonzero.2);
-      by_index = subst (Values a.file.now a.at a.j a.first a.end) c.if-pitch-eq1-2.true v;
-    }
-
-pub returns-then-pitch-eq1-2 : goal.returns-then-pitch-eq1-2
-returns-then-pitch-eq1-2 c =
-    let a = c.args in
-    swept_13 a.file.now a.at a.id a.i a.j a.first a.end a.pitch 1 a.out.now _
-    c.if-id-eq13.true c.if-pitch-eq1-2.true c.scale_columns.ensures
-
-pub scale_columns-requires-then-id-eq13 : goal.scale_columns-requires-then-id-eq13
-scale_columns-requires-then-id-eq13 c =
-    record {
-      pitch_nonzero = (c.requires.pitch_nonzero.0, c.requires.pitch_nonzero.1, c.requires.pitch_nonzero.2);
-      by_index = c.requires.float_in (inr c.if-id-eq13.true);
-    }
+pub sweep_often-requires-then-id-eq13-clause-callable : goal.sweep_often-requires-then-id-eq13-clause-callable
+sweep_often-requires-then-id-eq13-clause-callable c n h =
+    let v = value_at c.args.file.now c.args.at c.args.j _ _ _ c.requires.places_in.0.some (c.requires.float_in (inr c.if-id-eq13.true)) n h in
+    search rules
 
 pub returns-then-id-eq13 : goal.returns-then-id-eq13
 returns-then-id-eq13 c =
     let a = c.args in
-    swept_13 a.file.now a.at a.id a.i a.j a.first a.end a.pitch _ a.out.now _
-    c.if-id-eq13.true refl c.scale_columns-then-id-eq13.ensures
+    let p = a.places in
+    swept_13 a.file.now a.at a.id a.i a.j p.first p.end p.pitch a.out.now _ c.if-id-eq13.true
+    (c.sweep_often-then-id-eq13.ensures (λ n x. clip_of (mul binary64 x (float_at a.file.now a.at (a.j + n)))) (λ n x y h. search rules))
 
--- ---- the others
-pub sweep_row-requires : goal.sweep_row-requires
-sweep_row-requires c =
-    record { pitch_nonzero = c.requires.pitch_nonzero; part_in = c.requires.part_in; fact = (c.if-id-eq11.false, c.if-id-eq13.false) }
-
-pub returns : goal.returns
-returns c =
+pub returns-else-id-eq13 : goal.returns-else-id-eq13
+returns-else-id-eq13 c =
     let a = c.args in
-    swept_row a.file.now a.at a.id a.i c.requires.pitch_nonzero.3 c.if-id-eq11.false c.if-id-eq13.false
-    _ a.j a.first a.end a.pitch a.out.now _ refl c.sweep_row.ensures
+    let p = a.places in
+    swept_row a.file.now a.at a.id a.i c.requires.places_in.1 c.if-id-eq11.false c.if-id-eq13.false _ a.j p.first p.end p.pitch a.out.now _ refl
+    c.sweep_row.ensures

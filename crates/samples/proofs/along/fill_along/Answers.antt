@@ -11,7 +11,6 @@ use Rattle.samples.proofs.Lines.{put_before, put_inside}
 use Rattle.samples.proofs.Alongs.{along_filled}
 use borrow.Author.Rules.{rules}
 use Rattle.samples.proofs.along.fill_along.Goals as goal
-use Rattle.samples.proofs.along.fill_along.Goals.{After-shared_slice_known-1}
 
 pub returns : goal.returns
 returns c len again =

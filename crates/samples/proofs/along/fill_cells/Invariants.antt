@@ -1,7 +1,7 @@
 use mathlib.Core.Path.{◌≡◌}
-use Prim.Native.Nat.{ℕ, ◌+◌, ◌-◌, ◌*◌, ◌≤◌, ◌<◌}
+use Prim.Native.Nat.{ℕ, ◌+◌, ◌*◌, ◌<◌}
 use lib.Ieee.{nan}
-use lib.ListN.{length, get_or}
+use lib.ListN.{get_or}
 use Rattle.levels.specs.Facts.Reciprocal.{of_parts}
 use Rattle.reading.specs.Reading.{run}
 use Rattle.raw.specs.Stored.{levels_reading}
@@ -10,9 +10,5 @@ use Rattle.samples.proofs.along.fill_cells.Given as goal
 
 abbrev pub invariant-loop-r : goal.invariant-loop-r
 invariant-loop-r l =
-    (length l.out ≡ length l.initial.out) × (l.r ≤ l.rows) × (l.a ≡ l.r * l.q)
-    × ((s k : ℕ) → s < l.r → k < l.q → get_or l.out (s * l.q + k) nan ≡ of_parts
-    (cell_along (run l.file (levels_reading l.order l.tags)) l.tags.frame.samples s l.column.0 k))
-
-abbrev pub decreases-loop-r : goal.decreases-loop-r
-decreases-loop-r l = l.rows - l.r
+    (s k : ℕ) → s < l.r → k < l.q → get_or l.out (s * l.q + k) nan ≡ of_parts
+    (cell_along (run l.file (levels_reading l.order l.tags)) l.tags.frame.samples s l.column.0 k)

@@ -1,6 +1,6 @@
-use Prim.Native.Nat.{ℕ, ◌+◌, ◌-◌, ◌/◌}
+use Prim.Native.Nat.{ℕ, ◌+◌, ◌/◌}
 use lib.IntN.{pos}
-use lib.ListN.{length, get_or}
+use lib.ListN.{get_or}
 use Rattle.reading.specs.Reading.{run}
 use Rattle.levels.proofs.Fills.{Filled}
 use Rattle.levels.specs.declared.black.BlackKind.TheVariants as kind
@@ -10,6 +10,3 @@ use Rattle.samples.proofs.along.fill_deltas.Given as goal
 abbrev pub invariant-loop-i : goal.invariant-loop-i
 invariant-loop-i l =
     Filled (λ (k : ℕ). get_or (run l.file (blacks_reading l.order kind.SignedRational l.deltas)) (l.l + k / l.samples) (pos 0)) l.i l.initial.out l.out
-
-abbrev pub decreases-loop-i : goal.decreases-loop-i
-decreases-loop-i l = length l.initial.out - l.i

@@ -33,14 +33,14 @@ pub overflow_mul-result : goal.overflow_mul-result
 overflow_mul-result c =
     omega (
       arith,
-      div-mul-le_self c.smaller-most.result (c.args.tags.levels.repeat.columns * c.args.tags.frame.samples),
-      c.smaller-most.ensures,
+      div-mul-le_self c.min-most.result (c.args.tags.levels.repeat.columns * c.args.tags.frame.samples),
+      c.min-most.ensures,
     )
 
 pub returns-then-len-most : goal.returns-then-len-most
 returns-then-len-most c =
     let m = most c.args.tags.levels.repeat.rows c.requires.le_len.1 c.requires.le_len.2 in
-    let e = c.smaller-most.ensures in
+    let e = c.min-most.ensures in
     let h = c.if-len-most.true in
     (c.requires.le_len.0, omega arith, part_of _ _ _ (omega arith) m.1, λ l. absurd (omega arith))
 
@@ -49,8 +49,8 @@ returns-else-len-most c =
     let s = (goal.at.returns-else-len-most c).Start in
     let m = most s.args.tags.levels.repeat.rows s.requires.le_len.1 s.requires.le_len.2 in
     let p = s.args.tags.levels.repeat.columns * s.args.tags.frame.samples in
-    let q = c.smaller-most.result in
-    let e = c.smaller-most.ensures in
+    let q = c.min-most.result in
+    let e = c.min-most.ensures in
     let d : q / p * p ≤ q = div-mul-le_self q p in
     let o : 1 ≤ q / p = (le-div_iff_mul-le (period s).0).1 (omega (arith, (period s).1)) in
     (mul-pos o (period s).0, omega arith, part_of _ _ _ (omega arith) m.1, λ l. mul-mod_left (q / p) p)

@@ -1,15 +1,8 @@
-use mathlib.Core.Path.{◌≡◌}
-use Prim.Native.Nat.{◌-◌, ◌≤◌}
 use lib.Ieee.{Float}
-use lib.ListN.{length}
 use Rattle.samples.specs.Facts.Line.{Filled, number_at}
 use Rattle.samples.proofs.line.fill_numbers.Given as goal
 
 abbrev pub invariant-loop-i : goal.invariant-loop-i
 invariant-loop-i l =
-    (length l.out ≡ length l.initial.out) × (l.i ≤ length l.initial.out)
-    × ((down : Float) → Filled 0 (number_at l.file
-    (record { order = l.order; bytes = l.bytes; place = l.place; table = l.table; count = l.count; down = down })) l.i l.out)
-
-abbrev pub decreases-loop-i : goal.decreases-loop-i
-decreases-loop-i l = length l.initial.out - l.i
+    (down : Float) → Filled 0 (number_at l.file
+    (record { order = l.order; bytes = l.bytes; place = l.place; table = l.table; count = l.count; down = down })) l.i l.out

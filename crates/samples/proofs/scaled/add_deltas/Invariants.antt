@@ -1,16 +1,11 @@
-use mathlib.Core.Path.{◌≡◌}
-use Prim.Native.Nat.{ℕ, ◌+◌, ◌-◌, ◌≤◌}
+use Prim.Native.Nat.{ℕ, ◌+◌}
 use lib.IntN.{pos}
 use lib.Ieee.{nan, binary64, add}
-use lib.ListN.{length, get_or}
+use lib.ListN.{get_or}
 use Rattle.levels.specs.Facts.Reciprocal.{of_parts}
 use Rattle.samples.specs.Facts.Line.{Filled}
 use Rattle.samples.proofs.scaled.add_deltas.Given as goal
 
 abbrev pub invariant-loop-i : goal.invariant-loop-i
 invariant-loop-i l =
-    (length l.out ≡ length l.initial.out) × (l.i ≤ length l.initial.out)
-    × Filled nan (λ (k : ℕ). add binary64 (get_or l.cells k nan) (of_parts (get_or l.deltas (l.at + k) (pos 0)))) l.i l.out
-
-abbrev pub decreases-loop-i : goal.decreases-loop-i
-decreases-loop-i l = length l.initial.out - l.i
+    Filled nan (λ (k : ℕ). add binary64 (get_or l.cells k nan) (of_parts (get_or l.deltas (l.at + k) (pos 0)))) l.i l.out

@@ -1,7 +1,6 @@
-use mathlib.Core.Path.{◌≡◌}
 use mathlib.Core.List.{[]}
-use Prim.Native.Nat.{ℕ, ◌+◌, ◌-◌, ◌/◌, ◌%◌, ◌≤◌, ◌<◌}
-use lib.ListN.{length, get_or}
+use Prim.Native.Nat.{ℕ, ◌+◌, ◌/◌, ◌%◌, ◌<◌}
+use lib.ListN.{get_or}
 use Rattle.reading.specs.Reading.{run}
 use Rattle.raw.specs.Stored.{levels_reading}
 use Rattle.tables.specs.Tables.{CellTable}
@@ -9,8 +8,4 @@ use Rattle.tables.proofs.fill.fill_tables.Given as goal
 
 abbrev pub invariant-loop-i : goal.invariant-loop-i
 invariant-loop-i l =
-    (length l.tables ≡ length l.initial.tables) × (l.i ≤ l.count)
-    × ((k : ℕ) → k < l.i → CellTable (run l.file (levels_reading l.order l.raw.tags)) (l.r + k / l.columns) (l.c + k % l.columns) (get_or l.tables k []))
-
-abbrev pub decreases-loop-i : goal.decreases-loop-i
-decreases-loop-i l = l.count - l.i
+    (k : ℕ) → k < l.i → CellTable (run l.file (levels_reading l.order l.raw.tags)) (l.r + k / l.columns) (l.c + k % l.columns) (get_or l.tables k [])

@@ -1,8 +1,6 @@
-use mathlib.Core.Path.{◌≡◌}
-use Prim.Native.Nat.{ℕ, ◌-◌, ◌≤◌}
+use Prim.Native.Nat.{ℕ}
 use lib.IntN.{ℤ}
 use lib.Ieee.{nan}
-use lib.ListN.{length}
 use Rattle.levels.specs.Level.{difference_of, level_of, scaled_of}
 use Rattle.levels.specs.Facts.Reciprocal.{BlackIs, InverseIs}
 use Rattle.levels.specs.Table.{table_of, through_of}
@@ -11,9 +9,5 @@ use Rattle.tables.proofs.fill.fill_values.Given as goal
 
 abbrev pub invariant-loop-s : goal.invariant-loop-s
 invariant-loop-s l =
-    (length l.values ≡ 256) × (l.s ≤ 256)
-    × ((b span : ℤ) → BlackIs b l.black → InverseIs span l.inverse →
-    Filled nan (λ (k : ℕ). scaled_of (level_of (difference_of (through_of (table_of l.order l.file l.place l.count) k) b) span)) l.s l.values)
-
-abbrev pub decreases-loop-s : goal.decreases-loop-s
-decreases-loop-s l = 256 - l.s
+    (b span : ℤ) → BlackIs b l.black → InverseIs span l.inverse → Filled nan
+    (λ (k : ℕ). scaled_of (level_of (difference_of (through_of (table_of l.order l.file l.entries.place l.entries.count) k) b) span)) l.s l.values

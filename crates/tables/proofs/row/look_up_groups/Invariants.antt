@@ -1,16 +1,11 @@
-use mathlib.Core.Path.{◌≡◌}
-use Prim.Native.Nat.{◌-◌, ◌%◌, ◌≤◌, ◌<◌}
+use Prim.Native.Nat.{◌+◌, ◌*◌, min}
 use lib.Ieee.{nan}
 use lib.ListN.{length}
 use Rattle.samples.specs.Facts.Line.{Filled}
 use Rattle.tables.specs.Facts.RowTables.{found_along}
 use Rattle.tables.proofs.row.look_up_groups.Given as goal
 
-abbrev pub invariant-loop-at : goal.invariant-loop-at
-invariant-loop-at l =
-    (length l.out ≡ length l.initial.out) × (l.at ≤ length l.initial.out) × (l.at < length l.initial.out → l.at % l.columns ≡ 0)
-    × (Filled nan (found_along l.tables l.first l.columns l.bytes) l.from l.initial.out
-    → Filled nan (found_along l.tables l.first l.columns l.bytes) l.at l.out)
-
-abbrev pub decreases-loop-at : goal.decreases-loop-at
-decreases-loop-at l = length l.initial.out - l.at
+abbrev pub invariant-loop-g : goal.invariant-loop-g
+invariant-loop-g l =
+    Filled nan (found_along l.tables l.first l.columns l.bytes) l.from l.initial.out
+    → Filled nan (found_along l.tables l.first l.columns l.bytes) (min (l.from + l.g * l.columns) (length l.out)) l.out

@@ -30,7 +30,7 @@ look_up_row-requires c =
     let f = a.file.now in
     let p = line.line_of-line.result.place in
     let n = length a.out.now in
-    let e = line.smaller-columns.ensures in
+    let e = line.min-columns.ensures in
     let q = line.requires.raw_in.0.tags.levels.repeat in (
       omega (arith, length-take (p + n - p) (drop p f), length-drop p f, inside line),
       omega (arith, e, q.some_columns, line.requires.tags_value.1),
@@ -46,5 +46,5 @@ returns c =
     row_found a.file.now a.order a.raw c.requires.raw_in.0 (tabled_has a.raw.tags c.requires.tags_value.0) a.row.0 a.column.0
     c.requires.raw_in.1 _ c.line_of-line.ensures
     (λ i. let b = c.type_inv.file i in omega (arith, b)) a.tables.now a.first
-    c.smaller-columns.result (p + n - p) a.out.now _ c.requires.tags_value.2 c.requires.raw_in.3 c.smaller-columns.ensures
+    c.min-columns.result (p + n - p) a.out.now _ c.requires.tags_value.2 c.requires.raw_in.3 c.min-columns.ensures
     (omega arith) (search rules) c.look_up_row.ensures

@@ -1,0 +1,8 @@
+use Rattle.reading.specs.Reading.{run}
+use Rattle.raw.specs.Stored.{levels_reading}
+use Rattle.raw.proofs.SpanLaws.{Found}
+use Rattle.raw.proofs.spans.spans_of.Given as goal
+
+-- S of the planes before this one is positive, and in its place.
+abbrev pub invariant-loop-plane : goal.invariant-loop-plane
+invariant-loop-plane l = Found (run l.file (levels_reading l.order l.tags)) l.plane l.planes
