@@ -27,13 +27,7 @@ fn matrix_of(file: &[u8], ifd: Ifd) -> Result<Matrix, Refusal>
     requires { Tested file.now ifd }
     ensures { (out result ≡ run file.now (matrix_reading ifd)) × MatrixIn result }
 {
-    let rule = Rule {
-        tag: names::FORWARD_MATRIX_1,
-        kinds: Kinds::SignedRational,
-        required: true,
-        least: 9,
-        most: 9,
-    };
+    let rule = Rule::required(names::FORWARD_MATRIX_1, Kinds::SignedRational, 9);
     let v = tag::look_up(file, ifd, rule)?;
     let place = v.place;
     let order = ifd.order;
@@ -60,13 +54,7 @@ fn neutral_of(file: &[u8], ifd: Ifd) -> Result<Triple, Refusal>
     requires { Tested file.now ifd }
     ensures { (out result ≡ run file.now (neutral_reading ifd)) × TripleIn true result }
 {
-    let rule = Rule {
-        tag: names::AS_SHOT_NEUTRAL,
-        kinds: Kinds::ShortOrRational,
-        required: true,
-        least: 3,
-        most: 3,
-    };
+    let rule = Rule::required(names::AS_SHOT_NEUTRAL, Kinds::ShortOrRational, 3);
     let v = tag::look_up(file, ifd, rule)?;
     let order = ifd.order;
     let kind = neutral_kind(v.kind);

@@ -21,12 +21,14 @@ pub fn inverse(s: i64) -> f64
     65535.00000000186264514923095703125 / number_of(s)
 }
 
+// The greater of x and 0, and 0 of a NaN and of -0.0: `f64::max` leaves a zero's sign open.
 fn floored(x: f64) -> f64
     ensures { result ≡ floored_of x }
 {
     if 0.0 < x { x } else { 0.0 }
 }
 
+// The less of x and 65535, as `capped_of` has it.
 fn capped(x: f64) -> f64
     ensures { result ≡ capped_of x }
 {

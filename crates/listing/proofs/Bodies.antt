@@ -200,6 +200,10 @@ pub values_units : (f : List ℕ) (o : Opened) (t l h w n : ℕ) → AllInUnit (
 values_units f o t l h w n = units_joined _ (λ r. units_joined _ (λ c. units_run _ (alone_is_unit f o r c) 0 n) l w) t h
 
 -- ---- what the window's promise says of a block of rows
+slice_back : (a : Result (Unit {0}) Refusal) (xs : List Float) → (window_with a xs).slice ≡ xs
+slice_back (Ok u) xs = refl
+slice_back (Err r) xs = refl
+
 module _ (f : List ℕ) (t h : ℕ) (old new : List Float) (a : Result (Unit {0}) Refusal) where
   -- its values are numbers from 0 to 1, and its lines come next in the listing
   abbrev pub Block : Picture → Type 0
@@ -229,7 +233,7 @@ module _ (f : List ℕ) (t h : ℕ) (old new : List Float) (a : Result (Unit {0}
         let g = test_passed z (w.top + t) w.left h w.columns z.samples (length old) y m in
         let d = e ∙ ap (window_of f (w.top + t) w.left h w.columns old) (sym accepted)
         ∙ sym (filled_passed z (w.top + t) w.left h w.columns z.samples old x _ g refl) in
-        ap (λ (y : Window). y.slice) d
+        sym (slice_back a new) ∙ ap (λ (y : Window). y.slice) d
         ∙ values_same _ _ (w.top + t) w.left h w.columns z.samples (λ i j k u₁ u₂ u₃ u₄ l.
         developed_alone f o i j k (record { row = omega (arith, crop.bottom); column = omega (arith, crop.right); plane = l }))
 

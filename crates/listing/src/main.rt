@@ -25,7 +25,7 @@ use opcodes::grid::Size;
 use raw::front::Picture;
 use std::io::{Read, Write};
 
-// Puts a word behind the first `at` bytes of a text, and answers where it ends.
+// Puts a word behind the first `at` bytes of a text, and answers where it ends. A text is a lent buffer with its end beside it: no heap.
 fn put(text: &mut [u8], at: usize, word: &[u8]) -> usize
     requires { at + length word.now ≤ length text.old }
     ensures { Puts text.old at word.now text.new result }
@@ -193,7 +193,7 @@ fn print_rows<W: Write>(
     let picture = view.picture;
     let rows = picture.raw.tags.crop.rows;
     let mut top = 0;
-    // no range: the last block has fewer rows
+    // no range: how far the next block begins is what `block` answers
     while top < rows {
         let height = block(picture, top);
         let n = put_rows(text, values, file, view, top, height);

@@ -35,20 +35,6 @@ module _ (n : ℕ) (a : Bool) where
   abbrev Rule : Bool
   Rule = leb 1 n && (leb n 64 && (eqb n 1 || a))
 
-  pub axis_none : n < 1 → false ≡ Rule
-  axis_none h = rw (lt-leb 1 n h)
-
-  module _ (h : 1 ≤ n) where
-    pub axis_many : 64 < n → false ≡ Rule
-    axis_many k = rw (le-leb 1 n h, lt-leb n 64 k)
-
-    module _ (k : n ≤ 64) where
-      pub axis_one : n ≡ 1 → true ≡ Rule
-      axis_one l = rw (le-leb 1 n h, le-leb n 64 k, eq-eqb n 1 l)
-
-      pub axis_some : (n ≡ 1 → ⊥) → a ≡ Rule
-      axis_some l = rw (le-leb 1 n h, le-leb n 64 k, ne_eqb n 1 l)
-
   axis_in : Rule ≡ true → (1 ≤ n) × (n ≤ 64) × (1 < n → a ≡ true)
   axis_in e =
       let b = and-true (leb 1 n) (leb n 64 && (eqb n 1 || a)) e in
@@ -61,23 +47,6 @@ module _ (ps : List ℕ) where
 
   abbrev second : Bool
   second = axis_legal ps 36 48
-
-  pub legal_planes : first ≡ true → second ≡ true → leb 1 (planes_in ps) ≡ gain_map_legal ps
-  unfolding gain_map_legal
-  legal_planes a b = both first second (leb 1 (planes_in ps)) a b
-    where
-      both : (a b c : Bool) → a ≡ true → b ≡ true → c ≡ (a && (b && c))
-      both true true c p q = refl
-      both true false c p q = absurd (true≢false (sym q))
-      both false b c p q = absurd (true≢false (sym p))
-
-  pub legal_first : first ≡ false → false ≡ gain_map_legal ps
-  unfolding gain_map_legal
-  legal_first a = sym (ap (λ (b : Bool). b && (second && leb 1 (planes_in ps))) a)
-
-  pub legal_second : first ≡ true → second ≡ false → false ≡ gain_map_legal ps
-  unfolding gain_map_legal
-  legal_second a b = sym (ap (λ (c : Bool). c && (second && leb 1 (planes_in ps))) a ∙ ap (λ (c : Bool). c && leb 1 (planes_in ps)) b)
 
   pub record Legal : Type 0 where
     pub down : (1 ≤ long_of ps 32) × (long_of ps 32 ≤ 64) × (1 < long_of ps 32 → above_at ps 40 ≡ true)

@@ -95,6 +95,7 @@ fn axis_at(ps: &[u8], points: usize, spacing: usize, origin: usize) -> Axis
     }
 }
 
+// Down and across differ only in three places of their numbers, which `axis_at` is given.
 pub fn down_axis(ps: &[u8]) -> Axis
     requires { 76 ≤ length ps.now }
     ensures { result ≡ down_of ps.now }

@@ -11,7 +11,8 @@ use crate::{gain_map, grid};
 use directory::refusal::Refusal;
 use reading::real;
 
-// An opcode's header; `length` is that of its parameters, in bytes.
+// An opcode's header; `length` is that of its parameters, in bytes. `id` is the file's number, as `header_of` has it; `kind_of`
+// names it.
 #[derive(Clone, Copy)]
 pub struct Header {
     pub id: usize,
@@ -110,6 +111,7 @@ pub fn classify(header: Header) -> Class
     }
 }
 
+// The three forms share no field, each as its definition has it.
 fn table_form(n: usize) -> Form
     requires { n < 0x1_0000_0000 }
     ensures { result ≡ table_form n }

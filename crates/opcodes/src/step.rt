@@ -13,6 +13,7 @@ use reading::{number, real};
 
 // An added number, a factor, nine coefficients with the constant first, or the place of a table: its
 // size and then its entries.
+// The coefficients are nine fields and no array, as `result_of` and `polynomial_of` name each.
 #[derive(Clone, Copy)]
 pub enum Step {
     Add(f64),
@@ -21,6 +22,7 @@ pub enum Step {
     Table(usize),
 }
 
+// From 0 to 1; 0 of a NaN and of -0.0, where `clamp` would leave them as they are.
 pub fn clip(x: f64) -> f64
     ensures { result ≡ clip_of x }
 {

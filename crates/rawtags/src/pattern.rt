@@ -85,10 +85,10 @@ fn four_colours(file: &[u8], order: Order, v: Values) -> Result<Pattern, Refusal
     requires { v.place + 4 ≤ length file.now }
     ensures { out result ≡ run file.now (four_colours_reading order v) }
 {
-    let a = number::byte(file, order, v.place) as usize;
-    let b = number::byte(file, order, v.place + 1) as usize;
-    let c = number::byte(file, order, v.place + 2) as usize;
-    let d = number::byte(file, order, v.place + 3) as usize;
+    let a = usize::from(number::byte(file, order, v.place));
+    let b = usize::from(number::byte(file, order, v.place + 1));
+    let c = usize::from(number::byte(file, order, v.place + 2));
+    let d = usize::from(number::byte(file, order, v.place + 3));
     places(a, b, c, d)
 }
 
@@ -124,9 +124,9 @@ fn three_colours(file: &[u8], order: Order, v: Values) -> Result<(), Refusal>
     if v.count == 0 {
         return plane_color(0, 1, 2);
     }
-    let a = number::byte(file, order, v.place) as usize;
-    let b = number::byte(file, order, v.place + 1) as usize;
-    let c = number::byte(file, order, v.place + 2) as usize;
+    let a = usize::from(number::byte(file, order, v.place));
+    let b = usize::from(number::byte(file, order, v.place + 1));
+    let c = usize::from(number::byte(file, order, v.place + 2));
     plane_color(a, b, c)
 }
 

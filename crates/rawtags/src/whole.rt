@@ -49,6 +49,7 @@ fn whole_number_at(
     ensures { out result ≡ run file.now (whole_number_reading order tag values at) }
 {
     if let Kind::Rational = values.kind {
+        // `usize` has no From for a u32.
         let numerator = number::long(file, order, at) as usize;
         let denominator = number::long(file, order, at + 4) as usize;
         whole_number(tag, numerator, denominator)

@@ -1,6 +1,5 @@
 -- What holds of an accepted value.
 use Rattle.std.specs.Prelude.{false, Result, Ok, Err}
-use Rattle.directory.specs.Out.{Out, Out.is}
 use Rattle.colour.specs.Facts.Bounds.{Within, Beyond, All}
 use Rattle.colour.specs.Facts.Value.{TripleFrom}
 use Rattle.colour.specs.declared.Colour.{Colour}

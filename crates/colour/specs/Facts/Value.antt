@@ -1,6 +1,5 @@
 -- What holds of an accepted value.
 use Rattle.std.specs.Prelude.{◌≡◌, Bool, true, Float, Result, Ok, Err}
-use Rattle.directory.specs.Out.{Out}
 use Rattle.colour.specs.Facts.Bounds.{Within, Beyond, All}
 use Rattle.colour.specs.declared.value.Triple.{Triple}
 use Rattle.directory.specs.declared.refusal.Refusal.{Refusal}

@@ -1,15 +1,7 @@
-use mathlib.Core.Path.{◌≡◌, refl, subst, ap, ◌∙◌, sym}
-use mathlib.Core.Bool.{true, false}
-use mathlib.Core.List.{List, [], ◌++◌, append-nil}
+use mathlib.Core.Path.{subst}
 use lib.ListN.{take}
-use native.Mathlib.Omega.{arith}
-use Prim.Native.Nat.{ℕ}
-use Rattle.directory.specs.Refusal.{number_of, detail_of}
 use Rattle.listing.specs.Facts.Body.{rows_from}
-use Rattle.listing.specs.Text.{listing_of}
-use Rattle.listing.specs.Pieces.{Remains}
-use Rattle.listing.proofs.Bodies.{short_refused, short_listed, line_refused, line_frame}
-use Rattle.listing.proofs.Pieces.{all_remains, piece_stands, written_rest, ends_early, ends_failed, ends_last}
+use Rattle.listing.proofs.Bodies.{short_listed, line_frame}
 use Rattle.listing.proofs.Known.{appends_two}
 use Rattle.std.proofs.lemmas.Result.{on_ok_weaker}
 use Rattle.std.specs.Io.KnownBytes.{Appends}

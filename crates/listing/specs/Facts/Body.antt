@@ -1,5 +1,5 @@
 -- What the listing's functions make of a text, and what they know of the file.
-use Rattle.std.specs.Prelude.{ℕ, zero, suc, ◌+◌, ◌*◌, ◌≤◌, ◌<◌, ◌≡◌, List, [], ◌++◌, Float, length, take, drop, Result, Ok, Err}
+use Rattle.std.specs.Prelude.{ℕ, zero, suc, ◌+◌, ◌*◌, ◌≤◌, ◌≡◌, List, [], ◌++◌, Float, length, take, drop, Result, Ok, Err}
 use Rattle.directory.specs.Refusal.{number_of, detail_of}
 use Rattle.directory.specs.Out.{Out.refused, Out.is}
 use Rattle.opcodes.specs.declared.grid.Size.{Size}

@@ -2,7 +2,7 @@
 use Rattle.std.specs.Prelude.{◌≡◌, List, ℕ, ◌≤◌, length, Result, Ok, Err}
 use Rattle.reading.specs.Reading.{run}
 use Rattle.reading.specs.declared.number.Order.{Order}
-use Rattle.directory.specs.Out.{Out, Out.is}
+use Rattle.directory.specs.Out.{Out.is}
 use Rattle.directory.specs.Facts.Shape.{Tested}
 use Rattle.rawtags.specs.Facts.Raw.{TagsWithin}
 use Rattle.raw.specs.Stored.{levels_reading}

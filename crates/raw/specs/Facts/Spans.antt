@@ -1,6 +1,5 @@
 -- What holds of an accepted value.
 use Rattle.std.specs.Prelude.{ℕ, ◌<◌, min, ℤ, pos, get_or, Result, Ok, Err}
-use Rattle.directory.specs.Out.{Out, Out.is}
 use Rattle.levels.specs.Facts.Reciprocal.{SpanIn}
 use Rattle.raw.specs.declared.spans.Spans.{Spans}
 use Rattle.directory.specs.declared.refusal.Refusal.{Refusal}

@@ -25,8 +25,7 @@ returns-in_err-third c =
 
 pub returns : goal.returns
 unfolding triple_reading
-returns c =
-    (
-      sym (bind_is _ _ _ _ c.in_ok-first.ensures.0 ∙ bind_is _ _ _ _ c.in_ok-second.ensures.0 ∙ bind_is _ _ _ _ c.in_ok-third.ensures.0 ∙ run_answer _ _),
-      record { first = c.in_ok-first.ensures.1; second = c.in_ok-second.ensures.1; third = c.in_ok-third.ensures.1 },
-    )
+returns c = (
+  sym (bind_is _ _ _ _ c.in_ok-first.ensures.0 ∙ bind_is _ _ _ _ c.in_ok-second.ensures.0 ∙ bind_is _ _ _ _ c.in_ok-third.ensures.0 ∙ run_answer _ _),
+  record { first = c.in_ok-first.ensures.1; second = c.in_ok-second.ensures.1; third = c.in_ok-third.ensures.1 },
+)

@@ -1,4 +1,3 @@
-use Prim.Native.Nat.{◌-◌}
 use Rattle.rawtags.specs.Strips.{strips_reading}
 use Rattle.rawtags.proofs.Chain.{on, off, end, exit}
 use Rattle.rawtags.proofs.Strip.{strip_in}

@@ -1,13 +1,12 @@
-use mathlib.Core.Path.{refl}
-use Rattle.reading.proofs.Halves.{from_halves}
+use native.Mathlib.Omega.{arith}
+use Rattle.reading.specs.Number.{number_of, little_of, big_of}
+use Rattle.reading.proofs.Bytes.{eight_bytes}
 use Rattle.reading.proofs.number.eight.Goals as goal
 
 pub returns-in-Little : goal.returns-in-Little
-returns-in-Little c =
-    rw c.in-Little.is
-    (from_halves 4 c.args.at c.args.s.now refl c.requires c.long-a.ensures c.long-b.ensures)
+unfolding number_of little_of
+returns-in-Little c = rw (c.in-Little.is, eight_bytes c.args.s.now c.args.at c.requires) (omega (arith, c.from_le_bytes.ensures))
 
 pub returns-in-Big : goal.returns-in-Big
-returns-in-Big c =
-    rw c.in-Big.is
-    (from_halves 4 c.args.at c.args.s.now refl c.requires c.long-a-in-Big.ensures c.long-b-in-Big.ensures)
+unfolding number_of big_of
+returns-in-Big c = rw (c.in-Big.is, eight_bytes c.args.s.now c.args.at c.requires) (omega (arith, c.from_be_bytes.ensures))
