@@ -1,5 +1,5 @@
 -- OpcodeList2. No definition of an opcode names a place in the file: an opcode is a function of its own bytes.
-use Rattle.std.specs.Prelude.{ℕ, zero, suc, ◌+◌, ◌-◌, ◌*◌, ◌%◌, Bool, true, false, ◌&&◌, ◌||◌, List, [], ◌∷◌, length, ◌==◌, nat_le, nat_lt, Float}
+use Rattle.std.specs.Prelude.{ℕ, zero, suc, ◌+◌, ◌-◌, ◌*◌, ◌%◌, Bool, false, ◌&&◌, ◌||◌, List, [], ◌∷◌, length, ◌==◌, nat_le, nat_lt, Float}
 use Rattle.std.specs.Prelude.{Option, is_none}
 use Rattle.std.specs.Float.{binary32, binary64}
 use Rattle.reading.specs.Bytes.{part}
