@@ -85,7 +85,8 @@ module _ (f : List ℕ) (o : Opened) (r c p : ℕ) where
         (w : Covered) (m : Marked) (s : Slices) →
         w ≡ covered_of o.opcodes r c p (scaled_of numbers_in.level) s.places s.ids s.before s.after →
         m ≡ skipped_of o.opcodes s.skipped →
-        chained_with (Ok (record { value = w.value; levels = numbers_in; covering = w.count; skipped = m.count })) (slices w.places w.ids w.before w.after m.slice)
+        chained_with (Ok (record { value = w.value; levels = numbers_in; covering = w.count; skipped = m.count }))
+        (slices w.places w.ids w.before w.after m.slice)
         ≡ shown_of (chain_of f o r c p) s
     unfolding chain_of covered_of skipped_of
     chain_is w m s ew em = rw (ew, em, value_is) refl
