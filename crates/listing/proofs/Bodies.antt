@@ -227,8 +227,12 @@ module _ (f : List ℕ) (t h : ℕ) (old new : List Float) (a : Result (Unit {0}
     block_values s b l e =
         let x : ℕ → ℕ → ℕ → Float = standing (frame_of f o) in
         let y : inside z (w.top + t) w.left h w.columns ≡ true =
-        rw (le-leb 1 h s, le-leb 1 w.columns crop.some_columns, le-leb (w.top + t + h) z.rows (omega (arith, crop.bottom)),
-        le-leb (w.left + w.columns) z.columns crop.right) refl in
+        rw (
+          le-leb 1 h s,
+          le-leb 1 w.columns crop.some_columns,
+          le-leb (w.top + t + h) z.rows (omega (arith, crop.bottom)),
+          le-leb (w.left + w.columns) z.columns crop.right,
+        ) refl in
         let m : length old ≡ h * w.columns * z.samples = l ∙ sym (mul_assoc h w.columns z.samples) in
         let g = test_passed z (w.top + t) w.left h w.columns z.samples (length old) y m in
         let d = e ∙ ap (window_of f (w.top + t) w.left h w.columns old) (sym accepted)

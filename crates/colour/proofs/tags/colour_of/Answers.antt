@@ -25,23 +25,32 @@ pub returns-in_err-not_carried-3 : goal.returns-in_err-not_carried-3
 unfolding colour_reading
 returns-in_err-not_carried-3 c =
     let p = err_from_is_err_and c.from_residual-in_err-not_carried-3.result c.from_residual-in_err-not_carried-3.ensures.1 in
-    rw (p.1, p.2) (bind_refused _ _ _ _ _ c.in_err-not_carried-3.ensures ∙ sym (bind_is _ _ _ _ c.in_ok-not_carried.ensures
-        ∙ bind_is _ _ _ _ c.in_ok-not_carried-2.ensures), tt)
+    rw (p.1, p.2) (
+      bind_refused _ _ _ _ _ c.in_err-not_carried-3.ensures ∙ sym (bind_is _ _ _ _ c.in_ok-not_carried.ensures
+          ∙ bind_is _ _ _ _ c.in_ok-not_carried-2.ensures),
+      tt,
+    )
 
 pub returns-in_err-matrix : goal.returns-in_err-matrix
 unfolding colour_reading
 returns-in_err-matrix c =
     let p = err_from_is_err_and c.from_residual-in_err-matrix.result c.from_residual-in_err-matrix.ensures.1 in
-    rw (p.1, p.2) (bind_refused _ _ _ _ _ c.in_err-matrix.ensures.0 ∙ sym (bind_is _ _ _ _ c.in_ok-not_carried.ensures
-        ∙ bind_is _ _ _ _ c.in_ok-not_carried-2.ensures ∙ bind_is _ _ _ _ c.in_ok-not_carried-3.ensures), tt)
+    rw (p.1, p.2) (
+      bind_refused _ _ _ _ _ c.in_err-matrix.ensures.0 ∙ sym (bind_is _ _ _ _ c.in_ok-not_carried.ensures
+          ∙ bind_is _ _ _ _ c.in_ok-not_carried-2.ensures ∙ bind_is _ _ _ _ c.in_ok-not_carried-3.ensures),
+      tt,
+    )
 
 pub returns-in_err-neutral : goal.returns-in_err-neutral
 unfolding colour_reading
 returns-in_err-neutral c =
     let p = err_from_is_err_and c.from_residual-in_err-neutral.result c.from_residual-in_err-neutral.ensures.1 in
-    rw (p.1, p.2) (bind_refused _ _ _ _ _ c.in_err-neutral.ensures.0 ∙ sym (bind_is _ _ _ _ c.in_ok-not_carried.ensures
-        ∙ bind_is _ _ _ _ c.in_ok-not_carried-2.ensures ∙ bind_is _ _ _ _ c.in_ok-not_carried-3.ensures
-        ∙ bind_is _ _ _ _ c.in_ok-matrix.ensures.0), tt)
+    rw (p.1, p.2) (
+      bind_refused _ _ _ _ _ c.in_err-neutral.ensures.0 ∙ sym (bind_is _ _ _ _ c.in_ok-not_carried.ensures
+          ∙ bind_is _ _ _ _ c.in_ok-not_carried-2.ensures ∙ bind_is _ _ _ _ c.in_ok-not_carried-3.ensures
+          ∙ bind_is _ _ _ _ c.in_ok-matrix.ensures.0),
+      tt,
+    )
 
 pub returns : goal.returns
 unfolding colour_reading

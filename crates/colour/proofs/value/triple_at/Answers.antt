@@ -21,8 +21,11 @@ pub returns-in_err-third : goal.returns-in_err-third
 unfolding triple_reading
 returns-in_err-third c =
     let p = err_from_is_err_and c.from_residual-in_err-third.result c.from_residual-in_err-third.ensures.1 in
-    rw (p.1, p.2) (bind_refused _ _ _ _ _ c.in_err-third.ensures.0 ∙ sym (bind_is _ _ _ _ c.in_ok-first.ensures.0
-        ∙ bind_is _ _ _ _ c.in_ok-second.ensures.0), tt)
+    rw (p.1, p.2) (
+      bind_refused _ _ _ _ _ c.in_err-third.ensures.0 ∙ sym (bind_is _ _ _ _ c.in_ok-first.ensures.0
+          ∙ bind_is _ _ _ _ c.in_ok-second.ensures.0),
+      tt,
+    )
 
 pub returns : goal.returns
 unfolding triple_reading
