@@ -155,7 +155,7 @@ fn absent(rule: Rule) -> Result<Values, Refusal>
 
 // The entry of a tag, whose value or offset stands at a place.
 fn tested(dir: Directory, rule: Rule, found: Found) -> Result<Values, Refusal>
-    requires word_in_bounds { (found.place + dir.ifd.widths.word ≤ length dir.file.now) × WidthsIn dir.ifd.widths }
+    requires word_in_bounds { found.place + dir.ifd.widths.word ≤ length dir.file.now }
     requires placed { Placed dir.ifd.widths dir.file.now dir.ifd.order found.place found.entry }
     ensures { (out result ≡ run dir.entry.file.now (tested_reading dir.entry.ifd.widths dir.entry.ifd.order rule found.place found.entry)) × ValuesIn (length dir.entry.file.now) rule result }
 {

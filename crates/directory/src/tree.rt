@@ -185,16 +185,7 @@ fn starts_with(file: &[u8], mark: &[u8; 4]) -> bool
     requires { (4 ≤ length file.now) × (length mark.now ≡ 4) }
     ensures { result ≡ same_bytes (take 4 file.now) mark.now }
 {
-    if file[0] != mark[0] {
-        return false;
-    }
-    if file[1] != mark[1] {
-        return false;
-    }
-    if file[2] != mark[2] {
-        return false;
-    }
-    file[3] == mark[3]
+    file.starts_with(mark)
 }
 
 // IFD 0, whose offset stands at a place.

@@ -28,7 +28,7 @@ fn floored(x: f64) -> f64
     if 0.0 < x { x } else { 0.0 }
 }
 
-// The less of x and 65535, as `capped_of` has it.
+// The less of x and 65535; the proof over `f64::min` did not close.
 fn capped(x: f64) -> f64
     ensures { result ≡ capped_of x }
 {

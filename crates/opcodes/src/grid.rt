@@ -51,7 +51,7 @@ pub fn lines(first: usize, end: usize, pitch: usize) -> usize
     requires { (first ≤ end) × (end ≤ 16384) × (1 ≤ pitch) × (pitch < 0x1_0000_0000) }
     ensures { result ≡ lines_of first end pitch }
 {
-    (end - first + (pitch - 1)) / pitch
+    (end - first).div_ceil(pitch)
 }
 
 // A LONG of the list.

@@ -37,7 +37,7 @@ returns-then-fits c =
     let s = c.size-size.ensures.0 in
     let b = fit (λ (n : ℕ). n * x.entry.count) x.entry.kind _ _ _ s c.fits.ensures c.if-fits.true in (
       ap (λ (n : ℕ). is (values x.place x.entry.kind n x.entry.count)) s ∙ in_entry _ _ _ _ _ _ a l m b,
-      rw s (inside_entry c.args.dir.ifd.widths c.args.dir.file.now c.args.dir.ifd.order _ _ x.entry a l m _ c.requires.word_in_bounds.0 b),
+      rw s (inside_entry c.args.dir.ifd.widths c.args.dir.file.now c.args.dir.ifd.order _ _ x.entry a l m _ c.requires.word_in_bounds b),
     )
 
 pub returns-else-fits : goal.returns-else-fits
