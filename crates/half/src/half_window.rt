@@ -93,7 +93,8 @@ fn blocks_of(half: Half, pair: &[f64], count: usize, out: &mut [f64])
     }
 }
 
-// At most 512 blocks of one row of blocks: their two rows of samples, developed as a window's, then the blocks of these.
+// At most 512 blocks of one row of blocks: their two rows of samples, developed as a window's, then the blocks of these. The room for
+// the samples is lent, as is what lies along them, for all rows: eight parameters.
 fn block_part(
     file: &[u8],
     view: View,
@@ -131,14 +132,15 @@ fn block_part(
     blocks_of(half, pair, part.width, out);
 }
 
-// Some blocks of each row of blocks.
+// Some blocks of each row of blocks. With two numbers, as `develop::fill` has them, `block_columns` would have nine parameters.
 #[derive(Clone, Copy)]
 pub struct Stretch {
     pub from: usize,
     pub count: usize,
 }
 
-// These blocks, row by row, with what lies along them.
+// These blocks, row by row, with what lies along them: two slices, as `fill_columns` takes them. Eight parameters, the most that a
+// function has here.
 fn block_columns(
     file: &[u8],
     view: View,
