@@ -33,7 +33,8 @@ pub fn test_window(size: Size, values: usize, window: Rectangle, len: usize) -> 
     Ok(())
 }
 
-// A window of a file that was opened: what `window` does behind its opening, for a caller that asks for several.
+// A window of a file that was opened: what `window` does behind its opening, for a caller that asks for several. `table_window_in` and
+// `coloured_in` say its three steps again: with one function for them, each would hand it a closure with a contract, which is longer.
 pub fn opened_window(
     file: &[u8],
     view: View,

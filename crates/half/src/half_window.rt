@@ -12,7 +12,7 @@ ghost use Rattle.samples.specs.Facts.Along.{AlongIn, DeltasIn};
 ghost use Rattle.develop.specs.Calls.{values_of, window_with, alone_in};
 ghost use Rattle.half.specs.Half.{half_for, blocks_of, block_at, block_xyz, block_in, halved_of, half_window_call};
 ghost use Rattle.develop.specs.Facts.View.{Viewed};
-ghost use Rattle.develop.specs.Facts.Fill.{number_of, Upto};
+ghost use Rattle.develop.specs.Facts.Fill.{number_of, Upto, SharedIn};
 ghost use Rattle.half.specs.Facts.Half.{BlocksIn, StretchIn, pair_of, block_row};
 
 use colour::pixel::Xyz;
@@ -26,7 +26,6 @@ use opcodes::grid::Size;
 use raw::front::Picture;
 use rawtags::pattern;
 use rawtags::pattern::Pattern;
-use samples::along;
 
 // What a block's colour needs besides its four samples.
 #[derive(Clone, Copy)]
@@ -94,7 +93,8 @@ fn blocks_of(half: Half, pair: &[f64], count: usize, out: &mut [f64])
     }
 }
 
-// At most 512 blocks of one row of blocks: their two rows of samples, developed as a window's, then the blocks of these.
+// At most 512 blocks of one row of blocks: their two rows of samples, developed as a window's, then the blocks of these. The room for
+// the samples is lent, as is what lies along them, for all rows: eight parameters.
 fn block_part(
     file: &[u8],
     view: View,
@@ -132,14 +132,15 @@ fn block_part(
     blocks_of(half, pair, part.width, out);
 }
 
-// Some blocks of each row of blocks.
+// Some blocks of each row of blocks. With two numbers, as `develop::fill` has them, `block_columns` would have nine parameters.
 #[derive(Clone, Copy)]
 pub struct Stretch {
     pub from: usize,
     pub count: usize,
 }
 
-// These blocks, row by row, with what lies along them.
+// These blocks, row by row, with what lies along them: two slices, as `fill_columns` takes them. Eight parameters, the most that a
+// function has here.
 fn block_columns(
     file: &[u8],
     view: View,
@@ -185,31 +186,7 @@ fn block_columns(
     }
 }
 
-// With the columns' deltas, which are worked out once for every row.
-fn blocks_with_deltas(
-    file: &[u8],
-    view: View,
-    half: Half,
-    blocks: Rectangle,
-    part: Stretch,
-    along: &[f64],
-    out: &mut [f64],
-)
-    requires blocks_in { BlocksIn file.now view blocks out.old × PatternIn half.pattern × StretchIn part blocks }
-    requires along_in { AlongIn (run file.now (levels_reading view.picture.order view.picture.raw.tags)) view.picture.raw.tags.frame.samples (2 * (blocks.left + part.from)) (2 * part.count) along.now }
-    ensures { (q : Viewed file.now view) → let x = number_of (block_in half (alone_in file.now q.file)) blocks 3 in Upto x blocks.height (blocks.width * 3) (part.from * 3) out.old → Upto x blocks.height (blocks.width * 3) (part.from * 3 + part.count * 3) out.new }
-{
-    let mut deltas: [i32; 1024] = [0; 1024];
-    let picture = view.picture;
-    let order = picture.order;
-    let tags = picture.raw.tags;
-    let n = 2 * part.count;
-    let column = ActiveColumn(2 * (blocks.left + part.from));
-    along::fill_deltas(file, order, tags, column, &mut deltas[0..n]);
-    block_columns(file, view, half, blocks, part, along, &deltas[0..n], out);
-}
-
-// What lies along these blocks is worked out once for every row.
+// These blocks.
 fn fill_stretch(
     file: &[u8],
     view: View,
@@ -221,29 +198,12 @@ fn fill_stretch(
     requires { BlocksIn file.now view blocks out.old × PatternIn half.pattern × StretchIn part blocks }
     ensures { (q : Viewed file.now view) → let x = number_of (block_in half (alone_in file.now q.file)) blocks 3 in Upto x blocks.height (blocks.width * 3) (part.from * 3) out.old → Upto x blocks.height (blocks.width * 3) (part.from * 3 + part.count * 3) out.new }
 {
-    let mut space: [f64; 1536] = [0.0; 1536];
-    let picture = view.picture;
-    let order = picture.order;
-    let raw = picture.raw;
     let column = ActiveColumn(2 * (blocks.left + part.from));
-    let q = along::piece(raw.tags, 2 * part.count);
-    let e = (raw.tags.levels.repeat.rows + 1) * q;
-    along::fill_along(file, order, raw, column, q, &mut space[0..e]);
-    if raw.tags.levels.column_deltas.count == 0 {
-        let none: [i32; 1] = [0; 1];
-        block_columns(
-            file,
-            view,
-            half,
-            blocks,
-            part,
-            &space[0..e],
-            &none[0..0],
-            out,
-        );
-    } else {
-        blocks_with_deltas(file, view, half, blocks, part, &space[0..e], out);
-    }
+    let fill = |along: &[f64], deltas: &[i32], out: &mut [f64]|
+        requires { BlocksIn file.now view blocks out.now × PatternIn half.pattern × StretchIn part blocks × SharedIn file.now view (2 * (blocks.left + part.from)) (2 * part.count) along.now deltas.now }
+        ensures { (q : Viewed file.entry.now view) → let x = number_of (block_in half (alone_in file.entry.now q.file)) blocks 3 in Upto x blocks.height (blocks.width * 3) (part.from * 3) out.entry.now → Upto x blocks.height (blocks.width * 3) (part.from * 3 + part.count * 3) out.exit.now }
+    { block_columns(file, view, half, blocks, part, along, deltas, out) };
+    fill::with_along::<1024, _>(file, view, column, 2 * part.count, fill, out);
 }
 
 // Blocks inside the active area of an accepted mosaic.

@@ -1,14 +1,14 @@
-use mathlib.Core.Path.{◌≡◌}
+use mathlib.Core.Path.{◌≡◌, sym, ap, ◌∙◌, subst}
 use Prim.Native.Nat.{ℕ, ◌+◌, ◌*◌, ◌≤◌}
+use native.Mathlib.Nat.{mul-one}
 use native.Mathlib.Omega.{arith}
-use borrow.Author.Rules.{rules}
-use lib.ListN.{length}
-use Rattle.develop.proofs.Windows.{viewed_sized, viewed_plain, copies_length, array_length, along_part}
+use Rattle.develop.specs.Calls.{alone_in}
+use Rattle.develop.specs.Facts.Fill.{number_of, Upto}
+use Rattle.develop.proofs.Windows.{viewed_sized, viewed_wide}
+use Rattle.half.specs.Half.{block_in}
+use Rattle.half.specs.Facts.Half.{BlocksIn}
 use Rattle.half.proofs.half_window.fill_stretch.Goals as goal
-use Rattle.half.proofs.half_window.fill_stretch.Goals.{After-fill_along, Start}
-
-fits : (n m k : ℕ) → k ≡ m → n ≤ m → n ≤ k
-fits n m k e h = omega arith
+use Rattle.half.proofs.half_window.fill_stretch.Goals.{Start}
 
 -- the blocks' columns lie in the active area, of which no side is over 16,384
 columns : (s : Start) → (2 * (s.args.blocks.left + s.args.part.from) + 2 * s.args.part.count ≤ s.args.view.size.columns)
@@ -16,13 +16,6 @@ columns : (s : Start) → (2 * (s.args.blocks.left + s.args.part.from) + 2 * s.a
 columns s =
     let z = viewed_sized s.args.file.now s.args.view s.requires.0.file in
     (omega (arith, s.requires.0.columns, s.requires.2.inside), z.columns)
-
--- the room was given back with as many numbers
-lent : (k : After-fill_along) → let v =
-    k.args.view in
-    length k.fill_along.new.out ≡
-    (v.picture.raw.tags.levels.repeat.rows + 1) * k.piece-q.result
-lent k = search rules
 
 pub overflow_add-column : goal.overflow_add-column
 overflow_add-column c = let s =
@@ -36,78 +29,30 @@ pub overflow_mul-part : goal.overflow_mul-part
 overflow_mul-part c = let s =
     (goal.at.overflow_mul-part c).Start in omega (arith, s.requires.2.few)
 
-pub piece-q-requires : goal.piece-q-requires
-piece-q-requires c =
-    let t = c.requires.0.file.picture_in.raw.tags in
-    let r = t.levels.repeat in record {
-      le_len = (omega (arith, c.requires.2.some), r.some_rows, r.rows, r.some_columns, r.columns);
-      le_samples = (t.frame.some_samples, t.frame.samples);
-    }
-
-pub overflow_add-e : goal.overflow_add-e
-overflow_add-e c = let s =
-    (goal.at.overflow_add-e c).Start in omega
-    (arith, s.requires.0.file.picture_in.raw.tags.levels.repeat.rows)
-
-pub overflow_mul-e : goal.overflow_mul-e
-overflow_mul-e c =
-    omega (arith, c.piece-q.ensures.2)
-
-pub slice_bounds-space-end : goal.slice_bounds-space-end
-slice_bounds-space-end c =
-    omega (arith, c.piece-q.ensures.2)
-
-pub fill_along-requires : goal.fill_along-requires
-fill_along-requires c =
-    let p = c.piece-q in
-    let z = columns (goal.at.fill_along-requires c).Start in (
-      c.requires.0.file.picture_in.raw,
-      omega (arith, z.0, z.1),
-      p.ensures.0,
-      p.ensures.1,
-      copies_length _ _ 1536 p.ensures.2,
-    )
-
-pub slice_bounds-block_columns-end : goal.slice_bounds-block_columns-end
-slice_bounds-block_columns-end c =
-    let fill-along = c.fill_along in
-    let p = c.piece-q in
-    fits _ 1536 _ (array_length _ _ 1536 p.ensures.2 fill-along.new.out (search rules)) p.ensures.2
-
-pub block_columns-requires : goal.block_columns-requires
-block_columns-requires c =
-    let if1 = c.if-raw-eq0 in
-    let p = c.piece-q in
-    let a = c.fill_along in
-    let y = a.ensures (2 * c.args.part.count) p.ensures.3 in
-    let m = (c.args.view.picture.raw.tags.levels.repeat.rows + 1) * p.result in record {
-      blocks_in = c.requires;
-      along_in = (
-        along_part _ _ _ _ m a.new.out _ (lent (goal.at.block_columns-requires c).After-fill_along) y,
-        viewed_plain c.args.file.now c.args.view c.requires.0.file if1.true _ _,
+pub with_along-requires : goal.with_along-requires
+with_along-requires c =
+    let s = (goal.at.with_along-requires c).Start in
+    let z = columns s in
+    let f = s.args.file.now in
+    let v = s.args.view in
+    let q = s.requires.0 in
+    let n = 2 * s.args.part.count in
+    let e : n ≡ n * v.size.samples = sym (ap (λ (m : ℕ). n * m) q.mosaic ∙ mul-one n) in record {
+      viewed = (
+        q.file,
+        omega (arith, s.requires.2.some),
+        omega (arith, z.0, z.1),
+        viewed_wide f v q.file (2 * (s.args.blocks.left + s.args.part.from)) n z.0 n e,
       );
+      room = (omega arith, λ h. omega (arith, s.requires.2.few));
+      takes = λ a d o p b. (subst (BlocksIn f v s.args.blocks) (sym b) q, s.requires.1, s.requires.2, p);
     }
 
-pub slice_bounds-blocks_with_deltas-end : goal.slice_bounds-blocks_with_deltas-end
-slice_bounds-blocks_with_deltas-end c =
-    let fill-along = c.fill_along in
-    let p = c.piece-q in
-    fits _ 1536 _ (array_length _ _ 1536 p.ensures.2 fill-along.new.out (search rules)) p.ensures.2
-
-pub blocks_with_deltas-requires : goal.blocks_with_deltas-requires
-blocks_with_deltas-requires c =
-    let p = c.piece-q in
-    let a = c.fill_along in
-    let y = a.ensures (2 * c.args.part.count) p.ensures.3 in
-    let m = (c.args.view.picture.raw.tags.levels.repeat.rows + 1) * p.result in record {
-      blocks_in = c.requires;
-      along_in = along_part _ _ _ _ m a.new.out _ (lent (goal.at.blocks_with_deltas-requires c).After-fill_along) y;
-    }
-
-pub returns-then-raw-eq0 : goal.returns-then-raw-eq0
-returns-then-raw-eq0 c =
-    c.block_columns.ensures
-
-pub returns-else-raw-eq0 : goal.returns-else-raw-eq0
-returns-else-raw-eq0 c =
-    c.blocks_with_deltas.ensures
+pub returns : goal.returns
+returns c q u =
+    let a = c.args in
+    let g = c.with_along.ensures in
+    let b = a.blocks in
+    let x = number_of (block_in a.half (alone_in a.file.now q.file)) b 3 in
+    subst (Upto x b.height (b.width * 3) (a.part.from * 3 + a.part.count * 3)) g.ends
+    (g.call q (subst (Upto x b.height (b.width * 3) (a.part.from * 3)) (sym g.begins) u))
