@@ -10,6 +10,7 @@ use lib.Dec.{leb, eqb}
 use lib.Ieee.{Float}
 use lib.ListN.{length}
 use borrow.Author.Tests.{leb-true, eqb-true, eq-eqb, ne_eqb}
+use Rattle.reading.specs.Bytes.{some_inside}
 use Rattle.reading.specs.Reading.{run, pick}
 use Rattle.reading.proofs.Reading.{pick_yes, pick_no}
 use Rattle.directory.specs.Out.{Out, Out.is}
@@ -65,6 +66,12 @@ module _ (f : List ℕ) (v : View) (h : Viewed f v) (r c p : ℕ) where
       sym s ∙ ap (spot_of f r c p) h.accepted
 
 -- ---- 13 and 14
+outside : (a b c d : Bool) → (a && c) ≡ false → (a && (b && (c && d))) ≡ false
+outside true true true d e = absurd (let k : true ≡ false = e in cc)
+outside true true false d e = refl
+outside true false c d e = refl
+outside false b c d e = refl
+
 passed_not_refused : (r : Refusal) → ◌≡◌ {A = Result (Unit {0}) Refusal} (Ok tt) (Err r) → ⊥
 passed_not_refused r e = let k : true ≡ false = ap is_ok e in cc
 
@@ -81,6 +88,10 @@ module _ (z : Size) (t l h w : ℕ) where
     pub test_outside : inside z t l h w ≡ false → Err refusal.Outside ≡ window_test z n t l h w len
     unfolding window_test
     test_outside a = sym (simp (a, pick_no))
+
+    -- rows that are none, or do not lie in the active area
+    pub test_rows : some_inside t h z.rows ≡ false → Err refusal.Outside ≡ window_test z n t l h w len
+    test_rows e = test_outside (outside (leb 1 h) (leb 1 w) (leb (t + h) z.rows) (leb (l + w) z.columns) e)
 
     pub passed_inside : Ok tt ≡ window_test z n t l h w len → (inside z t l h w ≡ true) × (len ≡ h * w * n)
     unfolding window_test pick
