@@ -24,8 +24,8 @@ use directory::refusal::Refusal;
 use levels::active::ActiveColumn;
 use opcodes::grid::Size;
 use raw::front::Picture;
-use rawtags::pattern;
 use rawtags::pattern::Pattern;
+use rawtags::{FileTags, pattern};
 use samples::along;
 
 // What a block's colour needs besides its four samples.
@@ -205,7 +205,7 @@ fn blocks_with_deltas(
     let tags = picture.raw.tags;
     let n = 2 * part.count;
     let column = ActiveColumn(2 * (blocks.left + part.from));
-    along::fill_deltas(file, order, tags, column, &mut deltas[0..n]);
+    along::fill_deltas(FileTags { file, order, tags }, column, &mut deltas[0..n]);
     block_columns(file, view, half, blocks, part, along, &deltas[0..n], out);
 }
 

@@ -5,7 +5,7 @@ ghost use Rattle.std.specs.Prelude.{◌≡◌, length};
 ghost use Rattle.directory.specs.Facts.Out.{out};
 ghost use Rattle.reading.specs.Reading.{run};
 ghost use Rattle.rawtags.specs.Raw.{tags_reading};
-ghost use Rattle.rawtags.specs.Facts.Raw.{TagsIn};
+ghost use Rattle.rawtags.specs.Facts.Raw.{TagsIn, TagsWithin, TagsWithin-prop};
 
 use area::Area;
 use crop::Crop;
@@ -15,6 +15,7 @@ use directory::tag::Values;
 use frame::Dimensions;
 use layout::Layout;
 use level_tags::LevelTags;
+use reading::number::Order;
 
 pub mod area;
 pub mod black;
@@ -39,6 +40,15 @@ pub struct Tags {
     pub levels: LevelTags,
     pub crop: Crop,
     pub list: Values,
+}
+
+// The tags of a file and its byte order; where they say that values stand, the file has them.
+#[derive(Clone, Copy)]
+pub struct FileTags<'a> {
+    pub file: &'a [u8],
+    pub order: Order,
+    pub tags: Tags,
+    ghost within: { TagsWithin file.now order tags } by { TagsWithin-prop file.now order tags },
 }
 
 // The tags, in order of test.

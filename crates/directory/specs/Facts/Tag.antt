@@ -15,6 +15,11 @@ use Rattle.directory.specs.declared.tag.Rule.{Rule}
 use Rattle.directory.specs.declared.tag.Range.{Range}
 use Rattle.directory.specs.declared.tag.Values.{Values}
 use Rattle.directory.specs.Tag.{allows_of}
+use Rattle.std.specs.Coded.{Coded-set, coded_bool, coded_ℕ, ×_prop, →_prop, le_prop}
+use mathlib.Core.Logic.{inl, inr}
+use mathlib.Core.Path.{ap}
+use native.Mathlib.Omega.{arith}
+use Rattle.directory.specs.Facts.Widths.{Wide-prop}
 
 -- the value or offset of an entry that was found lies in the file
 abbrev pub FoundIn : Widths → ℕ → Option Found → Type 0
@@ -59,6 +64,35 @@ pub record PlacedValues (len : ℕ) (r : Rule) (v : Values) : Type 0 where
   pub enough : 0 < v.count → r.least ≤ v.count
   pub within : v.count ≤ r.most
   pub present : r.required ≡ true → r.least ≤ v.count
+
+-- one of two numbers in one way
+pub one_of_two-prop : (s a b : ℕ) → (a ≡ b → ⊥) → IsProp ((s ≡ a) ⊎ (s ≡ b))
+one_of_two-prop s a b h (inl p) (inl q) = ap inl (Coded-set coded_ℕ s a p q)
+one_of_two-prop s a b h (inl p) (inr q) = absurd (omega (arith, h))
+one_of_two-prop s a b h (inr p) (inl q) = absurd (omega (arith, h))
+one_of_two-prop s a b h (inr p) (inr q) = ap inr (Coded-set coded_ℕ s b p q)
+
+pub SizeIn-prop : (k : Kinds) (s : ℕ) → IsProp (SizeIn k s)
+SizeIn-prop kinds.Byte s = Coded-set coded_ℕ s 1
+SizeIn-prop kinds.Short s = Coded-set coded_ℕ s 2
+SizeIn-prop kinds.Long s = one_of_two-prop s 4 8 (omega arith)
+SizeIn-prop kinds.ShortOrLong s = Wide-prop s
+SizeIn-prop kinds.LongOrIfd s = one_of_two-prop s 4 8 (omega arith)
+SizeIn-prop kinds.ShortOrRational s = one_of_two-prop s 2 8 (omega arith)
+SizeIn-prop kinds.ShortLongOrRational s = Wide-prop s
+SizeIn-prop kinds.SignedRational s = Coded-set coded_ℕ s 8
+SizeIn-prop kinds.Undefined s = Coded-set coded_ℕ s 1
+
+pub PlacedValues-prop : (len : ℕ) (r : Rule) (v : Values) → IsProp (PlacedValues len r v)
+PlacedValues-prop len r v x y = λ i.
+    record {
+      inside = le_prop x.inside y.inside i;
+      typed = →_prop (×_prop (Coded-set coded_bool _ _) (Coded-set coded_ℕ _ _)) x.typed y.typed i;
+      sized = →_prop (SizeIn-prop r.kinds v.size) x.sized y.sized i;
+      enough = →_prop le_prop x.enough y.enough i;
+      within = le_prop x.within y.within i;
+      present = →_prop le_prop x.present y.present i;
+    }
 
 abbrev pub ValuesIn : ℕ → Rule → Result Values Refusal → Type 0
 ValuesIn len r (Err e) = Unit {0}

@@ -16,6 +16,10 @@ overflow_add-column c =
     let z = viewed_sized c.args.file.now c.args.view c.requires.fill_in.0.file in
     omega (arith, c.requires.fill_in.0.columns, z.columns, c.requires.fill_in.2)
 
+pub invariant_of-fill_deltas : goal.invariant_of-fill_deltas
+invariant_of-fill_deltas c =
+    record { within = c.requires.fill_in.0.file.picture_in.raw.tags }
+
 pub fill_deltas-requires : goal.fill_deltas-requires
 fill_deltas-requires c =
     let f = c.args.file.now in
@@ -25,7 +29,6 @@ fill_deltas-requires c =
     let z = viewed_sized f v q in
     let d : n - 0 ≡ n = omega arith in
     let l = c.args.window.left + c.args.from in (
-      q.picture_in.raw.tags,
       viewed_wide f v q l c.args.count (omega (arith, c.requires.fill_in.0.columns, c.requires.fill_in.2)) _
           (copies_length (pos 0) n 8192 c.requires.fill_in.3),
       omega (arith, c.requires.fill_in.0.columns, z.columns, c.requires.fill_in.2),

@@ -38,6 +38,10 @@ pub slice_bounds-deltas-end : goal.slice_bounds-deltas-end
 slice_bounds-deltas-end c =
     omega (arith, few (goal.at.slice_bounds-deltas-end c).Start)
 
+pub invariant_of-fill_deltas : goal.invariant_of-fill_deltas
+invariant_of-fill_deltas c =
+    record { within = c.requires.blocks_in.0.file.picture_in.raw.tags }
+
 pub fill_deltas-requires : goal.fill_deltas-requires
 fill_deltas-requires c =
     let s = (goal.at.fill_deltas-requires c).Start in
@@ -47,7 +51,6 @@ fill_deltas-requires c =
     let q = s.requires.blocks_in.0.file in
     let n = 2 * s.args.part.count in
     let e : n ≡ n * v.size.samples = sym (ap (λ (m : ℕ). n * m) s.requires.blocks_in.0.mosaic ∙ mul-one n) in (
-      q.picture_in.raw.tags,
       viewed_wide f v q (2 * (s.args.blocks.left + s.args.part.from)) n z.0 _ (copies_length (pos 0) n 1024 (few s) ∙ e),
       omega (arith, z.0, z.1),
       zeros_part (n - 0) 1024,
