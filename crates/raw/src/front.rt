@@ -9,7 +9,7 @@ use crate::spans;
 use crate::spans::Spans;
 use directory::refusal::Refusal;
 use directory::{Directory, Ifd, tree};
-use rawtags::Tags;
+use rawtags::{FileTags, Tags};
 use reading::number::Order;
 
 // The raw directory's tags, and S of each plane.
@@ -34,7 +34,9 @@ fn raw_of(dir: Directory) -> Result<Raw, Refusal>
 {
     let order = dir.ifd.order;
     let tags = rawtags::tags_of(dir)?;
-    let spans = spans::spans_of(dir.file, order, tags)?;
+    let file = dir.file;
+    let source = FileTags { file, order, tags };
+    let spans = spans::spans_of(source)?;
     Ok(Raw { tags, spans })
 }
 

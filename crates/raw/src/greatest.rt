@@ -5,7 +5,6 @@ ghost use Rattle.reading.specs.Reading.{run};
 ghost use Rattle.levels.specs.Facts.Black.{most_black, Small};
 ghost use Rattle.levels.specs.Levels.{greatest_black};
 ghost use Rattle.levels.specs.Facts.Residues.{greatest_delta, ByResidue, residue_black, greatest_by_residues};
-ghost use Rattle.rawtags.specs.Facts.Raw.{TagsWithin};
 ghost use Rattle.raw.specs.Stored.{blacks_reading, levels_reading};
 ghost use Rattle.raw.specs.Facts.Greatest.{DeltasOf, GreatestIn};
 
@@ -14,7 +13,7 @@ use directory::tag;
 use directory::tag::Values;
 use levels::active::{ActiveColumn, ActiveRow};
 use levels::black::BlackKind;
-use rawtags::Tags;
+use rawtags::FileTags;
 use reading::number::Order;
 
 // The greatest deltas of the columns and of the rows, by residue: by the column and the row of the repeat that they meet.
@@ -62,86 +61,75 @@ fn by_residue(file: &[u8], order: Order, deltas: Values, n: usize, step: usize) 
     found
 }
 
-pub fn greatest_deltas(file: &[u8], order: Order, tags: Tags) -> GreatestDeltas
-    requires { TagsWithin file.now order tags }
-    ensures { GreatestIn (run file.now (levels_reading order tags)) result }
+pub fn greatest_deltas(source: FileTags) -> GreatestDeltas
+    ensures { GreatestIn (run source.entry.file.now (levels_reading source.entry.order source.entry.tags)) result }
 {
-    let area = tags.area;
-    let repeat = tags.levels.repeat;
-    let column_deltas = tags.levels.column_deltas;
-    let row_deltas = tags.levels.row_deltas;
+    let area = source.tags.area;
+    let repeat = source.tags.levels.repeat;
+    let column_deltas = source.tags.levels.column_deltas;
+    let row_deltas = source.tags.levels.row_deltas;
     let columns = by_residue(
-        file,
-        order,
+        source.file,
+        source.order,
         column_deltas,
         area.right - area.left,
         repeat.columns,
     );
-    let rows = by_residue(file, order, row_deltas, area.bottom - area.top, repeat.rows);
+    let rows = by_residue(
+        source.file,
+        source.order,
+        row_deltas,
+        area.bottom - area.top,
+        repeat.rows,
+    );
     GreatestDeltas { columns, rows }
 }
 
 // The greatest B of the samples whose row has residue i and whose column has residue j.
-fn residue_black(
-    file: &[u8],
-    order: Order,
-    tags: Tags,
-    deltas: GreatestDeltas,
-    plane: usize,
-    i: usize,
-    j: usize,
-) -> i64
-    requires tags_in { TagsWithin file.now order tags × (plane < tags.frame.samples) }
+fn residue_black(source: FileTags, deltas: GreatestDeltas, plane: usize, i: usize, j: usize) -> i64
+    requires plane_in { plane < source.tags.frame.samples }
     requires small { Small deltas.columns × Small deltas.rows × (i < 8) × (j < 8) }
-    ensures value { result ≡ residue_black (run file.now (levels_reading order tags)) deltas.columns deltas.rows plane i j }
+    ensures value { result ≡ residue_black (run source.entry.file.now (levels_reading source.entry.order source.entry.tags)) deltas.columns deltas.rows plane i j }
     ensures result_bound { nat_abs result ≤ 50330880 }
 {
     let columns = deltas.columns;
     let rows = deltas.rows;
-    let cell = sample::cell_at(file, order, tags, ActiveRow(i), ActiveColumn(j), plane);
+    let cell = sample::cell_at(source, ActiveRow(i), ActiveColumn(j), plane);
     levels::black_sum(cell, columns[j], rows[i])
 }
 
 // The greatest B over so many residues of the rows and of the columns.
 fn greatest_by_residues(
-    file: &[u8],
-    order: Order,
-    tags: Tags,
+    source: FileTags,
     deltas: GreatestDeltas,
     plane: usize,
     down: usize,
     across: usize,
 ) -> i64
-    requires tags_in { TagsWithin file.now order tags × (plane < tags.frame.samples) }
+    requires plane_in { plane < source.tags.frame.samples }
     requires small { Small deltas.columns × Small deltas.rows × (1 ≤ down) × (down ≤ 8) × (1 ≤ across) × (across ≤ 8) }
-    ensures value { result ≡ greatest_by_residues (run file.now (levels_reading order tags)) deltas.columns deltas.rows plane down across }
+    ensures value { result ≡ greatest_by_residues (run source.entry.file.now (levels_reading source.entry.order source.entry.tags)) deltas.columns deltas.rows plane down across }
     ensures result_bound { nat_abs result ≤ 50330880 }
 {
-    let mut best = residue_black(file, order, tags, deltas, plane, 0, 0);
+    let mut best = residue_black(source, deltas, plane, 0, 0);
     for k in 1..down * across {
-        best = best.max(residue_black(file, order, tags, deltas, plane, k / across, k % across));
+        best = best.max(residue_black(source, deltas, plane, k / across, k % across));
     }
     best
 }
 
 // M of a plane: the residues that occur are those below the repeat and below the active area's size.
-pub fn greatest_black(
-    file: &[u8],
-    order: Order,
-    tags: Tags,
-    deltas: GreatestDeltas,
-    plane: usize,
-) -> i64
-    requires tags_in { TagsWithin file.now order tags × (plane < tags.frame.samples) }
-    requires greatest_in { GreatestIn (run file.now (levels_reading order tags)) deltas }
-    ensures value { result ≡ greatest_black (run file.now (levels_reading order tags)) plane }
+pub fn greatest_black(source: FileTags, deltas: GreatestDeltas, plane: usize) -> i64
+    requires plane_in { plane < source.tags.frame.samples }
+    requires greatest_in { GreatestIn (run source.file.now (levels_reading source.order source.tags)) deltas }
+    ensures value { result ≡ greatest_black (run source.entry.file.now (levels_reading source.entry.order source.entry.tags)) plane }
     ensures result_bound { nat_abs result ≤ 50330880 }
 {
-    let area = tags.area;
-    let repeat = tags.levels.repeat;
+    let area = source.tags.area;
+    let repeat = source.tags.levels.repeat;
     let rows = area.bottom - area.top;
     let columns = area.right - area.left;
     let down = repeat.rows.min(rows);
     let across = repeat.columns.min(columns);
-    greatest_by_residues(file, order, tags, deltas, plane, down, across)
+    greatest_by_residues(source, deltas, plane, down, across)
 }

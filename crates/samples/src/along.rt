@@ -5,7 +5,6 @@ ghost use Rattle.levels.specs.Facts.Black.{Small};
 ghost use Rattle.levels.specs.Facts.Reciprocal.{of_parts, inverse_of};
 ghost use Rattle.raw.specs.Facts.Front.{RawWithin};
 ghost use Rattle.raw.specs.Facts.Spans.{span_at};
-ghost use Rattle.rawtags.specs.Facts.Raw.{TagsWithin};
 ghost use Rattle.raw.specs.Stored.{levels_reading};
 ghost use Rattle.reading.specs.Reading.{run};
 ghost use Rattle.samples.specs.Facts.Along.{cell_along, span_along, AlongIn, DeltasIn};
@@ -16,7 +15,7 @@ use levels::reciprocal;
 use raw::front::Raw;
 use raw::sample;
 use raw::spans::Spans;
-use rawtags::Tags;
+use rawtags::{FileTags, Tags};
 use reading::number::Order;
 
 // How many numbers of a part are worked out at a time: all of them, or whole repeats.
@@ -52,40 +51,22 @@ fn repeated<F: Fn(usize) -> f64>(period: usize, number: F, out: &mut [f64])
 }
 
 // The k-th cell of an active row from an active column on.
-fn cell_from(
-    file: &[u8],
-    order: Order,
-    tags: Tags,
-    row: ActiveRow,
-    column: ActiveColumn,
-    k: usize,
-) -> f64
-    requires { TagsWithin file.now order tags × (1 ≤ tags.frame.samples) × (column.0 ≤ 16384) × (k < 512) }
-    ensures { result ≡ of_parts (cell_along (run file.now (levels_reading order tags)) tags.frame.samples row.0 column.0 k) }
+fn cell_from(source: FileTags, row: ActiveRow, column: ActiveColumn, k: usize) -> f64
+    requires { (column.0 ≤ 16384) × (k < 512) }
+    ensures { result ≡ of_parts (cell_along (run source.entry.file.now (levels_reading source.entry.order source.entry.tags)) source.entry.tags.frame.samples row.0 column.0 k) }
 {
-    let samples = tags.frame.samples;
+    let samples = source.tags.frame.samples;
     let c = ActiveColumn(column.0 + k / samples);
-    reciprocal::number_of(sample::cell_at(file, order, tags, row, c, k % samples))
+    reciprocal::number_of(sample::cell_at(source, row, c, k % samples))
 }
 
 // The cells of an active row from an active column on, read once for each repeat.
-fn cells_row(
-    file: &[u8],
-    order: Order,
-    tags: Tags,
-    row: ActiveRow,
-    column: ActiveColumn,
-    out: &mut [f64],
-)
-    requires { TagsWithin file.now order tags × (1 ≤ tags.frame.samples) × (column.0 ≤ 16384) × (length out.old ≤ 512) }
-    ensures { Filled nan (λ (k : ℕ). of_parts (cell_along (run file.now (levels_reading order tags)) tags.frame.samples row.0 column.0 k)) (length out.old) out.new }
+fn cells_row(source: FileTags, row: ActiveRow, column: ActiveColumn, out: &mut [f64])
+    requires { (column.0 ≤ 16384) × (length out.old ≤ 512) }
+    ensures { Filled nan (λ (k : ℕ). of_parts (cell_along (run source.entry.file.now (levels_reading source.entry.order source.entry.tags)) source.entry.tags.frame.samples row.0 column.0 k)) (length out.old) out.new }
 {
-    let period = tags.levels.repeat.columns * tags.frame.samples;
-    repeated(
-        period,
-        |k| cell_from(file, order, tags, row, column, k),
-        out,
-    );
+    let period = source.tags.levels.repeat.columns * source.tags.frame.samples;
+    repeated(period, |k| cell_from(source, row, column, k), out);
 }
 
 // The reciprocal of a plane's S.
@@ -107,22 +88,15 @@ fn inverses_row(file: &[u8], order: Order, raw: Raw, out: &mut [f64])
 }
 
 // The cells of each row of the repeat.
-fn fill_cells(
-    file: &[u8],
-    order: Order,
-    tags: Tags,
-    column: ActiveColumn,
-    q: usize,
-    out: &mut [f64],
-)
-    requires { TagsWithin file.now order tags × (1 ≤ tags.frame.samples) × (column.0 ≤ 16384) × (q ≤ 512) × (length out.old ≡ tags.levels.repeat.rows * q) }
-    ensures { (r k : ℕ) → r < tags.levels.repeat.rows → k < q → get_or out.new (r * q + k) nan ≡ of_parts (cell_along (run file.now (levels_reading order tags)) tags.frame.samples r column.0 k) }
+fn fill_cells(source: FileTags, column: ActiveColumn, q: usize, out: &mut [f64])
+    requires { (column.0 ≤ 16384) × (q ≤ 512) × (length out.old ≡ source.tags.levels.repeat.rows * q) }
+    ensures { (r k : ℕ) → r < source.entry.tags.levels.repeat.rows → k < q → get_or out.new (r * q + k) nan ≡ of_parts (cell_along (run source.entry.file.now (levels_reading source.entry.order source.entry.tags)) source.entry.tags.frame.samples r column.0 k) }
 {
-    let rows = tags.levels.repeat.rows;
+    let rows = source.tags.levels.repeat.rows;
     for r in 0..rows {
         let a = r * q;
         let e = a + q;
-        cells_row(file, order, tags, ActiveRow(r), column, &mut out[a..e]);
+        cells_row(source, ActiveRow(r), column, &mut out[a..e]);
     }
 }
 
@@ -141,19 +115,21 @@ pub fn fill_along(
     let rows = raw.tags.levels.repeat.rows;
     let a = rows * q;
     let e = a + q;
-    fill_cells(file, order, raw.tags, column, q, &mut out[0..a]);
+    let tags = raw.tags;
+    let source = FileTags { file, order, tags };
+    fill_cells(source, column, q, &mut out[0..a]);
     inverses_row(file, order, raw, &mut out[a..e]);
 }
 
 // The columns' deltas of a part from an active column on.
-pub fn fill_deltas(file: &[u8], order: Order, tags: Tags, column: ActiveColumn, out: &mut [i32])
-    requires { TagsWithin file.now order tags × WideIn tags column.0 (length out.old) × (column.0 ≤ 16384) × Small out.old }
-    ensures { DeltasIn (run file.now (levels_reading order tags)) tags.frame.samples column.0 (length out.old) out.new }
+pub fn fill_deltas(source: FileTags, column: ActiveColumn, out: &mut [i32])
+    requires { WideIn source.tags column.0 (length out.old) × (column.0 ≤ 16384) × Small out.old }
+    ensures { DeltasIn (run source.entry.file.now (levels_reading source.entry.order source.entry.tags)) source.entry.tags.frame.samples column.0 (length out.old) out.new }
 {
-    let deltas = tags.levels.column_deltas;
-    let samples = tags.frame.samples;
+    let deltas = source.tags.levels.column_deltas;
+    let samples = source.tags.frame.samples;
     let l = column.0;
     for (i, delta) in out.iter_mut().enumerate() {
-        *delta = sample::delta_at(file, order, deltas, l + i / samples) as i32;
+        *delta = sample::delta_at(source.file, source.order, deltas, l + i / samples) as i32;
     }
 }

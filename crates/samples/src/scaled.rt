@@ -17,6 +17,7 @@ use levels::active::{ActiveColumn, ActiveRow};
 use levels::reciprocal;
 use raw::front::Raw;
 use raw::sample;
+use rawtags::FileTags;
 use reading::number::Order;
 
 // Cells with the columns' deltas from `at` on.
@@ -124,10 +125,11 @@ pub fn line_of(file: &[u8], order: Order, raw: Raw, row: ActiveRow, column: Acti
     let r = area.stored_row(row);
     let c = area.stored_column(column);
     let down = sample::delta_at(file, order, row_deltas, row.0);
+    let source = FileTags { file, order, tags };
     Line {
         order,
         bytes,
-        place: sample::place_of(file, order, tags, r, c, 0),
+        place: sample::place_of(source, r, c, 0),
         table: table.place,
         count: table.count,
         down: reciprocal::number_of(down),

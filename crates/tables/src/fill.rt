@@ -14,6 +14,7 @@ use levels::active::{ActiveColumn, ActiveRow};
 use levels::{reciprocal, table};
 use raw::front::Raw;
 use raw::sample;
+use rawtags::FileTags;
 use reading::number::Order;
 
 // The scaled values of all bytes, from a black and the reciprocal of S, through the linearization table.
@@ -48,7 +49,8 @@ fn fill_table(
 {
     let tags = raw.tags;
     let spans = raw.spans;
-    let cell = sample::cell_at(file, order, tags, row, column, 0);
+    let source = FileTags { file, order, tags };
+    let cell = sample::cell_at(source, row, column, 0);
     let black = reciprocal::number_of(cell);
     let inverse = reciprocal::inverse(sample::span_at(spans, 0));
     fill_values(file, order, tags.levels.table, black, inverse, values);

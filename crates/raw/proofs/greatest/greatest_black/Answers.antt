@@ -10,5 +10,5 @@ pub returns-clause-value : goal.returns-clause-value
 returns-clause-value c =
     let a = c.args in
     let f : SFits w64 c.greatest_by_residues.result = search rules in
-    rw (to_z-of_z f) (c.greatest_by_residues.ensures.value ∙ greatest_black_is a.file.now a.order a.tags a.deltas a.plane _ _
-    c.requires.tags_in.0 c.requires.greatest_in c.min-down.ensures c.min-across.ensures)
+    rw (to_z-of_z f) (c.greatest_by_residues.ensures.value ∙ greatest_black_is a.source.file.now a.source.order a.source.tags a.deltas a.plane _ _
+    c.args.source.within c.requires.greatest_in c.min-down.ensures c.min-across.ensures)

@@ -18,7 +18,7 @@ use Rattle.raw.proofs.greatest.greatest_by_residues.Goals.{Start}
 abbrev pair : Start → ℕ → ℤ
 pair s k =
     let a = s.args in
-    residue_black (run a.file.now (levels_reading a.order a.tags)) a.deltas.columns a.deltas.rows a.plane
+    residue_black (run a.source.file.now (levels_reading a.source.order a.source.tags)) a.deltas.columns a.deltas.rows a.plane
     (k / a.across) (k % a.across)
 
 pub loop-k-init : goal.loop-k-init

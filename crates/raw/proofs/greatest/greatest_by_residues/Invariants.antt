@@ -9,6 +9,7 @@ use Rattle.raw.proofs.greatest.greatest_by_residues.Given as goal
 -- The invariant: the greatest of the pairs before k, and the pairs from k on, make the greatest of all.
 abbrev pub invariant-loop-k : goal.invariant-loop-k
 invariant-loop-k l =
-    Folded (λ (k : ℕ). residue_black (run l.file (levels_reading l.order l.tags)) l.deltas.columns l.deltas.rows l.plane (k / l.across) (k % l.across))
+    let s = l.source in
+    Folded (λ (k : ℕ). residue_black (run s.file.now (levels_reading s.order s.tags)) l.deltas.columns l.deltas.rows l.plane (k / l.across) (k % l.across))
     (l.down * l.across) l.k l.best
     × (nat_abs l.best ≤ 50330880)

@@ -18,23 +18,23 @@ use Rattle.raw.proofs.sample.cell_at.Goals as goal
 use Rattle.raw.proofs.sample.cell_at.Goals.{Start}
 
 -- the cell's index, and the cells of a tag that is there
-index : (s : Start) → let a = s.args in CellAt a.tags a.row.0 a.column.0 a.plane
-index s = let a = s.args in cell_at a.file.now a.order a.tags a.row.0 a.column.0 a.plane s.requires.0 s.requires.1
+index : (s : Start) → let a = s.args in CellAt a.source.tags a.row.0 a.column.0 a.plane
+index s = let a = s.args in cell_at a.source.file.now a.source.order a.source.tags a.row.0 a.column.0 a.plane a.source.within s.requires
 
-all : (s : Start) → (s.args.tags.levels.black.count ≡ 0 → ⊥) → CellsIn s.args.file.now s.args.tags
-all s e = let a = s.args in cells_in a.file.now a.order a.tags s.requires.0 e
+all : (s : Start) → (s.args.source.tags.levels.black.count ≡ 0 → ⊥) → CellsIn s.args.source.file.now s.args.source.tags
+all s e = let a = s.args in cells_in a.source.file.now a.source.order a.source.tags a.source.within e
 
 pub returns-then-cells-eq0 : goal.returns-then-cells-eq0
 returns-then-cells-eq0 c =
     let s = (goal.at.returns-then-cells-eq0 c).Start in
     let a = s.args in
-    let t = a.tags in
-    let f = a.file.now in
+    let t = a.source.tags in
+    let f = a.source.file.now in
     let b = t.levels.black in
-    let h = s.requires.0.levels.black in
-    let e = black_none f a.order (kind_for b.kind) b (λ k. (h.typed k).1 ∙ width_for _ (h.typed k).0) c.if-cells-eq0.true _ in
+    let h = a.source.within.levels.black in
+    let e = black_none f a.source.order (kind_for b.kind) b (λ k. (h.typed k).1 ∙ width_for _ (h.typed k).0) c.if-cells-eq0.true _ in
     record {
-      value = sym (cell_for_law f a.order t a.row.0 a.column.0 a.plane ∙ e);
+      value = sym (cell_for_law f a.source.order t a.row.0 a.column.0 a.plane ∙ e);
       result_bound = omega arith;
     }
 
@@ -73,10 +73,10 @@ parts_at-requires c =
     let if1 = c.if-cells-eq0 in
     let s = (goal.at.parts_at-requires c).Start in
     let q = all (goal.at.parts_at-requires c).Start if1.false in
-    let b = s.args.tags.levels.black in
-    let n = cell_index s.args.tags s.args.row.0 s.args.column.0 s.args.plane in
+    let b = s.args.source.tags.levels.black in
+    let n = cell_index s.args.source.tags s.args.row.0 s.args.column.0 s.args.plane in
     let w = within b.size _ n (index (goal.at.parts_at-requires c).Start).below in
-    subst (λ (k : ℕ). b.place + b.size * n + k ≤ length s.args.file.now) (q.sized ∙ ap width_of (sym c.kind_for-kind.ensures))
+    subst (λ (k : ℕ). b.place + b.size * n + k ≤ length s.args.source.file.now) (q.sized ∙ ap width_of (sym c.kind_for-kind.ensures))
     (omega (arith, w, q.inside))
 
 pub returns : goal.returns
@@ -84,12 +84,12 @@ returns c =
     let if1 = c.if-cells-eq0 in
     let s = (goal.at.returns c).Start in
     let a = s.args in
-    let f = a.file.now in
-    let b = a.tags.levels.black in
-    let n = cell_index a.tags a.row.0 a.column.0 a.plane in
+    let f = a.source.file.now in
+    let b = a.source.tags.levels.black in
+    let n = cell_index a.source.tags a.row.0 a.column.0 a.plane in
     let q = all (goal.at.returns c).Start if1.false in
     let fits : SFits w64 c.parts_at.result = search rules in
-    let k = ap (λ (k : BlackKind). parts_of (black_at k a.order f (b.place + b.size * n))) c.kind_for-kind.ensures in
-    let e = black_in f a.order (kind_for b.kind) b (λ _. q.sized) n (subst (λ (m : ℕ). n < m) (sym q.count) (index (goal.at.returns c).Start).below) in
-    let g = cell_for_law f a.order a.tags a.row.0 a.column.0 a.plane in
+    let k = ap (λ (k : BlackKind). parts_of (black_at k a.source.order f (b.place + b.size * n))) c.kind_for-kind.ensures in
+    let e = black_in f a.source.order (kind_for b.kind) b (λ _. q.sized) n (subst (λ (m : ℕ). n < m) (sym q.count) (index (goal.at.returns c).Start).below) in
+    let g = cell_for_law f a.source.order a.source.tags a.row.0 a.column.0 a.plane in
     rw (to_z-of_z fits) record { value = c.parts_at.ensures.value ∙ k ∙ sym e ∙ sym g; result_bound = c.parts_at.ensures.result_bound }

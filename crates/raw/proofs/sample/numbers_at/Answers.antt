@@ -15,7 +15,7 @@ through-table_value-requires c =
 
 pub cell_at-cell-requires : goal.cell_at-cell-requires
 cell_at-cell-requires c =
-    (c.requires.raw_in.tags, c.requires.active_in.plane)
+    c.requires.active_in.plane
 
 pub delta_at-column_delta-requires : goal.delta_at-column_delta-requires
 delta_at-column_delta-requires c =

@@ -8,6 +8,6 @@ pub returns : goal.returns
 returns c =
     let a = c.args in
     c.sample_at.ensures
-    ∙ stored_is a.file.now a.order a.tags a.row.0 a.column.0 a.plane
-    (run a.file.now (numbers_reading a.order a.tags.strips)) _ _ _ c.place_of-place.ensures.0
+    ∙ stored_is a.source.file.now a.source.order a.source.tags a.row.0 a.column.0 a.plane
+    (run a.source.file.now (numbers_reading a.source.order a.source.tags.strips)) _ _ _ c.place_of-place.ensures.0
     c.stored_row-r.ensures c.stored_column-c.ensures

@@ -16,6 +16,6 @@ returns c =
     let d = c.difference.ensures in
     let fd : SFits w64 c.difference.result = search rules in
     let fm : SFits w64 m.result = search rules in
-    let e = span_is (run a.file.now (levels_reading a.order a.tags)) a.plane w.result m.result w.ensures
+    let e = span_is (run a.source.file.now (levels_reading a.source.order a.source.tags)) a.plane w.result m.result w.ensures
     m.ensures.value in
     rw (to_z-of_z fd) (rw (to_z-of_z fm) at d.value ∙ e, d.result_bound)

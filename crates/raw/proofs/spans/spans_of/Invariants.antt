@@ -5,4 +5,4 @@ use Rattle.raw.proofs.spans.spans_of.Given as goal
 
 -- S of the planes before this one is positive, and in its place.
 abbrev pub invariant-loop-plane : goal.invariant-loop-plane
-invariant-loop-plane l = Found (run l.file (levels_reading l.order l.tags)) l.plane l.planes
+invariant-loop-plane l = Found (run l.source.file.now (levels_reading l.source.order l.source.tags)) l.plane l.planes

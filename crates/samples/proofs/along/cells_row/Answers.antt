@@ -11,9 +11,9 @@ use Rattle.samples.proofs.along.cells_row.Goals as goal
 
 pub returns : goal.returns
 returns c =
-    let n = c.args.tags.frame.samples in
-    let v = run c.args.file.now (levels_reading c.args.order c.args.tags) in
-    let p : v.repeat_columns ≡ c.args.tags.levels.repeat.columns = repeat_columns_are c.args.file.now c.args.order c.args.tags in
+    let n = c.args.source.tags.frame.samples in
+    let v = run c.args.source.file.now (levels_reading c.args.source.order c.args.source.tags) in
+    let p : v.repeat_columns ≡ c.args.source.tags.levels.repeat.columns = repeat_columns_are c.args.source.file.now c.args.source.order c.args.source.tags in
     c.repeated.ensures (λ j. of_parts (cell_along v n c.args.row.0 c.args.column.0 j)) (λ j x b h. search rules)
     (λ j. ap of_parts (ap (λ (q : ℕ). cell_along v n c.args.row.0 c.args.column.0 (j + q * n)) (sym p)
-    ∙ cell_next v n c.requires.1 _ _ j))
+    ∙ cell_next v n c.args.source.within.frame.some_samples _ _ j))

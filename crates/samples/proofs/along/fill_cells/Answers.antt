@@ -14,9 +14,9 @@ use Rattle.samples.proofs.along.fill_cells.Goals as goal
 pub loop-r-preserved : goal.loop-r-preserved
 loop-r-preserved c =
     let l = c.loop-r in
-    let t = c.args.tags in
+    let t = c.args.source.tags in
     let q = c.args.q in
-    let v = run c.args.file.now (levels_reading c.args.order t) in
+    let v = run c.args.source.file.now (levels_reading c.args.source.order t) in
     let i : l.r * q + q ≤ length l.out = search rules in
     rows_more nan (λ r k. of_parts (cell_along v t.frame.samples r c.args.column.0 k)) q l.r (l.r * q) l.out c.cells_row.new.out refl i
     (search rules) l.invariant (λ k b. c.cells_row.ensures k (search rules))

@@ -11,4 +11,4 @@ use Rattle.samples.proofs.along.fill_cells.Given as goal
 abbrev pub invariant-loop-r : goal.invariant-loop-r
 invariant-loop-r l =
     (s k : ℕ) → s < l.r → k < l.q → get_or l.out (s * l.q + k) nan ≡ of_parts
-    (cell_along (run l.file (levels_reading l.order l.tags)) l.tags.frame.samples s l.column.0 k)
+    (cell_along (run l.source.file.now (levels_reading l.source.order l.source.tags)) l.source.tags.frame.samples s l.column.0 k)

@@ -20,8 +20,8 @@ returns c =
     let l = c.loop-i in
     let e = fill_end _ l.i (length c.args.out.now) c.args.out.now l.out (omega arith) l.invariant in
     record {
-      same = λ k h. e.0 k h ∙ ap (λ (ds : _). get_or ds (c.args.column.0 + k / c.args.tags.frame.samples) (pos 0))
-          (sym (column_deltas_are c.args.file.now c.args.order c.args.tags));
+      same = λ k h. e.0 k h ∙ ap (λ (ds : _). get_or ds (c.args.column.0 + k / c.args.source.tags.frame.samples) (pos 0))
+          (sym (column_deltas_are c.args.source.file.now c.args.source.order c.args.source.tags));
       small = e.1;
       long = λ h. omega (arith, l.invariant.same);
     }

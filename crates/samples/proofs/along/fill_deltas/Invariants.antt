@@ -9,4 +9,5 @@ use Rattle.samples.proofs.along.fill_deltas.Given as goal
 
 abbrev pub invariant-loop-i : goal.invariant-loop-i
 invariant-loop-i l =
-    Filled (λ (k : ℕ). get_or (run l.file (blacks_reading l.order kind.SignedRational l.deltas)) (l.l + k / l.samples) (pos 0)) l.i l.initial.out l.out
+    let s = l.source in
+    Filled (λ (k : ℕ). get_or (run s.file.now (blacks_reading s.order kind.SignedRational l.deltas)) (l.l + k / l.samples) (pos 0)) l.i l.initial.out l.out

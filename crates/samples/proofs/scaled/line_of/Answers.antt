@@ -34,10 +34,7 @@ place_of-requires c =
     let a = c.requires.0.tags.area in
     let r = c.stored_row-r.ensures in
     let l = c.stored_column-c.ensures in
-    record {
-      tags_in = c.requires.0.tags;
-      row_lt_length = (omega (arith, r, c.requires.1, a.bottom), omega (arith, l, c.requires.2, a.right), c.requires.0.tags.frame.some_samples);
-    }
+    (omega (arith, r, c.requires.1, a.bottom), omega (arith, l, c.requires.2, a.right), c.requires.0.tags.frame.some_samples)
 
 pub number_of-requires : goal.number_of-requires
 number_of-requires c = let h =
