@@ -24,6 +24,7 @@ use directory::refusal::Refusal;
 use levels::active::ActiveColumn;
 use opcodes::grid::Size;
 use raw::front::Picture;
+use rawtags::pattern;
 use rawtags::pattern::Pattern;
 
 // What a block's colour needs besides its four samples.
