@@ -7,11 +7,14 @@ use Rattle.samples.proofs.Lines.{zeros_part}
 use Rattle.develop.proofs.Windows.{copies_length, array_fits, deltas_part}
 use Rattle.develop.proofs.fill.with_deltas.Goals as goal
 
+pub invariant_of-fill_deltas : goal.invariant_of-fill_deltas
+invariant_of-fill_deltas g c =
+    record { within = c.requires.viewed.0.picture_in.raw.tags }
+
 pub fill_deltas-requires : goal.fill_deltas-requires
 fill_deltas-requires g c =
     let n = c.args.len in
     let v = c.requires.viewed in (
-      v.0.picture_in.raw.tags,
       λ k b. v.2 k (omega (arith, copies_length (pos 0) n g.row.N c.requires.room.1)),
       v.1,
       zeros_part (n - 0) g.row.N,
