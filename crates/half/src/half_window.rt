@@ -23,7 +23,7 @@ use directory::Directory;
 use directory::refusal::Refusal;
 use levels::active::ActiveColumn;
 use opcodes::grid::Size;
-use raw::front::Picture;
+use raw::front::{FileRaw, Picture};
 use rawtags::pattern::Pattern;
 use rawtags::{FileTags, pattern};
 use samples::along;
@@ -228,7 +228,7 @@ fn fill_stretch(
     let column = ActiveColumn(2 * (blocks.left + part.from));
     let q = along::piece(raw.tags, 2 * part.count);
     let e = (raw.tags.levels.repeat.rows + 1) * q;
-    along::fill_along(file, order, raw, column, q, &mut space[0..e]);
+    along::fill_along(FileRaw { file, order, raw }, column, q, &mut space[0..e]);
     if raw.tags.levels.column_deltas.count == 0 {
         let none: [i32; 1] = [0; 1];
         block_columns(

@@ -55,11 +55,15 @@ pub slice_bounds-space-end : goal.slice_bounds-space-end
 slice_bounds-space-end c =
     omega (arith, c.piece-q.ensures.2)
 
+pub invariant_of-fill_along : goal.invariant_of-fill_along
+invariant_of-fill_along c =
+    record { within = c.requires.fill_in.0.file.picture_in.raw }
+
 pub fill_along-requires : goal.fill_along-requires
 fill_along-requires c =
     let s = (goal.at.fill_along-requires c).Start in
     let p = c.piece-q in
-    (s.requires.fill_in.0.file.picture_in.raw, column (goal.at.fill_along-requires c).Start, p.ensures.0, p.ensures.1, copies_length _ _ 1536 p.ensures.2)
+    (column (goal.at.fill_along-requires c).Start, p.ensures.0, p.ensures.1, copies_length _ _ 1536 p.ensures.2)
 
 pub slice_bounds-fill_columns-end : goal.slice_bounds-fill_columns-end
 slice_bounds-fill_columns-end c =

@@ -57,11 +57,14 @@ pub slice_bounds-space-end : goal.slice_bounds-space-end
 slice_bounds-space-end c =
     omega (arith, c.piece-q.ensures.2)
 
+pub invariant_of-fill_along : goal.invariant_of-fill_along
+invariant_of-fill_along c =
+    record { within = c.requires.0.file.picture_in.raw }
+
 pub fill_along-requires : goal.fill_along-requires
 fill_along-requires c =
     let p = c.piece-q in
     let z = columns (goal.at.fill_along-requires c).Start in (
-      c.requires.0.file.picture_in.raw,
       omega (arith, z.0, z.1),
       p.ensures.0,
       p.ensures.1,
