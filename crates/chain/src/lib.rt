@@ -13,6 +13,7 @@ use develop::{View, spot};
 use directory::refusal::Refusal;
 use levels::LevelNumbers;
 use levels::active::{ActiveColumn, ActiveRow};
+use raw::front::FileRaw;
 use raw::sample;
 
 pub mod links;
@@ -75,7 +76,7 @@ fn chain_at(
     let list = raw.tags.list;
     let row = spot.row;
     let column = spot.column;
-    let numbers = sample::numbers_at(file, order, raw, row, column, spot.plane);
+    let numbers = sample::numbers_at(FileRaw { file, order, raw }, row, column, spot.plane);
     let x = levels::scaled(numbers.level);
     let opcodes = links::opcodes_of(file, view.size, list);
     let covering = links::cover(file, opcodes, spot, x, places, ids, before, after);

@@ -8,6 +8,7 @@ use crate::View;
 use directory::refusal::Refusal;
 use levels::active::{ActiveColumn, ActiveRow};
 use opcodes::grid::Size;
+use raw::front::FileRaw;
 use raw::sample;
 
 // Whether a spot is in the active area and has such a plane.
@@ -30,7 +31,9 @@ fn spot_in(file: &[u8], view: View, row: usize, column: usize, plane: usize) -> 
     let values = raw.tags.list;
     let r = ActiveRow(row);
     let c = ActiveColumn(column);
-    let x = sample::scaled_at(file, picture.order, raw, r, c, plane);
+    let order = picture.order;
+    let source = FileRaw { file, order, raw };
+    let x = sample::scaled_at(source, r, c, plane);
     let value = rows::list::list_at(file, view.size, values.place, values.count, r, c, plane, x);
     Ok(value)
 }

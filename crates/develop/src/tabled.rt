@@ -13,6 +13,7 @@ ghost use Rattle.develop.specs.Facts.View.{Viewed};
 use crate::fill::Rectangle;
 use crate::{View, fill};
 use levels::active::{ActiveColumn, ActiveRow};
+use raw::front::FileRaw;
 use rawtags::Tags;
 
 // How many rows of the black level's repeat a window meets.
@@ -122,9 +123,7 @@ fn fill_band(
     let row = ActiveRow(window.top + from);
     let column = ActiveColumn(window.left);
     tables::fill::fill_tables(
-        file,
-        order,
-        raw,
+        FileRaw { file, order, raw },
         row,
         column,
         columns,

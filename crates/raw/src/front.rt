@@ -3,7 +3,7 @@ ghost use Rattle.std.specs.Prelude.{◌≡◌, length};
 ghost use Rattle.directory.specs.Facts.Out.{out};
 ghost use Rattle.reading.specs.Reading.{run, run_whole};
 ghost use Rattle.raw.specs.Front.{raw_reading, front_reading};
-ghost use Rattle.raw.specs.Facts.Front.{RawIn, FrontIn};
+ghost use Rattle.raw.specs.Facts.Front.{RawIn, RawWithin, RawWithin-prop, FrontIn};
 
 use crate::spans;
 use crate::spans::Spans;
@@ -17,6 +17,15 @@ use reading::number::Order;
 pub struct Raw {
     pub tags: Tags,
     pub spans: Spans,
+}
+
+// The same of a file and its byte order: its tags' values stand in the file, and S is that of its levels.
+#[derive(Clone, Copy)]
+pub struct FileRaw<'a> {
+    pub file: &'a [u8],
+    pub order: Order,
+    pub raw: Raw,
+    ghost within: { RawWithin file.now order raw } by { RawWithin-prop file.now order raw },
 }
 
 // IFD 0, the raw directory, the byte order, and what the raw directory says.

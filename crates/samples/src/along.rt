@@ -3,7 +3,6 @@ ghost use Rattle.std.specs.Prelude.{◌≡◌, ℕ, ◌+◌, ◌*◌, ◌/◌, �
 ghost use Rattle.std.specs.Float.{nan};
 ghost use Rattle.levels.specs.Facts.Black.{Small};
 ghost use Rattle.levels.specs.Facts.Reciprocal.{of_parts, inverse_of};
-ghost use Rattle.raw.specs.Facts.Front.{RawWithin};
 ghost use Rattle.raw.specs.Facts.Spans.{span_at};
 ghost use Rattle.raw.specs.Stored.{levels_reading};
 ghost use Rattle.reading.specs.Reading.{run};
@@ -12,7 +11,7 @@ ghost use Rattle.samples.specs.Facts.Line.{Filled, WideIn};
 
 use levels::active::{ActiveColumn, ActiveRow};
 use levels::reciprocal;
-use raw::front::Raw;
+use raw::front::FileRaw;
 use raw::sample;
 use raw::spans::Spans;
 use rawtags::{FileTags, Tags};
@@ -78,12 +77,11 @@ fn inverse_at(spans: Spans, plane: usize) -> f64
 }
 
 // The reciprocals of the planes, over and over.
-fn inverses_row(file: &[u8], order: Order, raw: Raw, out: &mut [f64])
-    requires { RawWithin file.now order raw }
-    ensures { Filled nan (λ (k : ℕ). inverse_of (span_along (run file.now (levels_reading order raw.tags)) raw.tags.frame.samples k)) (length out.old) out.new }
+fn inverses_row(source: FileRaw, out: &mut [f64])
+    ensures { Filled nan (λ (k : ℕ). inverse_of (span_along (run source.entry.file.now (levels_reading source.entry.order source.entry.raw.tags)) source.entry.raw.tags.frame.samples k)) (length out.old) out.new }
 {
-    let samples = raw.tags.frame.samples;
-    let spans = raw.spans;
+    let samples = source.raw.tags.frame.samples;
+    let spans = source.raw.spans;
     repeated(samples, |k| inverse_at(spans, k), out);
 }
 
@@ -101,24 +99,21 @@ fn fill_cells(source: FileTags, column: ActiveColumn, q: usize, out: &mut [f64])
 }
 
 // All of it, for a part from an active column on, with q numbers to a row.
-pub fn fill_along(
-    file: &[u8],
-    order: Order,
-    raw: Raw,
-    column: ActiveColumn,
-    q: usize,
-    out: &mut [f64],
-)
-    requires { RawWithin file.now order raw × (column.0 ≤ 16384) × (1 ≤ q) × (q ≤ 512) × (length out.old ≡ (raw.tags.levels.repeat.rows + 1) * q) }
-    ensures { (len : ℕ) → (q < len → q % (raw.tags.levels.repeat.columns * raw.tags.frame.samples) ≡ 0) → AlongIn (run file.now (levels_reading order raw.tags)) raw.tags.frame.samples column.0 len out.new }
+pub fn fill_along(source: FileRaw, column: ActiveColumn, q: usize, out: &mut [f64])
+    requires { (column.0 ≤ 16384) × (1 ≤ q) × (q ≤ 512) × (length out.old ≡ (source.raw.tags.levels.repeat.rows + 1) * q) }
+    ensures { (len : ℕ) → (q < len → q % (source.entry.raw.tags.levels.repeat.columns * source.entry.raw.tags.frame.samples) ≡ 0) → AlongIn (run source.entry.file.now (levels_reading source.entry.order source.entry.raw.tags)) source.entry.raw.tags.frame.samples column.0 len out.new }
 {
-    let rows = raw.tags.levels.repeat.rows;
+    let rows = source.raw.tags.levels.repeat.rows;
     let a = rows * q;
     let e = a + q;
-    let tags = raw.tags;
-    let source = FileTags { file, order, tags };
-    fill_cells(source, column, q, &mut out[0..a]);
-    inverses_row(file, order, raw, &mut out[a..e]);
+    let tags = source.raw.tags;
+    let file_tags = FileTags {
+        file: source.file,
+        order: source.order,
+        tags,
+    };
+    fill_cells(file_tags, column, q, &mut out[0..a]);
+    inverses_row(source, &mut out[a..e]);
 }
 
 // The columns' deltas of a part from an active column on.

@@ -4,7 +4,6 @@ ghost use Rattle.std.specs.Float.{nan, binary64};
 ghost use Rattle.std.specs.Float.Ieee.{add};
 ghost use Rattle.levels.specs.Facts.Black.{Small};
 ghost use Rattle.levels.specs.Facts.Reciprocal.{of_parts};
-ghost use Rattle.raw.specs.Facts.Front.{RawWithin};
 ghost use Rattle.rawtags.specs.Raw.{active_rows, active_columns};
 ghost use Rattle.raw.specs.Stored.{levels_reading};
 ghost use Rattle.reading.specs.Reading.{run};
@@ -15,7 +14,7 @@ use crate::line;
 use crate::line::Line;
 use levels::active::{ActiveColumn, ActiveRow};
 use levels::reciprocal;
-use raw::front::Raw;
+use raw::front::FileRaw;
 use raw::sample;
 use rawtags::FileTags;
 use reading::number::Order;
@@ -113,23 +112,27 @@ fn scaled_with_deltas(
 }
 
 // The line of an active row's samples from an active column on.
-pub fn line_of(file: &[u8], order: Order, raw: Raw, row: ActiveRow, column: ActiveColumn) -> Line
-    requires { RawWithin file.now order raw × (row.0 < active_rows raw.tags.area) × (column.0 < active_columns raw.tags.area) }
-    ensures { LineOf file.now order raw.tags row.0 column.0 result }
+pub fn line_of(source: FileRaw, row: ActiveRow, column: ActiveColumn) -> Line
+    requires { (row.0 < active_rows source.raw.tags.area) × (column.0 < active_columns source.raw.tags.area) }
+    ensures { LineOf source.entry.file.now source.entry.order source.entry.raw.tags row.0 column.0 result }
 {
-    let tags = raw.tags;
+    let tags = source.raw.tags;
     let area = tags.area;
     let table = tags.levels.table;
     let row_deltas = tags.levels.row_deltas;
     let bytes = tags.layout.bytes;
     let r = area.stored_row(row);
     let c = area.stored_column(column);
-    let down = sample::delta_at(file, order, row_deltas, row.0);
-    let source = FileTags { file, order, tags };
+    let down = sample::delta_at(source.file, source.order, row_deltas, row.0);
+    let file_tags = FileTags {
+        file: source.file,
+        order: source.order,
+        tags,
+    };
     Line {
-        order,
+        order: source.order,
         bytes,
-        place: sample::place_of(source, r, c, 0),
+        place: sample::place_of(file_tags, r, c, 0),
         table: table.place,
         count: table.count,
         down: reciprocal::number_of(down),
@@ -138,27 +141,25 @@ pub fn line_of(file: &[u8], order: Order, raw: Raw, row: ActiveRow, column: Acti
 
 // The scaled values of the part of an active row from an active column on.
 pub fn scaled_row(
-    file: &[u8],
-    order: Order,
-    raw: Raw,
+    source: FileRaw,
     row: ActiveRow,
     column: ActiveColumn,
     along: &[f64],
     deltas: &[i32],
     out: &mut [f64],
 )
-    requires raw_in { RawWithin file.now order raw × (row.0 < active_rows raw.tags.area) × (column.0 < active_columns raw.tags.area) × WideIn raw.tags column.0 (length out.old) }
-    requires along_in { AlongIn (run file.now (levels_reading order raw.tags)) raw.tags.frame.samples column.0 (length out.old) along.now × DeltasIn (run file.now (levels_reading order raw.tags)) raw.tags.frame.samples column.0 (length out.old) deltas.now }
-    ensures { out.new ≡ scaled_part file.now order raw.tags row.0 column.0 out.old }
+    requires active_in { (row.0 < active_rows source.raw.tags.area) × (column.0 < active_columns source.raw.tags.area) × WideIn source.raw.tags column.0 (length out.old) }
+    requires along_in { AlongIn (run source.file.now (levels_reading source.order source.raw.tags)) source.raw.tags.frame.samples column.0 (length out.old) along.now × DeltasIn (run source.file.now (levels_reading source.order source.raw.tags)) source.raw.tags.frame.samples column.0 (length out.old) deltas.now }
+    ensures { out.new ≡ scaled_part source.entry.file.now source.entry.order source.entry.raw.tags row.0 column.0 out.old }
 {
-    let rows = raw.tags.levels.repeat.rows;
+    let rows = source.raw.tags.levels.repeat.rows;
     let q = along.len() / (rows + 1);
     let first = row.0 % rows * q;
     let last = rows * q;
-    let line = line_of(file, order, raw, row, column);
+    let line = line_of(source, row, column);
     scaled_with_deltas(
         line,
-        file,
+        source.file,
         &along[first..first + q],
         deltas,
         &along[last..last + q],

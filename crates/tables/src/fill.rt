@@ -4,7 +4,6 @@ ghost use Rattle.std.specs.Float.{nan};
 ghost use Rattle.levels.specs.Level.{difference_of, level_of, scaled_of};
 ghost use Rattle.levels.specs.Facts.Reciprocal.{BlackIs, InverseIs};
 ghost use Rattle.levels.specs.Table.{table_of, through_of};
-ghost use Rattle.raw.specs.Facts.Front.{RawWithin};
 ghost use Rattle.raw.specs.Stored.{levels_reading};
 ghost use Rattle.reading.specs.Reading.{run};
 ghost use Rattle.tables.specs.Tables.{CellTable};
@@ -12,7 +11,7 @@ ghost use Rattle.tables.specs.Tables.{CellTable};
 use directory::tag::Values;
 use levels::active::{ActiveColumn, ActiveRow};
 use levels::{reciprocal, table};
-use raw::front::Raw;
+use raw::front::FileRaw;
 use raw::sample;
 use rawtags::FileTags;
 use reading::number::Order;
@@ -36,39 +35,41 @@ fn fill_values(
 }
 
 // The table of the cell at an active row and an active column.
-fn fill_table(
-    file: &[u8],
-    order: Order,
-    raw: Raw,
-    row: ActiveRow,
-    column: ActiveColumn,
-    values: &mut [f64],
-)
-    requires { RawWithin file.now order raw × (length values.old ≡ 256) }
-    ensures { CellTable (run file.now (levels_reading order raw.tags)) row.0 column.0 values.new }
+fn fill_table(source: FileRaw, row: ActiveRow, column: ActiveColumn, values: &mut [f64])
+    requires { length values.old ≡ 256 }
+    ensures { CellTable (run source.entry.file.now (levels_reading source.entry.order source.entry.raw.tags)) row.0 column.0 values.new }
 {
-    let tags = raw.tags;
-    let spans = raw.spans;
-    let source = FileTags { file, order, tags };
-    let cell = sample::cell_at(source, row, column, 0);
+    let tags = source.raw.tags;
+    let spans = source.raw.spans;
+    let file_tags = FileTags {
+        file: source.file,
+        order: source.order,
+        tags,
+    };
+    let cell = sample::cell_at(file_tags, row, column, 0);
     let black = reciprocal::number_of(cell);
     let inverse = reciprocal::inverse(sample::span_at(spans, 0));
-    fill_values(file, order, tags.levels.table, black, inverse, values);
+    fill_values(
+        source.file,
+        source.order,
+        tags.levels.table,
+        black,
+        inverse,
+        values,
+    );
 }
 
 // The tables of so many cells from an active row and an active column on, row by row, `columns` to a row.
 pub fn fill_tables(
-    file: &[u8],
-    order: Order,
-    raw: Raw,
+    source: FileRaw,
     row: ActiveRow,
     column: ActiveColumn,
     columns: usize,
     count: usize,
     tables: &mut [[f64; 256]],
 )
-    requires { RawWithin file.now order raw × (row.0 ≤ 16384) × (column.0 ≤ 16384) × (1 ≤ columns) × (count ≤ 64) × (count ≤ length tables.old) }
-    ensures { (i : ℕ) → i < count → CellTable (run file.now (levels_reading order raw.tags)) (row.0 + i / columns) (column.0 + i % columns) (get_or tables.new i []) }
+    requires { (row.0 ≤ 16384) × (column.0 ≤ 16384) × (1 ≤ columns) × (count ≤ 64) × (count ≤ length tables.old) }
+    ensures { (i : ℕ) → i < count → CellTable (run source.entry.file.now (levels_reading source.entry.order source.entry.raw.tags)) (row.0 + i / columns) (column.0 + i % columns) (get_or tables.new i []) }
 {
     let r = row.0;
     let c = column.0;
@@ -76,7 +77,7 @@ pub fn fill_tables(
         let mut table: [f64; 256] = [0.0; 256];
         let down = ActiveRow(r + i / columns);
         let across = ActiveColumn(c + i % columns);
-        fill_table(file, order, raw, down, across, &mut table);
+        fill_table(source, down, across, &mut table);
         tables[i] = table;
     }
 }

@@ -10,7 +10,7 @@ ghost use Rattle.tables.specs.Tables.{tabled};
 ghost use Rattle.tables.specs.Facts.RowTables.{found, found_along, FourFound, WordIs, RowTables};
 
 use levels::active::{ActiveColumn, ActiveRow};
-use raw::front::Raw;
+use raw::front::{FileRaw, Raw};
 use reading::number;
 use reading::number::Order;
 use samples::scaled;
@@ -137,7 +137,8 @@ fn look_up_row(bytes: &[u8], tables: &[[f64; 256]], first: usize, columns: usize
     }
 }
 
-// The scaled values of the part of an active row from an active column on; the tables of its cells stand from a first one on.
+// The scaled values of the part of an active row from an active column on; the tables of its cells stand from a first one on. The file is a
+// parameter of its own: of a slice in a struct it is not told that its numbers are bytes.
 pub fn table_row(
     file: &[u8],
     order: Order,
@@ -153,7 +154,7 @@ pub fn table_row(
     ensures { out.new ≡ scaled_part file.now order raw.tags row.0 column.0 out.old }
 {
     let columns = raw.tags.levels.repeat.columns.min(out.len());
-    let line = scaled::line_of(file, order, raw, row, column);
+    let line = scaled::line_of(FileRaw { file, order, raw }, row, column);
     let place = line.place;
     let end = place + out.len();
     look_up_row(&file[place..end], tables, first, columns, out);

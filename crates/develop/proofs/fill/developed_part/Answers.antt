@@ -6,6 +6,10 @@ use Rattle.develop.proofs.Windows.{viewed_sized, viewed_list, viewed_read, viewe
 use Rattle.develop.proofs.fill.developed_part.Goals as goal
 use Rattle.develop.proofs.fill.developed_part.Goals.{Start}
 
+pub invariant_of-source : goal.invariant_of-source
+invariant_of-source c =
+    record { within = c.requires.viewed.0.picture_in.raw }
+
 pub developed_row-requires : goal.developed_row-requires
 developed_row-requires c =
     let v = c.args.view in
@@ -13,7 +17,7 @@ developed_row-requires c =
     let q = c.requires.viewed.0 in
     let r : v.size.rows ≡ active_rows v.picture.raw.tags.area = ap (λ (z : Size). z.rows) q.size in
     let l : v.size.columns ≡ active_columns v.picture.raw.tags.area = ap (λ (z : Size). z.columns) q.size in record {
-      raw_in = (q.picture_in.raw, omega (arith, c.requires.viewed.1), omega (arith, c.requires.viewed.2));
+      active_in = (omega (arith, c.requires.viewed.1), omega (arith, c.requires.viewed.2));
       wide_in = (c.requires.viewed.3, c.requires.along_in.0, c.requires.along_in.1);
       list_read = (viewed_list f v q, viewed_sized f v q, samples_is f v q);
     }

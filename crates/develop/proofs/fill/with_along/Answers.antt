@@ -27,10 +27,14 @@ pub slice_bounds-space-end : goal.slice_bounds-space-end
 slice_bounds-space-end g c =
     omega (arith, c.piece-q.ensures.2)
 
+pub invariant_of-fill_along : goal.invariant_of-fill_along
+invariant_of-fill_along g c =
+    record { within = c.requires.viewed.0.picture_in.raw }
+
 pub fill_along-requires : goal.fill_along-requires
 fill_along-requires g c =
     let p = c.piece-q in
-    (c.requires.viewed.0.picture_in.raw, c.requires.viewed.2, p.ensures.0, p.ensures.1, copies_length _ _ 1536 p.ensures.2)
+    (c.requires.viewed.2, p.ensures.0, p.ensures.1, copies_length _ _ 1536 p.ensures.2)
 
 pub slice_bounds-along-end : goal.slice_bounds-along-end
 slice_bounds-along-end g c =

@@ -34,12 +34,15 @@ pub overflow_mul-count : goal.overflow_mul-count
 overflow_mul-count c =
     omega (arith, (few (goal.at.overflow_mul-count c).After-columns_met-columns).0)
 
+pub invariant_of-fill_tables : goal.invariant_of-fill_tables
+invariant_of-fill_tables c =
+    record { within = c.requires.0.file.picture_in.raw }
+
 pub fill_tables-requires : goal.fill_tables-requires
 fill_tables-requires c =
     let met = (goal.at.fill_tables-requires c).After-columns_met-columns in
     let a = met.args in
     let z = viewed_sized a.file.now a.view met.requires.0.file in (
-      met.requires.0.file.picture_in.raw,
       omega (arith, met.requires.0.rows, met.requires.1, z.rows),
       omega (arith, met.requires.0.columns, z.columns),
       (few (goal.at.fill_tables-requires c).After-columns_met-columns).1,

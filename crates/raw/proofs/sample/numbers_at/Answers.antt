@@ -11,33 +11,33 @@ use Rattle.raw.proofs.sample.numbers_at.Goals as goal
 
 pub through-table_value-requires : goal.through-table_value-requires
 through-table_value-requires c =
-    table_inside c.args.file.now c.args.order c.args.raw.tags c.requires.raw_in.tags
+    table_inside c.args.source.file.now c.args.source.order c.args.source.raw.tags c.args.source.within.tags
 
 pub cell_at-cell-requires : goal.cell_at-cell-requires
 cell_at-cell-requires c =
-    c.requires.active_in.plane
+    c.requires.plane
 
 pub delta_at-column_delta-requires : goal.delta_at-column_delta-requires
 delta_at-column_delta-requires c =
-    let q = c.requires.raw_in.tags.levels.column_deltas in
-    (q.inside, λ n. (q.sized n, omega (arith, q.enough n, c.requires.active_in.column)))
+    let q = c.args.source.within.tags.levels.column_deltas in
+    (q.inside, λ n. (q.sized n, omega (arith, q.enough n, c.requires.column)))
 
 pub delta_at-row_delta-requires : goal.delta_at-row_delta-requires
 delta_at-row_delta-requires c =
-    let q = c.requires.raw_in.tags.levels.row_deltas in
-    (q.inside, λ n. (q.sized n, omega (arith, q.enough n, c.requires.active_in.row)))
+    let q = c.args.source.within.tags.levels.row_deltas in
+    (q.inside, λ n. (q.sized n, omega (arith, q.enough n, c.requires.row)))
 
 pub level-level-requires : goal.level-level-requires
 level-level-requires c =
     let difference = c.difference in
     let fs : SFits w64 c.span_at.result = search rules in
     let fd : SFits w64 difference.result = search rules in
-    rw (to_z-of_z fs, to_z-of_z fd) (difference.ensures.result_bound, rw c.span_at.ensures (c.requires.raw_in.spans c.args.plane c.requires.active_in.plane))
+    rw (to_z-of_z fs, to_z-of_z fd) (difference.ensures.result_bound, rw c.span_at.ensures (c.args.source.within.spans c.args.plane c.requires.plane))
 
 pub returns : goal.returns
 returns c =
     let a = c.args in
-    let f = a.file.now in
+    let f = a.source.file.now in
     let stored_at = c.stored_at-stored in
     let through = c.through-table_value in
     let cell_at = c.cell_at-cell in
@@ -54,9 +54,9 @@ returns c =
     let fg : SFits w64 greatest.result = search rules in
     let fd : SFits w64 difference.result = search rules in
     let eb = rw (to_z-of_z fc, to_z-of_z fa, to_z-of_z fr) at c.black_sum-black.ensures.value in
-    let es = span-at.ensures ∙ span_in f a.order a.raw c.requires.raw_in a.plane c.requires.active_in.plane in
+    let es = span-at.ensures ∙ span_in f a.source.order a.source.raw c.args.source.within a.plane c.requires.plane in
     let ed = rw (to_z-of_z fb) at difference.ensures.value in
     let el = rw (to_z-of_z fd, to_z-of_z fs) at c.level-level.ensures ∙ ap (λ (d : ℤ). level_of d span-at.result) ed in
     rw (to_z-of_z fc, to_z-of_z fa, to_z-of_z fr, to_z-of_z fb, to_z-of_z fg)
-    (numbers_are f a.order a.raw.tags a.row.0 a.column.0 a.plane c.requires.raw_in.tags _ _ _ _ _ _ _ _ span-at.result
+    (numbers_are f a.source.order a.source.raw.tags a.row.0 a.column.0 a.plane c.args.source.within.tags _ _ _ _ _ _ _ _ span-at.result
     stored_at.ensures through.ensures cell_at.ensures.value across.ensures.value down.ensures.value eb greatest.ensures es el)

@@ -14,18 +14,18 @@ use Rattle.samples.proofs.along.fill_along.Goals as goal
 
 pub returns : goal.returns
 returns c len again =
-    let t = c.args.raw.tags in
+    let t = c.args.source.raw.tags in
     let n = t.frame.samples in
-    let v = run c.args.file.now (levels_reading c.args.order t) in
+    let v = run c.args.source.file.now (levels_reading c.args.source.order t) in
     let q = c.args.q in
     let a = t.levels.repeat.rows * q in
-    let rows : v.repeat_rows ≡ t.levels.repeat.rows = repeat_rows_are c.args.file.now c.args.order t in
-    let columns : v.repeat_columns ≡ t.levels.repeat.columns = repeat_columns_are c.args.file.now c.args.order t in
+    let rows : v.repeat_rows ≡ t.levels.repeat.rows = repeat_rows_are c.args.source.file.now c.args.source.order t in
+    let columns : v.repeat_columns ≡ t.levels.repeat.columns = repeat_columns_are c.args.source.file.now c.args.source.order t in
     let xs = c.fill_cells.new.out in
     let ys = c.inverses_row.new.out in
     let m : length xs ≡ a = search rules in
     along_filled v n c.args.column.0 len q t.levels.repeat.rows t.levels.repeat.columns _ rows columns (search rules)
-    c.requires.2 c.requires.3
+    c.requires.1 c.requires.2
     (λ r k h b.
     let i : r * q + k < a = before r k h b in
     put_before nan a (a + q - a) _ ys (r * q + k) (search rules) i ∙ get_or-append xs _ nan (r * q + k) (omega arith)

@@ -13,10 +13,10 @@ use Rattle.samples.proofs.along.inverses_row.Goals as goal
 
 pub returns : goal.returns
 returns c =
-    let raw = c.args.raw in
+    let raw = c.args.source.raw in
     let n = raw.tags.frame.samples in
-    let v = run c.args.file.now (levels_reading c.args.order raw.tags) in
+    let v = run c.args.source.file.now (levels_reading c.args.source.order raw.tags) in
     c.repeated.ensures (λ j. inverse_of (span_along v n j))
     (λ j x b h. let e : x ≡ inverse_of (span_at raw.spans j) = search rules in
-    e ∙ ap inverse_of (span_in c.args.file.now c.args.order raw c.requires j b ∙ ap (span_of v) (sym (mod-eq_of_lt b))))
-    (λ j. ap inverse_of (span_next v n c.requires.tags.frame.some_samples j))
+    e ∙ ap inverse_of (span_in c.args.source.file.now c.args.source.order raw c.args.source.within j b ∙ ap (span_of v) (sym (mod-eq_of_lt b))))
+    (λ j. ap inverse_of (span_next v n c.args.source.within.tags.frame.some_samples j))

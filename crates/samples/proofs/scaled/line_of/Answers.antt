@@ -14,27 +14,27 @@ use Rattle.samples.proofs.scaled.line_of.Goals.{Start}
 
 pub stored_row-r-requires : goal.stored_row-r-requires
 stored_row-r-requires c =
-    let a = c.requires.0.tags.area in
-    let b = c.requires.0.tags.frame in
-    (omega (arith, a.rows, a.bottom, b.rows), omega (arith, c.requires.1, a.bottom, b.rows))
+    let a = c.args.source.within.tags.area in
+    let b = c.args.source.within.tags.frame in
+    (omega (arith, a.rows, a.bottom, b.rows), omega (arith, c.requires.0, a.bottom, b.rows))
 
 pub stored_column-c-requires : goal.stored_column-c-requires
 stored_column-c-requires c =
-    let a = c.requires.0.tags.area in
-    let b = c.requires.0.tags.frame in
-    (omega (arith, a.columns, a.right, b.columns), omega (arith, c.requires.2, a.right, b.columns))
+    let a = c.args.source.within.tags.area in
+    let b = c.args.source.within.tags.frame in
+    (omega (arith, a.columns, a.right, b.columns), omega (arith, c.requires.1, a.right, b.columns))
 
 pub delta_at-down-requires : goal.delta_at-down-requires
 delta_at-down-requires c =
-    let q = c.requires.0.tags.levels.row_deltas in
-    (q.inside, λ h. (q.sized h, omega (arith, q.enough h, c.requires.1)))
+    let q = c.args.source.within.tags.levels.row_deltas in
+    (q.inside, λ h. (q.sized h, omega (arith, q.enough h, c.requires.0)))
 
 pub place_of-requires : goal.place_of-requires
 place_of-requires c =
-    let a = c.requires.0.tags.area in
+    let a = c.args.source.within.tags.area in
     let r = c.stored_row-r.ensures in
     let l = c.stored_column-c.ensures in
-    (omega (arith, r, c.requires.1, a.bottom), omega (arith, l, c.requires.2, a.right), c.requires.0.tags.frame.some_samples)
+    (omega (arith, r, c.requires.0, a.bottom), omega (arith, l, c.requires.1, a.right), c.args.source.within.tags.frame.some_samples)
 
 pub number_of-requires : goal.number_of-requires
 number_of-requires c = let h =
@@ -44,11 +44,11 @@ pub returns : goal.returns
 returns c =
     let Stored-row = c.stored_row-r in
     let stored-column = c.stored_column-c in
-    let f = c.args.file.now in
-    let t = c.args.raw.tags in
+    let f = c.args.source.file.now in
+    let t = c.args.source.raw.tags in
     let d = c.delta_at-down in
-    let o = run f (numbers_reading c.args.order t.strips) in
-    let e = d.ensures.value ∙ ap (λ (ds : List ℤ). get_or ds c.args.row.0 (pos 0)) (sym (row_deltas_are f c.args.order t)) in
+    let o = run f (numbers_reading c.args.source.order t.strips) in
+    let e = d.ensures.value ∙ ap (λ (ds : List ℤ). get_or ds c.args.row.0 (pos 0)) (sym (row_deltas_are f c.args.source.order t)) in
     record {
       order = refl;
       bytes = refl;

@@ -14,10 +14,10 @@ use Rattle.samples.proofs.scaled.scaled_row.Goals as goal
 use Rattle.samples.proofs.scaled.scaled_row.Goals.{Start}
 
 abbrev levels : Start → Levels
-levels s = run s.args.file.now (levels_reading s.args.order s.args.raw.tags)
+levels s = run s.args.source.file.now (levels_reading s.args.source.order s.args.source.raw.tags)
 
 abbrev rows : Start → ℕ
-rows s = s.args.raw.tags.levels.repeat.rows
+rows s = s.args.source.raw.tags.levels.repeat.rows
 
 abbrev piece : Start → ℕ
 piece s = length s.args.along.now / (rows s + 1)
@@ -27,13 +27,13 @@ ends : (s : Start) → let q = piece s in
     (s.args.row.0 % rows s * q + q + q ≤ length s.args.along.now) × (rows s * q + q ≡ length s.args.along.now) × (1 ≤ q)
     × (q ≤ 512)
 ends s =
-    let t = s.args.raw.tags in
+    let t = s.args.source.raw.tags in
     let along = s.args.along.now in
     let w = s.requires.along_in.0 in
-    let n = s.requires.raw_in.0.tags.frame.some_samples in
-    let e : (levels s).repeat_rows ≡ rows s = repeat_rows_are s.args.file.now s.args.order t in
+    let n = s.args.source.within.tags.frame.some_samples in
+    let e : (levels s).repeat_rows ≡ rows s = repeat_rows_are s.args.source.file.now s.args.source.order t in
     let h : s.args.row.0 % (levels s).repeat_rows < (levels s).repeat_rows = mod-lt _
-    (rw e s.requires.raw_in.0.tags.levels.repeat.some_rows) in
+    (rw e s.args.source.within.tags.levels.repeat.some_rows) in
     subst (λ (m : ℕ). let q = length along / (m + 1) in
     (s.args.row.0 % m * q + q + q ≤ length along) × (m * q + q ≡ length along) × (1 ≤ q) × (q ≤ 512)) e (
       cells_end (levels s) _ _ _ n along w (s.args.row.0 % (levels s).repeat_rows) h,
@@ -45,42 +45,42 @@ ends s =
 pub overflow_mul-first : goal.overflow_mul-first
 overflow_mul-first c =
     let s = (goal.at.overflow_mul-first c).Start in
-    omega (arith, (ends s).0, (ends s).1, s.well_formed.1.1.1.1.1.0.1)
+    omega (arith, (ends s).0, (ends s).1, s.well_formed.1.1.1.0.1)
 
 pub overflow_mul-last : goal.overflow_mul-last
 overflow_mul-last c =
     let s = (goal.at.overflow_mul-last c).Start in
-    omega (arith, (ends s).0, (ends s).1, s.well_formed.1.1.1.1.1.0.1)
+    omega (arith, (ends s).0, (ends s).1, s.well_formed.1.1.1.0.1)
 
 pub overflow_add-first : goal.overflow_add-first
 overflow_add-first c =
     let s = (goal.at.overflow_add-first c).Start in
-    omega (arith, (ends s).0, (ends s).1, s.well_formed.1.1.1.1.1.0.1)
+    omega (arith, (ends s).0, (ends s).1, s.well_formed.1.1.1.0.1)
 
 pub offset_bounds-along-first : goal.offset_bounds-along-first
 offset_bounds-along-first c =
     let s = (goal.at.offset_bounds-along-first c).Start in
-    omega (arith, (ends s).0, (ends s).1, s.well_formed.1.1.1.1.1.0.1)
+    omega (arith, (ends s).0, (ends s).1, s.well_formed.1.1.1.0.1)
 
 pub slice_bounds-scaled_with_deltas-end : goal.slice_bounds-scaled_with_deltas-end
 slice_bounds-scaled_with_deltas-end c =
     let s = (goal.at.slice_bounds-scaled_with_deltas-end c).Start in
-    omega (arith, (ends s).0, (ends s).1, s.well_formed.1.1.1.1.1.0.1)
+    omega (arith, (ends s).0, (ends s).1, s.well_formed.1.1.1.0.1)
 
 pub overflow_add-last : goal.overflow_add-last
 overflow_add-last c =
     let s = (goal.at.overflow_add-last c).Start in
-    omega (arith, (ends s).0, (ends s).1, s.well_formed.1.1.1.1.1.0.1)
+    omega (arith, (ends s).0, (ends s).1, s.well_formed.1.1.1.0.1)
 
 pub offset_bounds-along-last : goal.offset_bounds-along-last
 offset_bounds-along-last c =
     let s = (goal.at.offset_bounds-along-last c).Start in
-    omega (arith, (ends s).0, (ends s).1, s.well_formed.1.1.1.1.1.0.1)
+    omega (arith, (ends s).0, (ends s).1, s.well_formed.1.1.1.0.1)
 
 pub slice_bounds-scaled_with_deltas-end-2 : goal.slice_bounds-scaled_with_deltas-end-2
 slice_bounds-scaled_with_deltas-end-2 c =
     let s = (goal.at.slice_bounds-scaled_with_deltas-end-2 c).Start in
-    omega (arith, (ends s).0, (ends s).1, s.well_formed.1.1.1.1.1.0.1)
+    omega (arith, (ends s).0, (ends s).1, s.well_formed.1.1.1.0.1)
 
 pub scaled_with_deltas-requires : goal.scaled_with_deltas-requires
 scaled_with_deltas-requires c =
@@ -95,8 +95,8 @@ scaled_with_deltas-requires c =
     let k : length (take (z + q - z) (drop z along)) ≡ q = omega
     (arith, length-take (z + q - z) (drop z along), length-drop z along, (ends s).1) in record {
       line_in = (
-        row_inside s.args.raw.tags s.requires.raw_in.0.tags.frame.some_samples s.args.file.now s.args.order
-            s.requires.raw_in.0.tags s.args.row.0 s.args.column.0 s.requires.raw_in.1 _ Line-of.ensures _ s.requires.raw_in.3,
+        row_inside s.args.source.raw.tags s.args.source.within.tags.frame.some_samples s.args.source.file.now s.args.source.order
+            s.args.source.within.tags s.args.row.0 s.args.column.0 s.requires.active_in.0 _ Line-of.ensures _ s.requires.active_in.2,
         omega (arith, (ends s).2),
         omega (arith, (ends s).3),
         omega arith,
@@ -107,7 +107,7 @@ scaled_with_deltas-requires c =
 pub returns : goal.returns
 returns c =
     let Line-of = c.line_of-line in
-    row_scaled c.args.raw c.args.file.now c.args.order c.requires.raw_in.0 c.args.row.0 c.args.column.0 c.requires.raw_in.1 _
+    row_scaled c.args.source.raw c.args.source.file.now c.args.source.order c.args.source.within c.args.row.0 c.args.column.0 c.requires.active_in.0 _
     Line-of.ensures
-    c.args.along.now c.args.deltas.now c.args.out.now _ c.requires.raw_in.3 c.requires.along_in.0 c.requires.along_in.1 (search rules)
+    c.args.along.now c.args.deltas.now c.args.out.now _ c.requires.active_in.2 c.requires.along_in.0 c.requires.along_in.1 (search rules)
     c.scaled_with_deltas.ensures

@@ -12,11 +12,11 @@ pub returns : goal.returns
 returns c =
     let cell = c.cell_at-cell in
     let s = c.span_at in
-    let f = c.args.file.now in
-    let r = c.args.raw in
-    let some = c.requires.0.tags.frame.some_samples in
-    let m : nat_abs s.result ≤ 67107840 = rw s.ensures (c.requires.0.spans 0 some).small in
-    table_holds f c.args.order r c.requires.0 c.args.row.0 c.args.column.0 c.fill_values.new.values _ _
+    let f = c.args.source.file.now in
+    let r = c.args.source.raw in
+    let some = c.args.source.within.tags.frame.some_samples in
+    let m : nat_abs s.result ≤ 67107840 = rw s.ensures (c.args.source.within.spans 0 some).small in
+    table_holds f c.args.source.order r c.args.source.within c.args.row.0 c.args.column.0 c.fill_values.new.values _ _
     (c.number_of-black.ensures ∙ ap of_parts (back cell.result (omega (arith, cell.ensures.result_bound)) ∙ cell.ensures.value))
-    (c.inverse-inverse.ensures ∙ ap inverse_of (back s.result (omega arith) ∙ s.ensures ∙ span_in f c.args.order r c.requires.0 0 some))
+    (c.inverse-inverse.ensures ∙ ap inverse_of (back s.result (omega arith) ∙ s.ensures ∙ span_in f c.args.source.order r c.args.source.within 0 some))
     c.fill_values.ensures

@@ -8,4 +8,5 @@ use Rattle.tables.proofs.fill.fill_tables.Given as goal
 
 abbrev pub invariant-loop-i : goal.invariant-loop-i
 invariant-loop-i l =
-    (k : ℕ) → k < l.i → CellTable (run l.file (levels_reading l.order l.raw.tags)) (l.r + k / l.columns) (l.c + k % l.columns) (get_or l.tables k [])
+    let s = l.source in
+    (k : ℕ) → k < l.i → CellTable (run s.file.now (levels_reading s.order s.raw.tags)) (l.r + k / l.columns) (l.c + k % l.columns) (get_or l.tables k [])
