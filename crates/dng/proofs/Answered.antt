@@ -7,6 +7,7 @@ use native.Mathlib.Omega.{arith}
 use lib.Ieee.{Float}
 use Rattle.std.specs.Prelude.{Result, Ok, Err}
 use Rattle.std.specs.Result.{result_unwrap_or}
+use Rattle.levels.specs.Clip.{plus_zero}
 use Rattle.directory.specs.Refusal.{number_of, detail_of}
 use Rattle.directory.specs.declared.refusal.Refusal.{Refusal}
 use Rattle.directory.proofs.Refusals.{Fits}
@@ -15,7 +16,7 @@ use Rattle.chain.specs.Chain.{Slices, Chained, refused_answer, answer_shown, ans
 use Rattle.chain.specs.declared.SpotChain.{SpotChain}
 use Rattle.demand.specs.Card.{refused_card, card_shown, card_with}
 use Rattle.demand.specs.declared.card.FileCard.{FileCard}
-use Rattle.dng.specs.Interface.{number_in, detail_in}
+use Rattle.dng.specs.Interface.{packed_of, number_in, detail_in}
 
 pub window_small : (r : Result (Unit {0}) Refusal) (xs : List Float) (w : Window) → window_with r xs ≡ w → Fits w.number w.detail →
     detail_in r < 0x1_0000_0000
@@ -40,3 +41,14 @@ pub chain_told : (r : Result SpotChain Refusal) (z : SpotChain) → ((n d : ℕ)
     answer_shown (number_in r) (detail_in r) (result_unwrap_or r z) ≡ answer_of r
 chain_told (Ok c) z h = refl
 chain_told (Err q) z h = h (number_of q) (detail_of q)
+
+-- number, detail and slice of a window, told as its answer has them
+pub window_told : (r : Result (Unit {0}) Refusal) (xs : List Float) (w : Window) → window_with r xs ≡ w →
+    (packed_of (number_in r) (detail_in r) ≡ packed_of w.number w.detail) × (xs ≡ w.slice)
+window_told (Ok u) xs w e = (ap (λ (s : Window). packed_of s.number s.detail) e, ap (λ (s : Window). s.slice) e)
+window_told (Err q) xs w e = (ap (λ (s : Window). packed_of s.number s.detail) e, ap (λ (s : Window). s.slice) e)
+
+pub spot_told : (r : Result Float Refusal) (w : SpotAnswer) → spot_with r ≡ w →
+    (packed_of (number_in r) (detail_in r) ≡ packed_of w.number w.detail) × (result_unwrap_or r plus_zero ≡ w.value)
+spot_told (Ok x) w e = (ap (λ (s : SpotAnswer). packed_of s.number s.detail) e, ap (λ (s : SpotAnswer). s.value) e)
+spot_told (Err q) w e = (ap (λ (s : SpotAnswer). packed_of s.number s.detail) e, ap (λ (s : SpotAnswer). s.value) e)

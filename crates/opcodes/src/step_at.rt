@@ -25,14 +25,17 @@ pub fn accepted_value(file: &[u8], at: usize, k: usize) -> f64
     x as f64
 }
 
-// The step at a grid's i-th row and j-th column.
+// The step at a grid's i-th row and j-th column. A polynomial is returned by itself: with one place for all, every step would be
+// written number by number.
 pub fn step_for(file: &[u8], at: usize, id: usize, i: usize, j: usize) -> Step
     requires { StepAtIn file.now at id i j × (plain_id id ≡ true) }
     ensures { result ≡ step_of file.now at id i j }
 {
     match list::kind_of(id) {
         Kind::MapTable => Step::Table(at + 32),
-        Kind::MapPolynomial => step::polynomial_at(file, at + 36, grid::field(file, at + 32) + 1),
+        Kind::MapPolynomial => {
+            return step::polynomial_at(file, at + 36, grid::field(file, at + 32) + 1);
+        }
         Kind::DeltaPerRow => Step::Add(float_value(file, at, i)),
         Kind::DeltaPerColumn => Step::Add(float_value(file, at, j)),
         Kind::ScalePerRow => Step::Scale(float_value(file, at, i)),

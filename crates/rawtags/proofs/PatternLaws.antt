@@ -7,11 +7,12 @@ use mathlib.Core.List.{List}
 use Prim.Native.Nat.{ℕ, ◌+◌, ◌<◌}
 use native.Mathlib.Omega.{arith}
 use lib.Dec.{eqb}
+use borrow.Author.Tests.{eq-eqb}
 use Rattle.reading.specs.Bytes.{part}
 use Rattle.reading.specs.Number.{number_of}
 use Rattle.reading.specs.Reading.{run, pick}
 use Rattle.reading.specs.declared.number.Order.{Order}
-use Rattle.reading.proofs.Reading.{running, run_answer}
+use Rattle.reading.proofs.Reading.{running, run_answer, pick_yes}
 use Rattle.directory.specs.Out.{Out.refused, Out.is}
 use Rattle.directory.specs.declared.Ifd.{Ifd}
 use Rattle.directory.specs.declared.tag.Values.{Values}
@@ -32,6 +33,13 @@ pick_below false false true a b c d x y z w = z
 pick_below false false false a b c d x y z w = w
 
 module _ (a b c d : ℕ) where
+  pub places_are :
+      times_of 0 a b c d ≡ 1 → times_of 1 a b c d ≡ 2 → times_of 2 a b c d ≡ 1 → (r s t u : ℕ) →
+      r ≡ first_of 0 a b c → s ≡ first_of 1 a b c →
+      t ≡ last_of 1 b c d → u ≡ first_of 2 a b c → is (record { red = r; green1 = s; green2 = t; blue = u }) ≡ places_of a b c d
+  unfolding places_of
+  places_are x y z r s t u er es et eu = simp (eq-eqb _ _ x, eq-eqb _ _ y, eq-eqb _ _ z, er, es, et, eu, pick_yes)
+
   first_below : (x : ℕ) → first_of x a b c < 4
   unfolding first_of
   first_below x = pick_below (eqb a x) (eqb b x) (eqb c x) 0 1 2 3 (omega arith) (omega arith) (omega arith) (omega arith)

@@ -69,8 +69,7 @@ fn scaled_pieces(
     ensures { (cell span : ℕ → ℤ) (down : ℤ) → Celled cell span down cells.now inverses.now line.down (length cells.now) → Repeating cell span (length cells.now) (length out.old) → Filled nan (line_value file.now line (λ (k : ℕ). cell k +ℤ get_or deltas.now k (pos 0) +ℤ down) span) (length out.old) out.new }
 {
     let q = cells.len();
-    for n in 0..out.len().div_ceil(q) {
-        let i = n * q;
+    for i in (0..out.len()).step_by(q) {
         let e = (i + q).min(out.len());
         let piece = Line {
             place: line.place + line.bytes * i,

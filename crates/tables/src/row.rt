@@ -1,5 +1,5 @@
 // A part of a row, looked up in the tables of its cells.
-ghost use Rattle.std.specs.Prelude.{◌≡◌, true, List, [], ℕ, ◌+◌, ◌*◌, ◌/◌, ◌%◌, ◌≤◌, ◌<◌, Float, length, get_or};
+ghost use Rattle.std.specs.Prelude.{◌≡◌, true, List, [], ℕ, ◌+◌, ◌*◌, ◌/◌, ◌%◌, ◌≤◌, ◌<◌, min, Float, length, get_or};
 ghost use Rattle.std.specs.Float.{nan};
 ghost use Rattle.raw.specs.Facts.Front.{RawWithin};
 ghost use Rattle.rawtags.specs.Raw.{active_rows, active_columns};
@@ -98,6 +98,27 @@ fn look_up_group(
     }
 }
 
+// The samples of the group that begins at one, or as many of them as the part still has. A whole group is looked up by a call of its own:
+// its count is every whole group's, which the compiler then works out once for all.
+fn look_up_next(
+    bytes: &[u8],
+    tables: &[[f64; 256]],
+    first: usize,
+    columns: usize,
+    at: usize,
+    out: &mut [f64],
+)
+    requires { (length out.old ≤ length bytes.now) × (first + columns ≤ length tables.now) × (at ≤ length out.old) }
+    ensures { (x : ℕ → Float) → ((c : ℕ) → c < columns → found (get_or tables.now (first + c) []) bytes.now (at + c) ≡ x (at + c)) → Filled nan x at out.old → Filled nan x (min (at + columns) (length out.old)) out.new }
+{
+    let left = out.len() - at;
+    if columns <= left {
+        look_up_group(bytes, tables, first, columns, at, out);
+    } else {
+        look_up_group(bytes, tables, first, left, at, out);
+    }
+}
+
 // The samples from one on, in the tables of columns that come again.
 fn look_up_groups(
     bytes: &[u8],
@@ -110,19 +131,17 @@ fn look_up_groups(
     requires { (length out.old ≤ length bytes.now) × (1 ≤ columns) × (first + columns ≤ length tables.now) × (from ≤ length out.old) × (from % columns ≡ 0) }
     ensures { Filled nan (found_along tables.now first columns bytes.now) from out.old → Filled nan (found_along tables.now first columns bytes.now) (length out.old) out.new }
 {
-    for g in 0..(out.len() - from).div_ceil(columns) {
-        let at = from + g * columns;
-        let count = columns.min(out.len() - at);
-        look_up_group(bytes, tables, first, count, at, out);
+    for at in (from..out.len()).step_by(columns) {
+        look_up_next(bytes, tables, first, columns, at, out);
     }
 }
 
-// A row's samples in the tables of columns that come again.
+// A row's samples in the tables of columns that come again. Of fewer than two fours none is looked up as a four, so they go by groups.
 fn look_up_row(bytes: &[u8], tables: &[[f64; 256]], first: usize, columns: usize, out: &mut [f64])
     requires { (length out.old ≤ length bytes.now) × (1 ≤ columns) × (columns ≤ 8) × (first + columns ≤ length tables.now) }
     ensures { Filled nan (found_along tables.now first columns bytes.now) (length out.old) out.new }
 {
-    if 4 % columns == 0 {
+    if 8 <= out.len() && 4 % columns == 0 {
         let done = look_up_fours(
             bytes,
             &tables[first],

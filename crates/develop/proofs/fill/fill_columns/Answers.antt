@@ -41,6 +41,11 @@ piece s a xs h =
     let d : a + n - a ≡ n = omega arith in
     ap (λ (z : ℕ). length (take z (drop a xs))) d ∙ part_length a n xs h
 
+pub invariant_of-source : goal.invariant_of-source
+invariant_of-source c =
+    let s = (goal.at.invariant_of-source c).Start in
+    record { within = s.requires.fill_in.0.file.picture_in.raw }
+
 pub loop-i-init : goal.loop-i-init
 loop-i-init c =
     let s = (goal.at.loop-i-init c).Start in

@@ -17,11 +17,14 @@ use Rattle.levels.proofs.black.of_fraction.Goals.{After-unsigned_abs, After-unsi
 fits : (z : ℤ) → nat_abs z < 0x1_0000_0000 → to_z w64 (of_z w64 z) ≡ z
 fits z h = to_z-of_z (sfits64 z (omega arith))
 
+magnitude_is : (z : ℤ) (n : ℕ) → nat_abs z < 0x1_0000_0000 → n ≡ nat_abs (to_z w64 (of_z w64 z)) → n ≡ nat_abs z
+magnitude_is z n h e = e ∙ ap nat_abs (fits z h)
+
 den : (c : After-unsigned_abs-d) → c.unsigned_abs-d.result ≡ nat_abs c.args.x.denominator
-den c = c.unsigned_abs-d.ensures.value ∙ ap nat_abs (fits c.args.x.denominator c.requires.1)
+den c = magnitude_is c.args.x.denominator _ c.requires.1 c.unsigned_abs-d.ensures.value
 
 num : (c : After-unsigned_abs) → c.unsigned_abs.result ≡ nat_abs c.args.x.numerator
-num c = c.unsigned_abs.ensures.value ∙ ap nat_abs (fits c.args.x.numerator c.requires.0)
+num c = magnitude_is c.args.x.numerator _ c.requires.0 c.unsigned_abs.ensures.value
 
 pub returns-then-d-eq0 : goal.returns-then-d-eq0
 returns-then-d-eq0 c =
@@ -33,7 +36,7 @@ returns-then-den-lt0 c =
     (rw (fits c.args.x.denominator c.requires.1) at c.if-den-lt0.true)
 
 some : (c : Else-den-lt0) → nat_abs c.args.x.denominator ≡ 0 → ⊥
-some c h = c.if-d-eq0.false (c.unsigned_abs-d.ensures.value ∙ ap nat_abs (fits c.args.x.denominator c.requires.1) ∙ h)
+some c h = c.if-d-eq0.false (magnitude_is c.args.x.denominator _ c.requires.1 c.unsigned_abs-d.ensures.value ∙ h)
 
 positive : (c : Else-den-lt0) → lt_z c.args.x.denominator (pos 0) ≡ false
 positive c = rw (fits c.args.x.denominator c.requires.1) at c.if-den-lt0.false
@@ -51,7 +54,7 @@ product n d h =
 
 divides : (c : Else-d-ne0) → 256 % nat_abs c.args.x.denominator ≡ 0
 divides c =
-    let e = c.unsigned_abs-d.ensures.value ∙ ap nat_abs (fits c.args.x.denominator c.requires.1) in
+    let e = magnitude_is c.args.x.denominator _ c.requires.1 c.unsigned_abs-d.ensures.value in
     sym (ap (λ (d : ℕ). 256 % d) e) ∙ c.if-d-ne0.false
 
 pub returns-then-unsigned_abs-d : goal.returns-then-unsigned_abs-d

@@ -9,8 +9,14 @@ use Rattle.levels.specs.Clip.{clip_of}
 use Rattle.opcodes.specs.Grid.{every_of}
 use Rattle.opcodes.specs.Facts.StepAt.{float_at, FloatIn}
 use Rattle.rows.proofs.Parts.{swept_row, swept_11, swept_13}
-use Rattle.rows.proofs.Sweeps.{nth_tell, nth_number}
+use Rattle.rows.proofs.Sweeps.{swept_start, swept_end, nth_tell, nth_number}
 use Rattle.rows.proofs.opcode.sweep_opcode.Goals as goal
+
+-- no place
+pub returns-then-places : goal.returns-then-places
+returns-then-places c =
+    let p = c.args.places in
+    swept_end p.first p.end p.pitch _ p.first c.args.out.now c.args.out.now c.if-places.true (swept_start p.first p.end p.pitch _ c.args.out.now)
 
 -- the n-th place's value
 value_at : (f : List ℕ) (at j first end pitch : ℕ) → 0 < pitch

@@ -34,4 +34,4 @@ unfolding applied_of result_of
 returns-in-Table c =
     let p = c.args.places in
     swept_is c.args.step _ c.args.file.now p.first p.end p.pitch c.args.out.now _ c.in-Table.is
-    (c.sweep.ensures (λ n x. clip_of (mapped_of (table_at c.args.file.now c.in-Table.at) x)) (λ n x y h. search rules))
+    (c.sweep_often-in-Table.ensures (λ n x. clip_of (mapped_of (table_at c.args.file.now c.in-Table.at) x)) (λ n x y h. search rules))

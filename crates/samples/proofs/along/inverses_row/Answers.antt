@@ -1,5 +1,7 @@
 use mathlib.Core.Path.{◌≡◌, sym, ap, ◌∙◌}
+use Prim.Native.Nat.{◌<◌}
 use native.Mathlib.Nat.{mod-eq_of_lt}
+use native.Mathlib.Omega.{arith}
 use borrow.Author.Rules.{rules}
 use Rattle.reading.specs.Reading.{run}
 use Rattle.levels.specs.Levels.{span_of}
@@ -15,8 +17,11 @@ pub returns : goal.returns
 returns c =
     let raw = c.args.source.raw in
     let n = raw.tags.frame.samples in
+    let some = c.args.source.within.tags.frame.some_samples in
     let v = run c.args.source.file.now (levels_reading c.args.source.order raw.tags) in
     c.repeated.ensures (λ j. inverse_of (span_along v n j))
-    (λ j x b h. let e : x ≡ inverse_of (span_at raw.spans j) = search rules in
-    e ∙ ap inverse_of (span_in c.args.source.file.now c.args.source.order raw c.args.source.within j b ∙ ap (span_of v) (sym (mod-eq_of_lt b))))
-    (λ j. ap inverse_of (span_next v n c.args.source.within.tags.frame.some_samples j))
+    (λ j x b h.
+    let i : j < n = omega (arith, b, some) in
+    let e : x ≡ inverse_of (span_at raw.spans j) = search rules in
+    e ∙ ap inverse_of (span_in c.args.source.file.now c.args.source.order raw c.args.source.within j i ∙ ap (span_of v) (sym (mod-eq_of_lt i))))
+    (λ j. ap inverse_of (span_next v n some j))

@@ -52,8 +52,8 @@ look_up_groups-requires c =
       ap (λ (z : ℕ). z % c.args.columns) e ∙ fours_whole c.args.columns c.if-columns-eq0.true (m / 4),
     )
 
-pub look_up_groups-requires-else-columns-eq0 : goal.look_up_groups-requires-else-columns-eq0
-look_up_groups-requires-else-columns-eq0 c =
+pub look_up_groups-requires-else-out-ge8 : goal.look_up_groups-requires-else-out-ge8
+look_up_groups-requires-else-out-ge8 c =
     (c.requires.0, c.requires.1, c.requires.3, omega arith, zero-mod c.args.columns)
 
 pub returns-then-columns-eq0 : goal.returns-then-columns-eq0
@@ -65,6 +65,6 @@ returns-then-columns-eq0 c k h =
     let f = done.ensures.2 x (four_found a.columns c.if-columns-eq0.true a.tables.now a.first a.bytes.now) in
     c.look_up_groups.ensures f k (omega (arith, e, h))
 
-pub returns-else-columns-eq0 : goal.returns-else-columns-eq0
-returns-else-columns-eq0 c =
-    c.look_up_groups-else-columns-eq0.ensures (λ k h. absurd (omega arith))
+pub returns-else-out-ge8 : goal.returns-else-out-ge8
+returns-else-out-ge8 c =
+    c.look_up_groups-else-out-ge8.ensures (λ k h. absurd (omega arith))
